@@ -2,6 +2,7 @@ pub mod Event
 pub mod MutexState
 pub mod Mutex
 pub mod SemaphoreState
+pub mod TimerState
 pub mod Semaphore
 pub mod Timer
 pub mod Body

@@ -1,5 +1,5 @@
 -- Bodies as bytes: a tag for the kind, and what each kind has.
-use Rattle.std.specs.Prelude.{ℕ, zero, suc, ◌<◌, ◌^◌, nat_lt, nat_le, ◌==◌, ◌&&◌, not, Bool, List, ◌∷◌, Option, Some, None, Err, if◌then◌else◌}
+use Rattle.std.specs.Prelude.{ℕ, zero, suc, ◌<◌, ◌^◌, nat_lt, nat_le, ◌==◌, ◌&&◌, not, Bool, true, List, ◌∷◌, Option, Some, None, Err, if◌then◌else◌}
 use Rattle.std.specs.Int.{w32, w64, to_le_bytes}
 use Rattle.ob_codec.specs.declared.fault.TextFault.TheVariants.{Tag}
 use Rattle.ob_codec.specs.Reading.{Read, as_at, both_at, flag_at, number_at, option_at, some_at, tagged_at}
@@ -7,11 +7,12 @@ use Rattle.ob_codec.specs.Spelling.{Any, BothFit, OptionFits, both, flag, option
 use Rattle.ob_body.specs.declared.body.Body.{Body}
 use Rattle.ob_body.specs.declared.body.Body.TheVariants as body
 use Rattle.ob_body.specs.declared.event.Event.{Event}
-use Rattle.ob_body.specs.declared.timer.Timer.{Timer}
 use Rattle.ob_body.specs.MutexState.{MutexState}
 use Rattle.ob_body.specs.MutexState as mutex
 use Rattle.ob_body.specs.SemaphoreState.{SemaphoreState}
 use Rattle.ob_body.specs.SemaphoreState as semaphore
+use Rattle.ob_body.specs.TimerState.{TimerState}
+use Rattle.ob_body.specs.TimerState as timer
 
 -- a number of four bytes
 abbrev pub is_four : ℕ → Type 0
@@ -34,20 +35,28 @@ abbrev pub EventFits : Event → Type 0
 EventFits e = BothFit Any Any (event_parts e)
 
 -- a timer: whether it is reset by hand, whether it is signaled, its due moment
-abbrev pub timer_of : Bool × (Bool × Option ℕ) → Timer
-timer_of p = record { manual = p.0; signaled = p.1.0; due = p.1.1 }
+abbrev pub may_be_set : Bool → Option ℕ → Bool
+may_be_set signaled None = true
+may_be_set signaled (Some due) = not signaled
 
-abbrev pub timer_parts : Timer → Bool × (Bool × Option ℕ)
+abbrev pub timer_of : Bool × (Bool × Option ℕ) → Option TimerState
+timer_of p = if may_be_set p.1.0 p.1.1 then Some (record {
+  manual = p.0;
+  signaled = p.1.0;
+  due = p.1.1;
+}) else None
+
+abbrev pub timer_parts : TimerState → Bool × (Bool × Option ℕ)
 timer_parts t = (t.manual, (t.signaled, t.due))
 
-abbrev pub timer_text : Timer → List ℕ
+abbrev pub timer_text : TimerState → List ℕ
 timer_text t = both flag (both flag (option (to_le_bytes w64))) (timer_parts t)
 
-abbrev pub timer_at : List ℕ → Read Timer
-timer_at = as_at timer_of (both_at flag_at (both_at flag_at (option_at (number_at w64))))
+abbrev pub timer_at : List ℕ → Read TimerState
+timer_at = some_at timer_of (both_at flag_at (both_at flag_at (option_at (number_at w64))))
 
-abbrev pub TimerFits : Timer → Type 0
-TimerFits t = BothFit Any (BothFit Any (OptionFits (λ n. n < 2 ^ 64))) (timer_parts t)
+abbrev pub TimerFits : TimerState → Type 0
+TimerFits t = OptionFits (λ n. n < 2 ^ 64) t.due × timer.IsPossible t.signaled t.due
 
 -- a semaphore: its count, its maximum
 abbrev pub may_count : ℕ → ℕ → Bool

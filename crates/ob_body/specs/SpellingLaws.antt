@@ -10,13 +10,36 @@ use Rattle.ob_body.specs.declared.body.Body.TheVariants.{Event, Mutex, Semaphore
 use Rattle.ob_body.specs.MutexState.{MutexState}
 use Rattle.ob_body.specs.MutexState as mutex
 use Rattle.ob_body.specs.SemaphoreState.{SemaphoreState}
-use Rattle.ob_body.specs.Spelling.{BodyFits, EventFits, MutexFits, SemaphoreFits, TimerFits, body_at, body_in, body_text, event_at, event_of, event_parts, event_text, is_four, may_count, may_own, mutex_at, mutex_of, mutex_parts, mutex_text, parts_text, semaphore_at, semaphore_of, semaphore_parts, semaphore_text, tag_of, timer_at, timer_of, timer_parts, timer_text}
+use Rattle.ob_body.specs.TimerState.{TimerState}
+use Rattle.ob_body.specs.TimerState as timer
+use Rattle.ob_body.specs.Spelling.{BodyFits, EventFits, MutexFits, SemaphoreFits, TimerFits, body_at, body_in, body_text, event_at, event_of, event_parts, event_text, is_four, may_be_set, may_count, may_own, mutex_at, mutex_of, mutex_parts, mutex_text, parts_text, semaphore_at, semaphore_of, semaphore_parts, semaphore_text, tag_of, timer_at, timer_of, timer_parts, timer_text}
 
 pub event_codec : IsCodec event_text event_at EventFits
 event_codec = as_codec event_of event_parts (λ _. refl) (λ _. refl) (both_codec flag_codec flag_codec)
 
+set-true : (signaled : Bool) (due : Option ℕ) → timer.IsPossible signaled due → may_be_set signaled due ≡ true
+set-true signaled None can = refl
+set-true signaled (Some due) can = ap not can
+
+set-possible : (signaled : Bool) (due : Option ℕ) → may_be_set signaled due ≡ true → timer.IsPossible signaled due
+set-possible signaled None e = tt
+set-possible signaled (Some due) e = not-true signaled e
+
+abbrev FlagsFit : Bool × (Bool × Option ℕ) → Type 0
+FlagsFit = BothFit Any (BothFit Any (OptionFits (λ n. n < 2 ^ 64)))
+
+timer-there : (t : TimerState) → TimerFits t → (timer_of (timer_parts t) ≡ Some t) × FlagsFit (timer_parts t)
+timer-there t fits = (ap (λ (b : Bool). cond b (Some t) None) (set-true t.signaled t.due fits.1), (tt, (tt, fits.0)))
+
+timer-back : (p : Bool × (Bool × Option ℕ)) (t : TimerState) → FlagsFit p → timer_of p ≡ Some t
+    → (timer_parts t ≡ p) × TimerFits t
+timer-back p t fits e =
+    let made : TimerState = record { manual = p.0; signaled = p.1.0; due = p.1.1 } in
+    let g = cond_some (may_be_set p.1.0 p.1.1) made t e in
+    subst (λ (z : TimerState). (timer_parts z ≡ p) × TimerFits z) g.1 (refl, (fits.1.1, set-possible p.1.0 p.1.1 g.0))
+
 pub timer_codec : IsCodec timer_text timer_at TimerFits
-timer_codec = as_codec timer_of timer_parts (λ _. refl) (λ _. refl)
+timer_codec = some_codec timer_of timer_parts TimerFits timer-there timer-back
     (both_codec flag_codec (both_codec flag_codec (option_codec u64_codec)))
 
 semaphore-there : (s : SemaphoreState) → SemaphoreFits s

@@ -58,11 +58,7 @@ impl Body {
     pub fn new_timer(manual: bool) -> Body
         ensures { result ≡ Body.Timer (record { manual = manual; signaled = false; due = None }) }
     {
-        Body::Timer(Timer {
-            manual,
-            signaled: false,
-            due: None,
-        })
+        Body::Timer(Timer::new(manual))
     }
 
     /// The object's kind.
@@ -88,7 +84,7 @@ impl Body {
             Body::Event(event) => event.set,
             Body::Mutex(mutex) => mutex.signaled_for(thread),
             Body::Semaphore(semaphore) => semaphore.is_signaled(),
-            Body::Timer(timer) => timer.signaled,
+            Body::Timer(timer) => timer.is_signaled(),
         }
     }
 
@@ -246,7 +242,7 @@ impl Body {
         ensures { result ≡ spec.due_of self.now }
     {
         match self {
-            Body::Timer(timer) => timer.due,
+            Body::Timer(timer) => timer.due(),
             Body::Event(_) | Body::Mutex(_) | Body::Semaphore(_) => None,
         }
     }

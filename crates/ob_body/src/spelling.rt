@@ -1,7 +1,7 @@
 // Bodies as bytes: a tag for the kind, and what each kind has.
-ghost use Rattle.ob_body.specs.Spelling.{BodyFits, EventFits, TimerFits};
+ghost use Rattle.ob_body.specs.Spelling.{BodyFits, EventFits};
 ghost use Rattle.ob_body.specs.Spelling as spelling;
-ghost use Rattle.ob_body.specs.SpellingLaws.{body_codec, event_codec, timer_codec};
+ghost use Rattle.ob_body.specs.SpellingLaws.{body_codec, event_codec};
 
 use crate::body::Body;
 use crate::event::Event;
@@ -30,33 +30,6 @@ impl Spelled for Event {
     }
 
     ghost codec = { event_codec };
-}
-
-impl Spelled for Timer {
-    ghost spell = { spelling.timer_text };
-
-    ghost read_at = { spelling.timer_at };
-
-    ghost Fits = { TimerFits };
-
-    fn write(&self, out: &mut Vec<u8>) -> Result<(), AllocError> {
-        self.manual.write(out)?;
-        self.signaled.write(out)?;
-        self.due.write(out)
-    }
-
-    fn read(alloc: Global, from: &mut Cursor<'_>) -> Result<Timer, ReadFault> {
-        let manual = bool::read(alloc, from)?;
-        let signaled = bool::read(alloc, from)?;
-        let due = Option::<u64>::read(alloc, from)?;
-        Ok(Timer {
-            manual,
-            signaled,
-            due,
-        })
-    }
-
-    ghost codec = { timer_codec };
 }
 
 impl Spelled for Body {

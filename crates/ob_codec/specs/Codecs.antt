@@ -1,5 +1,5 @@
 -- Each spelling with its reading is a codec.
-use Rattle.std.proofs.Common.{◌≡◌, ℕ, zero, suc, ◌^◌, ◌<◌, ◌≤◌, Bool, true, false, cond, ltb, List, [], ◌∷◌, ◌++◌, length, take, drop, Option, Some, None, Ok, Err, refl, sym, ap, subst, ◌∙◌, append_assoc, arith}
+use Rattle.std.proofs.Common.{◌≡◌, ℕ, zero, suc, ◌^◌, ◌<◌, ◌≤◌, Bool, true, false, cond, leb, ltb, List, [], ◌∷◌, ◌++◌, length, take, drop, Option, Some, None, Ok, Err, refl, sym, ap, subst, ◌∙◌, append_assoc, arith}
 use Rattle.std.specs.List.{flat_map, AllByRecursion}
 use Rattle.std.specs.Int.{Width, w32, w64, byte_len, from_le_bytes, to_le_bytes}
 use Rattle.std.proofs.lemmas.Bool.{ltb-false, le-ltb}
@@ -8,7 +8,7 @@ use Rattle.std.proofs.lemmas.List.Concat.{flat_map-cons}
 use Rattle.std.proofs.lemmas.Nat.{le_bytes_4, le_bytes_8, from_le_bytes-to_le_bytes_4, from_le_bytes-to_le_bytes_8}
 use Rattle.ob_codec.specs.declared.fault.TextFault.TheVariants.{Short, Value}
 use Rattle.ob_codec.specs.Reading.{◌>>=◌, Read, bytes_at, number_at, flag_at, option_at, items_at, list_at, string_at, both_at, as_at, where_at, given_at, some_at, tagged_at, whole_at}
-use Rattle.ob_codec.specs.Spelling.{flag, option, list, string, both, Any, OptionFits, ListFits, BothFit, AreBytes, StringFits}
+use Rattle.ob_codec.specs.Spelling.{flag, option, list, string, both, Any, OptionFits, FewFit, BothFit, AreBytes, StringFits}
 use Rattle.ob_codec.specs.Laws.{Takes, ReadsAgain, TakesSpelled, IsCodec, IsVariant}
 use Rattle.ob_codec.specs.Steps.{bytes-drop, bytes-take, bytes-rest, bind_ok, guard_ok, guard_passed, ok_is, takes-then, whole_ok}
 
@@ -140,6 +140,12 @@ string_codec = record { again = string_again; takes = string_takes }
 
 -- ---- codecs over a codec
 
+-- what was read behind a test of how much there is
+few_ok : {A : Type 0} (few : Bool) (r : Read A) (y : A × List ℕ) → cond few r (Err Value) ≡ Ok y
+    → (few ≡ true) × (r ≡ Ok y)
+few_ok true r y e = (refl, e)
+few_ok false r y e = absurd cc
+
 module _ {A : Type 0} {spell : A → List ℕ} {read : List ℕ → Read A} {Fits : A
     → Type 0} (is : IsCodec spell read Fits) where
   option_again : ReadsAgain (option spell) (option_at read) (OptionFits Fits)
@@ -209,27 +215,34 @@ module _ {A : Type 0} {spell : A → List ℕ} {read : List ℕ → Read A} {Fit
         (first.1, second.2),
       )
 
-  list_again : ReadsAgain (list spell) (list_at read) (ListFits Fits)
+  list_again : (most : ℕ) → ReadsAgain (list spell) (list_at most read) (FewFit most Fits)
   unfolding list_at
-  list_again xs rest fits =
+  list_again most xs rest fits =
       let regrouped : list spell xs ++ rest ≡ to_le_bytes w32 (length xs) ++ (flat_map spell xs ++ rest) =
       append_assoc (to_le_bytes w32 (length xs)) (flat_map spell xs) rest in
-      ap (list_at read) regrouped ∙ rw (u32_codec.again (length xs) (flat_map spell xs ++ rest) fits.0)
-      (items_again xs rest fits.1)
+      ap (list_at most read) regrouped ∙ rw (
+        u32_codec.again (length xs) (flat_map spell xs ++ rest) fits.0.0,
+        fits.1,
+      ) (items_again xs rest fits.0.1)
 
-  list_takes : TakesSpelled (list spell) (list_at read) (ListFits Fits)
+  list_takes : (most : ℕ) → TakesSpelled (list spell) (list_at most read) (FewFit most Fits)
   unfolding list_at
-  list_takes bytes xs rest fits e =
-      let a = bind_ok (number_at w32 bytes) (λ (n : ℕ × List ℕ). items_at read n.0 n.1) (xs, rest) e in
+  list_takes most bytes xs rest fits e =
+      let a = bind_ok (number_at w32 bytes)
+      (λ (n : ℕ × List ℕ). cond (leb n.0 most) (items_at read n.0 n.1) (Err Value)) (xs, rest) e in
+      let g = few_ok (leb a.0.0 most) (items_at read a.0.0 a.0.1) (xs, rest) a.2 in
       let first = u32_codec.takes bytes a.0.0 a.0.1 fits a.1 in
-      let second = items_take a.0.0 a.0.1 xs rest first.0.rest_fits a.2 in
+      let second = items_take a.0.0 a.0.1 xs rest first.0.rest_fits g.1 in
       let joined = takes-then bytes (to_le_bytes w32 a.0.0) a.0.1 (flat_map spell xs) rest first.0 second.0 in (
         subst (λ (k : ℕ). Takes bytes (to_le_bytes w32 k ++ flat_map spell xs) rest) (sym second.1) joined,
-        (omega (arith, first.1, second.1), second.2),
+        (
+          (omega (arith, first.1, second.1), second.2),
+          ap (λ (k : ℕ). leb k most) second.1 ∙ g.0,
+        ),
       )
 
-  pub list_codec : IsCodec (list spell) (list_at read) (ListFits Fits)
-  list_codec = record { again = list_again; takes = list_takes }
+  pub list_codec : (most : ℕ) → IsCodec (list spell) (list_at most read) (FewFit most Fits)
+  list_codec most = record { again = list_again most; takes = list_takes most }
 
   where_takes : (test : A → Bool) → TakesSpelled spell (where_at test read) (λ x. Fits x × (test x ≡ true))
   where_takes test bytes x rest fits e =

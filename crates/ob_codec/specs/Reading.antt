@@ -1,5 +1,5 @@
 -- Reading from left to right, up to the first fault.
-use Rattle.std.specs.Prelude.{◌≡◌, ℕ, zero, suc, List, [], ◌∷◌, length, take, drop, Bool, true, false, Option, Some, None, Result, Ok, Err, nat_lt, if◌then◌else◌}
+use Rattle.std.specs.Prelude.{◌≡◌, ℕ, zero, suc, List, [], ◌∷◌, length, take, drop, Bool, true, false, Option, Some, None, Result, Ok, Err, nat_le, nat_lt, if◌then◌else◌}
 use Rattle.std.specs.Int.{Width, w32, byte_len, from_le_bytes}
 use Rattle.ob_codec.specs.declared.fault.TextFault.{TextFault}
 use Rattle.ob_codec.specs.declared.fault.TextFault.TheVariants.{Short, Tag, Value, Trailing}
@@ -68,11 +68,11 @@ items_at read (suc n) bytes = do
   others ← items_at read n first.1
   Ok (first.0 ∷ others.0, others.1)
 
--- how many values there are, in four bytes, and the values
-unfoldable pub list_at : {A : Type 0} → (List ℕ → Read A) → List ℕ → Read (List A)
-list_at read bytes = do
+-- how many values there are, in four bytes, no more than so many, and the values
+unfoldable pub list_at : {A : Type 0} → ℕ → (List ℕ → Read A) → List ℕ → Read (List A)
+list_at most read bytes = do
   n ← number_at w32 bytes
-  items_at read n.0 n.1
+  if nat_le n.0 most then items_at read n.0 n.1 else Err Value
 
 -- how many bytes there are, in four bytes, and the bytes
 unfoldable pub string_at : List ℕ → Read (List ℕ)

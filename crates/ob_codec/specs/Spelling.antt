@@ -1,5 +1,5 @@
 -- The one spelling of each value, and which values have one.
-use Rattle.std.specs.Prelude.{ℕ, ◌<◌, ◌^◌, List, [], ◌∷◌, ◌++◌, length, Bool, true, false, Option, Some, None, slice_index}
+use Rattle.std.specs.Prelude.{◌≡◌, ℕ, ◌<◌, ◌^◌, nat_le, List, [], ◌∷◌, ◌++◌, length, Bool, true, false, Option, Some, None, slice_index}
 use Rattle.std.specs.List.{flat_map, AllByRecursion}
 use Rattle.std.specs.Int.{w32, to_le_bytes}
 
@@ -29,6 +29,10 @@ OptionFits Fits (Some x) = Fits x
 
 abbrev pub ListFits : {A : Type 0} → (A → Type 0) → List A → Type 0
 ListFits Fits xs = (length xs < 2 ^ 32) × AllByRecursion Fits xs
+
+-- the same of a list of which no more than so many values may stand there
+abbrev pub FewFit : {A : Type 0} → ℕ → (A → Type 0) → List A → Type 0
+FewFit most Fits xs = ListFits Fits xs × (nat_le (length xs) most ≡ true)
 
 abbrev pub BothFit : {A B : Type 0} → (A → Type 0) → (B → Type 0) → A × B → Type 0
 BothFit FitsA FitsB p = FitsA p.0 × FitsB p.1

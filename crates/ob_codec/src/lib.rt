@@ -2,7 +2,7 @@
 //!
 //! A type that is [`Spelled`] says how its values are written and how they are read from the front of some bytes, both
 //! as functions on lists, with one law that ties them. Numbers go lowest byte first, an option is a flag and its value,
-//! a list is its length in four bytes and its values. A sealed text has its SHA-256 digest behind it.
+//! a list is its length in four bytes and its values; its reader says how many there may be at most. A sealed text has its SHA-256 digest behind it.
 //!
 //! ```rust
 //! # use ob_codec::{Cursor, read_list, seal, unseal, write_list};
@@ -13,7 +13,7 @@
 //! seal(&mut out)?;                                        // and 32 bytes of digest
 //! # assert!(rt; out.len() == 10 + 32);
 //! let mut from = Cursor::new(unseal(out.as_slice())?);    // refused where the digest is another one
-//! let owners = read_list::<Option<u32>>(alloc, &mut from)?;
+//! let owners = read_list::<Option<u32>>(alloc, &mut from, 2)?;
 //! from.end()?;                                            // refused where bytes are left
 //! # assert!(rt; owners.as_slice() == [None, Some(7)].as_slice());
 //! ```

@@ -1,9 +1,9 @@
-ghost use Rattle.std.specs.Prelude.{◌≡◌, ◌++◌, ◌<◌, ◌^◌, length, OnOk};
+ghost use Rattle.std.specs.Prelude.{◌≡◌, ◌++◌, ◌<◌, ◌≤◌, ◌^◌, length, IfOk, OnOk};
 ghost use Rattle.ob_codec.specs.Reading.{Gives, items_at, list_at};
 ghost use Rattle.ob_codec.specs.Spelling.{ListFits, list, string};
 
 use crate::cursor::Cursor;
-use crate::fault::ReadFault;
+use crate::fault::{ReadFault, TextFault};
 use crate::spelled::Spelled;
 use std::alloc::{AllocError, Global};
 
@@ -27,7 +27,8 @@ fn read_items<T: Spelled + Drop>(
     from: &mut Cursor<'_>,
     count: u32,
 ) -> Result<Vec<T>, ReadFault>
-    ensures { Gives (λ values. values.items) result (items_at T.read_at count from.old) from.new }
+    ensures read { Gives (λ values. values.items) result (items_at T.read_at count from.old) from.new }
+    ensures count { IfOk result (λ values. length values.items ≡ count) }
 {
     let mut values = Vec::new(alloc);
     for _ in 0..count {
@@ -37,15 +38,21 @@ fn read_items<T: Spelled + Drop>(
     Ok(values)
 }
 
-/// Reads a list that [`write_list`] wrote. It asks for no more memory than the values that are there take.
+/// Reads a list that [`write_list`] wrote, of no more than `most` values: [`TextFault::Value`] where its count is
+/// greater, before any of them is read. It asks for no more memory than the values that are there take.
 #[tactic(auto, unfolding(crate::specs::Reading::list_at))]
 pub fn read_list<T: Spelled + Drop>(
     alloc: Global,
     from: &mut Cursor<'_>,
+    most: u32,
 ) -> Result<Vec<T>, ReadFault>
-    ensures { Gives (λ values. values.items) result (list_at T.read_at from.old) from.new }
+    ensures read { Gives (λ values. values.items) result (list_at most T.read_at from.old) from.new }
+    ensures few { IfOk result (λ values. length values.items ≤ most) }
 {
     let count = from.four()?;
+    if count > most {
+        return Err(ReadFault::Text(TextFault::Value));
+    }
     read_items(alloc, from, count)
 }
 

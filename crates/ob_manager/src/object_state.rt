@@ -57,8 +57,8 @@ fn state_of_body(body: &Option<Body>) -> ObjectState
             max: semaphore.maximum(),
         },
         Some(Body::Timer(timer)) => ObjectState::Timer {
-            signaled: timer.signaled,
-            due: timer.due,
+            signaled: timer.is_signaled(),
+            due: timer.due(),
         },
         None => ObjectState::Ended,
     }

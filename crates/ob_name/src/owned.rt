@@ -1,7 +1,7 @@
 ghost use Rattle.std.specs.Prelude.{◌≡◌, ◌≤◌, IfOk, IsOk, length};
 ghost use Rattle.ob_name.specs.Refs.{name_at};
 
-use crate::name::{NAME_MOST, NameRef};
+use crate::name::{NameRef, is_base};
 use crate::space::Space;
 use ob_codec::{Cursor, ReadFault, Spelled, TextFault, write_string};
 use smallvec::SmallVec;
@@ -22,14 +22,15 @@ pub struct Name {
 }
 
 impl Model for Name {
-    ghost use Rattle.std.specs.Prelude.{◌≤◌, length};
+    ghost use Rattle.std.specs.Prelude.{◌≡◌, true};
     ghost use Rattle.ob_name.specs.Names.{ObjectName, home};
+    ghost use Rattle.ob_name.specs.Texts.{is_base};
 
     ghost Value = { ObjectName };
 
     ghost view = { λ n. record { space = home n.session; base = n.base.items } };
 
-    ghost invariant = { λ n. length n.base.items ≤ 260 };
+    ghost invariant = { λ n. is_base n.base.items ≡ true };
 }
 
 impl Name {
@@ -75,7 +76,7 @@ impl Spelled for Name {
     fn read(alloc: Global, from: &mut Cursor<'_>) -> Result<Name, ReadFault> {
         let session = from.four()?;
         let base = from.string()?;
-        if base.len() > NAME_MOST {
+        if !is_base(base) {
             return Err(ReadFault::Text(TextFault::Value));
         }
         Ok(Name {

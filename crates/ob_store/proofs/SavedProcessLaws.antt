@@ -7,31 +7,25 @@ use Rattle.ob_codec.specs.Laws.{IsCodec}
 use Rattle.ob_store.specs.declared.limits.Limits.{Limits}
 use Rattle.ob_store.specs.Kept.{IsLive, ProcessesKept}
 use Rattle.ob_store.specs.Processes.{IsFromOne, ProcessesState}
-use Rattle.ob_store.specs.SavedProcesses.{AreWithin, ListsFit, ProcessesFit, are_numbers, are_of_live, is_of_live, lists_of, numbers_at, numbers_text, processes_at, processes_of, processes_text}
+use Rattle.ob_store.specs.SavedProcesses.{AreWithin, ListsFit, NumbersFit, ProcessesFit, are_numbers, are_of_live, is_of_live, lists_of, numbers_at, numbers_text, processes_at, processes_of, processes_text}
 use Rattle.ob_store.proofs.ByPlace.{all_from}
 
 pub numbers_codec : (limit : ℕ) → IsCodec numbers_text (numbers_at limit) (AreWithin limit)
-numbers_codec limit = where_codec (list_codec (option_codec u32_codec)) (are_numbers limit)
+numbers_codec limit = where_codec (list_codec (option_codec u32_codec) (limit + 1)) are_numbers
 
 pub processes_codec : (processes threads : ℕ)
     → IsCodec processes_text (processes_at processes threads) (ProcessesFit processes threads)
 processes_codec processes threads = as_codec processes_of lists_of (λ _. refl) (λ _. refl)
     (where_codec (both_codec (numbers_codec processes) (numbers_codec threads)) are_of_live)
 
-module _ (limit : ℕ) (xs : List (Option ℕ)) where
-  abbrev some : Bool
-  some = leb 1 (length xs)
-
-  abbrev short : Bool
-  short = leb (length xs) (limit + 1)
-
-  abbrev none : Bool
-  none = not (is_some (get_or xs 0 None))
-
-  numbers_pass : length xs ≤ limit + 1 → IsFromOne xs → are_numbers limit xs ≡ true
-  numbers_pass most is = and_from (some && short) none
-      (and_from some short (le-leb 1 (length xs) (let s = is.not_empty in omega (arith, s)))
-      (le-leb (length xs) (limit + 1) most)) (ap (λ (x : Option ℕ). not (is_some x)) is.none)
+within : (limit : ℕ) (xs : List (Option ℕ)) → length xs ≤ limit + 1 → IsFromOne xs → NumbersFit xs
+    → AreWithin limit xs
+within limit xs most is fits = (
+  (fits, le-leb (length xs) (limit + 1) most),
+  and_from (leb 1 (length xs)) (not (is_some (get_or xs 0 None)))
+      (le-leb 1 (length xs) (let s = is.not_empty in omega (arith, s)))
+      (ap (λ (x : Option ℕ). not (is_some x)) is.none),
+)
 
 -- what they say of threads
 module _ (ps : List (Option ℕ)) where
@@ -50,8 +44,8 @@ pub kept_fits : (limits : Limits) (l : ProcessesState) (tables : ℕ) → Proces
     → ProcessesFit limits.processes limits.threads l
 kept_fits limits l tables kept fits = (
   (
-    (fits.0, numbers_pass limits.processes l.processes kept.few_processes kept.processes_from_one),
-    (fits.1, numbers_pass limits.threads l.threads kept.few_threads kept.threads_from_one),
+    within limits.processes l.processes kept.few_processes kept.processes_from_one fits.0,
+    within limits.threads l.threads kept.few_threads kept.threads_from_one fits.1,
   ),
   live_pass l.processes l.threads kept.live,
 )

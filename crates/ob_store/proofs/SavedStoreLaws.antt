@@ -1,7 +1,7 @@
 -- A store that is kept is read again as it was written, and what is read of a store was written so.
-use Rattle.std.proofs.Common.{◌≡◌, ℕ, suc, ◌+◌, ◌*◌, ◌<◌, ◌≤◌, ◌^◌, ◌&&◌, leb, ltb, Bool, true, false, cond, List, [], ◌∷◌, ◌++◌, length, get_or, map, Option, Some, None, Ok, Err, append_assoc, refl, sym, ap, ◌∙◌, subst, arith}
+use Rattle.std.proofs.Common.{◌≡◌, ℕ, suc, ◌+◌, ◌*◌, ◌<◌, ◌≤◌, ◌^◌, ◌&&◌, leb, ltb, Bool, true, false, cond, eqb, List, [], ◌∷◌, ◌++◌, length, get_or, map, Option, Some, None, Ok, Err, append_assoc, refl, sym, ap, ◌∙◌, subst, arith}
 use Rattle.std.specs.Int.{w32, w64, to_le_bytes}
-use Rattle.std.specs.List.{AllByRecursion, flat_map}
+use Rattle.std.specs.List.{AllByRecursion, flat_map, list_all}
 use Rattle.std.proofs.lemmas.Bool.{and_from, and_parts, eq-eqb, eqb-true, le-leb, le-ltb, leb-true, lt-ltb}
 use Rattle.std.proofs.lemmas.List.{ext_get_or, get_or-map, length-append, length-map}
 use Rattle.std.proofs.lemmas.List.Concat.{flat_map-cons}
@@ -27,7 +27,7 @@ use Rattle.ob_waits.specs.declared.wait.Wait.{Wait}
 use Rattle.ob_store.specs.declared.limits.Limits.{Limits}
 use Rattle.ob_store.specs.declared.saved_slot.SavedSlot.{SavedSlot}
 use Rattle.ob_store.specs.Agreement.{IsTied}
-use Rattle.ob_store.specs.Kept.{IsKept, IsLive, IsSound}
+use Rattle.ob_store.specs.Kept.{IsKept, IsLive, IsSound, ProcessesKept}
 use Rattle.ob_store.specs.Objects.{ObjectsState}
 use Rattle.ob_store.specs.Parts.{PartsState, state_of, whole_of}
 use Rattle.ob_store.specs.Processes.{ProcessesState}
@@ -36,7 +36,7 @@ use Rattle.ob_store.specs.SavedLimitLaws.{limits_codec}
 use Rattle.ob_store.specs.SavedObjects.{begun_over, objects_at, objects_text, slots_saved}
 use Rattle.ob_store.specs.SavedProcesses.{ListsFit, processes_at, processes_text}
 use Rattle.ob_store.specs.SavedSlots.{SlotFits, keeper_slot, object_text, slot_text}
-use Rattle.ob_store.specs.SavedStore.{are_tabled, is_moment, lists_at, moment_at, parts_at, begun_again, slot_bytes, store_at, store_text, tables_for, behind_lists, whole_with}
+use Rattle.ob_store.specs.SavedStore.{is_moment, lists_at, moment_at, parts_at, begun_again, slot_bytes, store_at, store_text, behind_lists, whole_with}
 use Rattle.ob_store.specs.State.{Whole, generation_of, shape_of}
 use Rattle.ob_store.proofs.NamedLaws.{place_counted, there_within}
 use Rattle.ob_store.proofs.PlacedLaws.{live_within}
@@ -77,16 +77,16 @@ generations_back s tied =
     ∙ sym (get_or-map generation_of s.keeper.slots k opening_slot 0 (omega (arith, here, tied.agreed.wide)))))
 
 -- tables that fit, within the limits
-tables_bounded : (limits : Limits) (t : HandleTables) → t.process_limit ≡ limits.processes → t.handle_limit ≡
-    limits.handles → TablesFit t → IsBounded t.process_limit t.handle_limit t.tables
-tables_bounded limits t few short fits =
-    let b = and_parts (leb 1 (length t.tables) && leb (length t.tables) (t.process_limit + 1)) _ fits.1 in
-    let n = and_parts (leb 1 (length t.tables)) (leb (length t.tables) (t.process_limit + 1)) b.0 in
+tables_bounded : (limits : Limits) (p : ProcessesState) (t : HandleTables) → ProcessesKept limits p (length t.tables)
+    → t.process_limit ≡ limits.processes → t.handle_limit ≡ limits.handles → TablesFit t
+    → IsBounded t.process_limit t.handle_limit t.tables
+tables_bounded limits p t kept few short fits =
+    let b = and_parts (eqb (length t.tables) (length t.tables)) _ fits.1 in
     record {
       few_processes = (let most = limits.in_range.processes_in_range.1 in omega (arith, few, most));
       few_handles = (let most = limits.in_range.handles_in_range.1 in omega (arith, short, most));
-      first = leb-true 1 (length t.tables) n.0;
-      within = leb-true (length t.tables) (t.process_limit + 1) n.1;
+      first = (let some = kept.processes_from_one.not_empty in let is = kept.tabled in omega (arith, some, is));
+      within = (let most = kept.few_processes in let is = kept.tabled in omega (arith, most, is, few));
       short = λ process. leb-true (length (get_or t.tables process [])) t.handle_limit
           (all_at (is_short t.handle_limit) t.tables [] (le-leb 0 t.handle_limit (omega arith)) b.1 process);
     }
@@ -182,14 +182,12 @@ module _ (p : PartsState) (kept : IsKept p) (tied : IsTied p.objects) (processes
   processes_again rest = (processes_codec p.limits.processes p.limits.threads).again p.processes rest
       (kept_fits p.limits p.processes (length p.tables.tables) sound.processes_kept processes)
 
-  tables_back : (rest : List ℕ) → tables_for p.limits p.processes
+  tables_back : (rest : List ℕ) → tables_at p.limits.processes p.limits.handles (length p.processes.processes)
       (tables_text p.tables.tables ++ rest) ≡ Ok (p.tables, rest)
-  tables_back rest =
-      let read : tables_at p.limits.processes p.limits.handles (tables_text p.tables.tables ++ rest)
-      ≡ Ok (p.tables, rest) = subst (λ (z : ℕ × ℕ). tables_at z.0 z.1 (tables_text p.tables.tables ++ rest)
-      ≡ Ok (p.tables, rest)) (λ i. (sound.limited.processes_are i, sound.limited.handles_are i))
-      (tables_again p.tables rest tables) in
-      rw (read, eq-eqb (length p.tables.tables) (length p.processes.processes) sound.processes_kept.tabled) refl
+  tables_back rest = subst (λ (z : ℕ × (ℕ × ℕ)). tables_at z.0 z.1.0 z.1.1 (tables_text p.tables.tables ++ rest)
+      ≡ Ok (p.tables, rest))
+      (λ i. (sound.limited.processes_are i, (sound.limited.handles_are i, sound.processes_kept.tabled i)))
+      (tables_again p.tables rest tables)
 
   waits_back : (rest : List ℕ) → waits_at p.limits.waits p.waits.clock (length p.processes.threads) p.limits.slots
       (waits_text p.waits.waits ++ rest) ≡ Ok (p.waits, rest)
@@ -208,7 +206,7 @@ module _ (p : PartsState) (kept : IsKept p) (tied : IsTied p.objects) (processes
   objects_back rest = objects_again p.objects tied p.limits p.tables.process_limit p.tables.handle_limit
       p.processes.threads p.tables.tables p.waits p.rows rest sound.limited.shape_is sound.counted sound.named
       sound.of_live (record { room = sound.room; settled = kept.settled }) sound.listing
-      (tables_bounded p.limits p.tables sound.limited.processes_are sound.limited.handles_are tables)
+      (tables_bounded p.limits p.processes p.tables sound.processes_kept sound.limited.processes_are sound.limited.handles_are tables)
       (subst (λ (k : Shape). AllByRecursion (SlotFits k.max_gen p.waits.clock) (slots_saved p.objects))
       sound.limited.shape_is objects)
 
@@ -250,23 +248,24 @@ module _ (p : PartsState) (kept : IsKept p) (tied : IsTied p.objects) (processes
       rw (limits, clock) (parts_again rest) in
       ap store_at (behind_six a b c d e f rest) ∙ read
 
--- tables that were read have the limits that were asked for, and there is one for each process number
-pub tables_read : (limits : Limits) (p : ProcessesState) (bytes : List ℕ) (t : HandleTables) (rest : List ℕ)
-    → tables_for limits p bytes ≡ Ok (t, rest)
-    → (t.process_limit ≡ limits.processes) × ((t.handle_limit ≡ limits.handles)
-    × (length t.tables ≡ length p.processes))
-tables_read limits p bytes t rest e =
-    let a = bind_ok (tables_at limits.processes limits.handles bytes) _ (t, rest) e in
-    let g = guard_passed (are_tabled p a.0.0) Value a.0 (t, rest) a.2 in
-    let x = bind_ok (where_at (are_bounded limits.processes limits.handles) (list_at table_at) bytes)
-    (λ (x : List (List (Option Entry)) × List ℕ). Ok (with_limits limits.processes limits.handles x.0, x.1)) a.0 a.1 in
-    let q : (with_limits limits.processes limits.handles x.0.0, x.0.1) ≡ (t, rest) =
-    ok_is (with_limits limits.processes limits.handles x.0.0, x.0.1) a.0 x.2 ∙ g.1 in (
+-- tables that were read have the limits that were asked for, and are as many as were
+pub tables_read : (processes handles given : ℕ) (bytes : List ℕ) (t : HandleTables) (rest : List ℕ)
+    → tables_at processes handles given bytes ≡ Ok (t, rest)
+    → (t.process_limit ≡ processes) × ((t.handle_limit ≡ handles) × (length t.tables ≡ given))
+tables_read processes handles given bytes t rest e =
+    let x = bind_ok (where_at (are_bounded given handles) (list_at given table_at) bytes)
+    (λ (x : List (List (Option Entry)) × List ℕ). Ok (with_limits processes handles x.0, x.1)) (t, rest) e in
+    let y = bind_ok (list_at given table_at bytes)
+    (λ (y : List (List (Option Entry)) × List ℕ). cond (are_bounded given handles y.0) (Ok y) (Err Value)) x.0 x.1 in
+    let g = guard_passed (are_bounded given handles y.0.0) Value y.0 x.0 y.2 in
+    let many = eqb-true (length y.0.0) given
+    (and_parts (eqb (length y.0.0) given) (list_all (is_short handles) y.0.0) g.0).0 in
+    let q = ok_is (with_limits processes handles x.0.0, x.0.1) (t, rest) x.2 in (
       sym (ap (λ (z : HandleTables × List ℕ). z.0.process_limit) q),
       (
         sym (ap (λ (z : HandleTables × List ℕ). z.0.handle_limit) q),
-        sym (ap (λ (z : HandleTables × List ℕ). length z.0.tables) g.1)
-            ∙ eqb-true (length a.0.0.tables) (length p.processes) g.0,
+        sym (ap (λ (z : HandleTables × List ℕ). length z.0.tables) q)
+            ∙ sym (ap (λ (z : List (List (Option Entry)) × List ℕ). length z.0) g.1) ∙ many,
       ),
     )
 
@@ -274,17 +273,9 @@ tables_read limits p bytes t rest e =
 waits_moment : (limit clock threads slots : ℕ) (bytes : List ℕ) (list : WaitList) (rest : List ℕ)
     → waits_at limit clock threads slots bytes ≡ Ok (list, rest) → list.clock ≡ clock
 waits_moment limit clock threads slots bytes list rest e =
-    let x = bind_ok (where_at (are_within threads slots) (where_at (can_be limit clock) (sparse_at wait_at)) bytes)
+    let x = bind_ok (where_at (are_within threads slots) (where_at (can_be limit clock) (sparse_at threads wait_at)) bytes)
     (λ (x : List (Option Wait) × List ℕ). Ok (with_rest limit clock x.0, x.1)) (list, rest) e in
     sym (ap (λ (z : WaitList × List ℕ). z.0.clock) (ok_is (with_rest limit clock x.0.0, x.0.1) (list, rest) x.2))
-
-tables_were : (limits : Limits) (p : ProcessesState) (bytes : List ℕ) (t : HandleTables) (rest : List ℕ)
-    → AreBytes bytes → tables_for limits p bytes ≡ Ok (t, rest) → Takes bytes (tables_text t.tables) rest
-tables_were limits p bytes t rest are e =
-    let a = bind_ok (tables_at limits.processes limits.handles bytes) _ (t, rest) e in
-    let g = guard_passed (are_tabled p a.0.0) Value a.0 (t, rest) a.2 in
-    subst (λ (z : HandleTables × List ℕ). Takes bytes (tables_text z.0.tables) z.1) g.1
-    (tables_take limits.processes limits.handles bytes a.0.0 a.0.1 are a.1).0
 
 -- and so was what stands before the objects
 lists_were : (limits : Limits) (clock : ℕ) (bytes : List ℕ) (l : (ProcessesState × (HandleTables × WaitList)) × List ℕ)
@@ -295,9 +286,9 @@ lists_were limits clock bytes l are e =
     let c = bind_ok (processes_at limits.processes limits.threads bytes) _ l e in
     let p = c.0.0 in
     let lc = ((processes_codec limits.processes limits.threads).takes bytes p c.0.1 are c.1).0 in
-    let d = bind_ok (tables_for limits p c.0.1) _ l c.2 in
+    let d = bind_ok (tables_at limits.processes limits.handles (length p.processes) c.0.1) _ l c.2 in
     let t = d.0.0 in
-    let ld = tables_were limits p c.0.1 t d.0.1 lc.rest_fits d.1 in
+    let ld = (tables_take limits.processes limits.handles (length p.processes) c.0.1 t d.0.1 lc.rest_fits d.1).0 in
     let f = bind_ok (waits_at limits.waits clock (length p.threads) limits.slots d.0.1) _ l d.2 in
     let list = f.0.0 in
     let lf = (waits_take limits.waits clock (length p.threads) limits.slots d.0.1 list f.0.1 ld.rest_fits f.1).0 in

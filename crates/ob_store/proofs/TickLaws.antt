@@ -2,7 +2,7 @@
 use Rattle.std.proofs.Common.{◌≡◌, ℕ, List, Option, Some, None, refl, ap, ◌∙◌, sym, subst, get_or, map, Bool, true, false, cond}
 use Rattle.ob_body.specs.declared.body.Body.{Body}
 use Rattle.ob_body.specs.declared.body.Body.TheVariants.{Event, Timer}
-use Rattle.ob_body.specs.declared.timer.Timer.{Timer as TimerBody}
+use Rattle.ob_body.specs.TimerState.{TimerState}
 use Rattle.ob_body.specs.Timer.{is_due}
 use Rattle.ob_body.specs.Timer as timer
 use Rattle.ob_rights.specs.declared.kind.Kind.TheVariants as kind
@@ -23,7 +23,7 @@ use Rattle.ob_store.proofs.LeftLaws.{left_same}
 use Rattle.ob_store.proofs.SeatLaws.{read}
 
 -- a timer that isn't due stays
-timer_fired : (now : ℕ) (t : TimerBody) → is_due now t.due ≡ false → timer.after_fire now t ≡ t
+timer_fired : (now : ℕ) (t : TimerState) → is_due now t.due ≡ false → timer.after_fire now t ≡ t
 timer_fired now t none = ap (λ (b : Bool). cond b (record t { signaled = true; due = None }) t) none
 
 body_other : (now : ℕ) (b : Body) → is_due now (due_of b) ≡ false → after_fire now b ≡ b
@@ -40,7 +40,7 @@ fired_another now (Timer t) other = absurd (other refl)
 fired_another now b other = refl
 
 -- one that fired isn't due any more
-timer_done : (now : ℕ) (t : TimerBody) → is_due now (timer.after_fire now t).due ≡ false
+timer_done : (now : ℕ) (t : TimerState) → is_due now (timer.after_fire now t).due ≡ false
 timer_done now t = by (is_due now t.due) refl
   where
     by : (b : Bool) → is_due now t.due ≡ b → is_due now (cond b (record t { signaled = true; due = None }) t).due
@@ -70,7 +70,7 @@ unset_fired now (Timer t) = by (is_due now t.due)
     by false = refl
 unset_fired now b = refl
 
-timer_after : (clock now : ℕ) (t : TimerBody) → IsAfter clock t.due → IsAfter clock (timer.after_fire now t).due
+timer_after : (clock now : ℕ) (t : TimerState) → IsAfter clock t.due → IsAfter clock (timer.after_fire now t).due
 timer_after clock now t h = by (is_due now t.due)
   where
     by : (b : Bool) → IsAfter clock (cond b (record t { signaled = true; due = None }) t).due

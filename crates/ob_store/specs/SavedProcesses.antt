@@ -3,27 +3,27 @@ use Rattle.std.specs.Prelude.{◌≡◌, ℕ, ◌+◌, ◌<◌, ◌^◌, nat_le,
 use Rattle.std.specs.Int.{w32, to_le_bytes}
 use Rattle.std.specs.List.{list_all}
 use Rattle.ob_codec.specs.Reading.{Read, as_at, both_at, list_at, number_at, option_at, where_at}
-use Rattle.ob_codec.specs.Spelling.{BothFit, ListFits, OptionFits, both, list, option}
+use Rattle.ob_codec.specs.Spelling.{BothFit, FewFit, ListFits, OptionFits, both, list, option}
 use Rattle.ob_store.specs.Processes.{ProcessesState}
 
 -- what stands at each number, that of number 0 first, or nothing where it is gone
 abbrev pub numbers_text : List (Option ℕ) → List ℕ
 numbers_text = list (option (to_le_bytes w32))
 
--- whether there are no more numbers than the limit, and 0 is nobody's
-abbrev pub are_numbers : ℕ → List (Option ℕ) → Bool
-are_numbers limit numbers = (nat_le 1 (length numbers) && nat_le (length numbers) (limit + 1))
-    && not (is_some (slice_index_or numbers 0 None))
+-- whether there is number 0, and it is nobody's
+abbrev pub are_numbers : List (Option ℕ) → Bool
+are_numbers numbers = nat_le 1 (length numbers) && not (is_some (slice_index_or numbers 0 None))
 
+-- no more numbers than the limit, and 0
 abbrev pub numbers_at : ℕ → List ℕ → Read (List (Option ℕ))
-numbers_at limit = where_at (are_numbers limit) (list_at (option_at (number_at w32)))
+numbers_at limit = where_at are_numbers (list_at (limit + 1) (option_at (number_at w32)))
 
 -- numbers that have a spelling, and those that are within a limit as well
 abbrev pub NumbersFit : List (Option ℕ) → Type 0
 NumbersFit = ListFits (OptionFits (λ n. n < 2 ^ 32))
 
 abbrev pub AreWithin : ℕ → List (Option ℕ) → Type 0
-AreWithin limit numbers = NumbersFit numbers × (are_numbers limit numbers ≡ true)
+AreWithin limit numbers = FewFit (limit + 1) (OptionFits (λ n. n < 2 ^ 32)) numbers × (are_numbers numbers ≡ true)
 
 -- whether a number, if there is one, is live: the process of a thread, or the thread that owns a mutex
 abbrev pub is_of_live : List (Option ℕ) → Option ℕ → Bool

@@ -1,5 +1,5 @@
 -- A store as bytes: its limits, the moment, processes and threads, handle tables, waits, and slots with their objects.
-use Rattle.std.specs.Prelude.{ℕ, ◌*◌, ◌==◌, nat_le, Bool, List, [], ◌++◌, length, map, Ok}
+use Rattle.std.specs.Prelude.{ℕ, ◌*◌, nat_le, Bool, List, [], ◌++◌, length, map, Ok}
 use Rattle.std.specs.Int.{w64, to_le_bytes}
 use Rattle.ob_codec.specs.Reading.{◌>>=◌, Read, has_at, number_at, where_at}
 use Rattle.ob_tables.specs.Spelling.{tables_at, tables_text}
@@ -39,10 +39,6 @@ is_moment n = nat_le n 9223372036854775807
 abbrev pub moment_at : List ℕ → Read ℕ
 moment_at = where_at is_moment (number_at w64)
 
--- whether there is a table for each process number
-abbrev pub are_tabled : ProcessesState → HandleTables → Bool
-are_tabled p t = length t.tables == length p.processes
-
 -- the state that the parts say, and what their keeper says
 abbrev pub whole_with : Limits → ProcessesState → HandleTables → WaitList → ObjectsState → Whole
 whole_with limits p t w o = record {
@@ -62,15 +58,11 @@ whole_with limits p t w o = record {
   keeper = o.keeper;
 }
 
--- handle tables, one for each process number
-abbrev pub tables_for : Limits → ProcessesState → List ℕ → Read HandleTables
-tables_for limits p = where_at (are_tabled p) (tables_at limits.processes limits.handles)
-
--- processes and threads, handle tables and waits, one behind the other
+-- processes and threads, a handle table for each process number, and waits, one behind the other
 abbrev pub lists_at : Limits → ℕ → List ℕ → Read (ProcessesState × (HandleTables × WaitList))
 lists_at limits clock bytes = do
   p ← processes_at limits.processes limits.threads bytes
-  t ← tables_for limits p.0 p.1
+  t ← tables_at limits.processes limits.handles (length p.0.processes) p.1
   w ← waits_at limits.waits clock (length p.0.threads) limits.slots t.1
   Ok ((p.0, (t.0, w.0)), w.1)
 

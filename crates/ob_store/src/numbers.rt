@@ -9,11 +9,11 @@ use ob_codec::{Cursor, ReadFault, TextFault, read_list, write_list};
 use std::alloc::{AllocError, Global};
 use std::marker::Model;
 
-/// Whether numbers may stand so: no more than the limit are given, and 0 is nobody's.
-fn are_numbers(limit: u32, places: &[Option<u32>]) -> bool
-    ensures { result ≡ are_numbers limit places.now }
+/// Whether numbers may stand so: 0 is nobody's.
+fn are_numbers(places: &[Option<u32>]) -> bool
+    ensures { result ≡ are_numbers places.now }
 {
-    !places.is_empty() && places.len() <= limit as usize + 1 && places[0].is_none()
+    !places.is_empty() && places[0].is_none()
 }
 
 /// What stands at each number that was given, from 1 on; `None` where the number is gone.
@@ -51,14 +51,15 @@ impl Numbers {
     }
 
     /// Reads what [`write`](Numbers::write) writes. [`TextFault::Value`] where more numbers are given than the limit
-    /// lets, or 0 is.
+    /// lets, before any of them is read, or 0 is.
     pub fn read(alloc: Global, limit: u32, from: &mut Cursor<'_>) -> Result<Numbers, ReadFault>
         requires { limit ≤ 65536 }
         ensures read { Gives (λ numbers. numbers) result (numbers_at limit from.old) from.new }
-        ensures within { IfOk result (λ numbers. are_numbers limit numbers ≡ true) }
+        ensures few { IfOk result (λ numbers. length numbers ≤ limit + 1) }
+        ensures from_one { IfOk result (λ numbers. are_numbers numbers ≡ true) }
     {
-        let places = read_list::<Option<u32>>(alloc, from)?;
-        if !are_numbers(limit, places.as_slice()) {
+        let places = read_list::<Option<u32>>(alloc, from, limit + 1)?;
+        if !are_numbers(places.as_slice()) {
             return Err(ReadFault::Text(TextFault::Value));
         }
         Ok(Numbers { places })

@@ -36,7 +36,7 @@ fn descr_of(body: &Body) -> Descr
         Body::Event(event) => (event.manual, 0),
         Body::Mutex(_) => (false, 0),
         Body::Semaphore(semaphore) => (false, semaphore.maximum()),
-        Body::Timer(timer) => (timer.manual, 0),
+        Body::Timer(timer) => (timer.is_manual(), 0),
     };
     Descr {
         kind: body.kind(),

@@ -4,7 +4,7 @@ ghost use Rattle.ob_store.specs.Kept.{IsKept, ProcessesKept};
 ghost use Rattle.ob_waits.specs.Spelling.{are_within};
 ghost use Rattle.ob_store.specs.Parts.{parts_of, whole_of};
 ghost use Rattle.ob_store.specs.SavedStore.{begun_again, lists_at, moment_at, parts_at};
-ghost use Rattle.ob_store.specs.SavedStore.{store_at, store_text, tables_for};
+ghost use Rattle.ob_store.specs.SavedStore.{store_at, store_text};
 
 use crate::limits::Limits;
 use crate::objects::Objects;
@@ -33,22 +33,6 @@ fn read_moment(from: &mut Cursor<'_>) -> Result<u64, ReadFault>
     Ok(moment)
 }
 
-/// Reads handle tables, one for each process number.
-fn read_tables(
-    alloc: Global,
-    limits: Limits,
-    processes: &Processes,
-    from: &mut Cursor<'_>,
-) -> Result<Tables, ReadFault>
-    ensures { Gives (λ tables. tables) result (tables_for limits processes.now from.old) from.new }
-{
-    let tables = Tables::read(alloc, limits.processes, limits.handles, from)?;
-    if tables.given() != processes.next_process() {
-        return Err(ReadFault::Text(TextFault::Value));
-    }
-    Ok(tables)
-}
-
 /// What a savestate has before its objects.
 #[derive(Drop)]
 struct Lists {
@@ -75,7 +59,13 @@ fn read_lists(
         lists.waits.waits ≡ true) }
 {
     let processes = Processes::read(alloc, limits.processes, limits.threads, from)?;
-    let tables = read_tables(alloc, limits, &processes, from)?;
+    let tables = Tables::read(
+        alloc,
+        limits.processes,
+        limits.handles,
+        processes.next_process(),
+        from,
+    )?;
     let waits = Waits::read(
         alloc,
         limits.waits,

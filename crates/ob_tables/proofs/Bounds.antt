@@ -1,5 +1,5 @@
 -- Tables within their limits pass the tests of what is read.
-use Rattle.std.proofs.Common.{◌≡◌, ℕ, suc, ◌+◌, ◌≤◌, ◌&&◌, true, leb, List, [], ◌∷◌, length, Option, refl}
+use Rattle.std.proofs.Common.{◌≡◌, ℕ, suc, ◌≤◌, true, eqb, eq-eqb, leb, List, [], ◌∷◌, length, Option, refl}
 use Rattle.std.proofs.lemmas.Bool.{and_from, le-leb}
 use Rattle.std.specs.List.{list_all}
 use Rattle.ob_tables.specs.declared.entry.Entry.{Entry}
@@ -14,9 +14,7 @@ all-short handles (table ∷ tables) short =
     (all-short handles tables (λ process. short (suc process)))
 
 pub bounded : (processes handles : ℕ) (tables : List (List (Option Entry))) → IsBounded processes handles tables
-    → are_bounded processes handles tables ≡ true
+    → are_bounded (length tables) handles tables ≡ true
 bounded processes handles tables is =
-    and_from (leb 1 (length tables) && leb (length tables) (processes + 1)) (list_all (is_short handles) tables)
-    (and_from (leb 1 (length tables)) (leb (length tables) (processes + 1)) (le-leb _ _ is.first)
-    (le-leb _ _ is.within))
-    (all-short handles tables is.short)
+    and_from (eqb (length tables) (length tables)) (list_all (is_short handles) tables)
+    (eq-eqb (length tables) (length tables) refl) (all-short handles tables is.short)

@@ -1,8 +1,8 @@
 -- Handle tables as bytes: the places of each, from the first on.
-use Rattle.std.specs.Prelude.{◌≡◌, ℕ, ◌+◌, nat_le, ◌&&◌, Bool, true, List, length, Option}
+use Rattle.std.specs.Prelude.{◌≡◌, ℕ, ◌==◌, nat_le, ◌&&◌, Bool, true, List, length, Option}
 use Rattle.std.specs.List.{list_all}
 use Rattle.ob_codec.specs.Reading.{Read, as_at, both_at, list_at, option_at, where_at}
-use Rattle.ob_codec.specs.Spelling.{BothFit, ListFits, OptionFits, both, list, option}
+use Rattle.ob_codec.specs.Spelling.{BothFit, FewFit, ListFits, OptionFits, both, list, option}
 use Rattle.ob_rights.specs.Spelling.{FlagsFit, RightsFit, flags_at, flags_text, rights_at, rights_text}
 use Rattle.ob_rights.specs.declared.handle_flags.HandleFlags.{HandleFlags}
 use Rattle.ob_rights.specs.declared.rights.Rights.{Rights}
@@ -39,27 +39,26 @@ abbrev pub is_short : ℕ → List (Option Entry) → Bool
 is_short limit table = nat_le (length table) limit
 
 abbrev pub table_at : List ℕ → Read (List (Option Entry))
-table_at = where_at (is_short 16384) (list_at (option_at entry_at))
+table_at = list_at 16384 (option_at entry_at)
 
 abbrev pub TableFits : List (Option Entry) → Type 0
-TableFits table = ListFits (OptionFits EntryFits) table × (is_short 16384 table ≡ true)
+TableFits = FewFit 16384 (OptionFits EntryFits)
 
 -- the tables of all processes, that of number 0 first; their limits stand elsewhere
 abbrev pub tables_text : List (List (Option Entry)) → List ℕ
 tables_text = list table_text
 
--- whether there are no more tables than numbers, and none is longer than its limit
+-- whether there are as many tables as numbers, and none is longer than its limit
 abbrev pub are_bounded : ℕ → ℕ → List (List (Option Entry)) → Bool
-are_bounded processes handles tables = (nat_le 1 (length tables) && nat_le (length tables) (processes + 1))
-    && list_all (is_short handles) tables
+are_bounded given handles tables = length tables == given && list_all (is_short handles) tables
 
 abbrev pub with_limits : ℕ → ℕ → List (List (Option Entry)) → HandleTables
 with_limits processes handles tables = record { process_limit = processes; handle_limit = handles; tables = tables }
 
-abbrev pub tables_at : ℕ → ℕ → List ℕ → Read HandleTables
-tables_at processes handles = as_at (with_limits processes handles)
-    (where_at (are_bounded processes handles) (list_at table_at))
+abbrev pub tables_at : ℕ → ℕ → ℕ → List ℕ → Read HandleTables
+tables_at processes handles given = as_at (with_limits processes handles)
+    (where_at (are_bounded given handles) (list_at given table_at))
 
 -- tables that have a spelling, within their limits
 abbrev pub TablesFit : HandleTables → Type 0
-TablesFit t = ListFits TableFits t.tables × (are_bounded t.process_limit t.handle_limit t.tables ≡ true)
+TablesFit t = ListFits TableFits t.tables × (are_bounded (length t.tables) t.handle_limit t.tables ≡ true)

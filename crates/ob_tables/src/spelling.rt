@@ -4,7 +4,7 @@ ghost use Rattle.ob_tables.specs.SpellingLaws.{entry_codec, table_codec};
 
 use crate::entry::Entry;
 use crate::table::{HANDLES_MAX, Table};
-use ob_codec::{Cursor, ReadFault, Spelled, TextFault, read_list, write_list};
+use ob_codec::{Cursor, ReadFault, Spelled, read_list, write_list};
 use ob_rights::{HandleFlags, Rights};
 use pin_core::Id;
 use std::alloc::{AllocError, Global};
@@ -44,10 +44,7 @@ impl Spelled for Table {
     }
 
     fn read(alloc: Global, from: &mut Cursor<'_>) -> Result<Table, ReadFault> {
-        let places = read_list::<Option<Entry>>(alloc, from)?;
-        if places.len() > HANDLES_MAX as usize {
-            return Err(ReadFault::Text(TextFault::Value));
-        }
+        let places = read_list::<Option<Entry>>(alloc, from, HANDLES_MAX)?;
         Ok(Table::of_places(alloc, places)?)
     }
 

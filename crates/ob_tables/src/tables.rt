@@ -44,13 +44,6 @@ impl Model for Tables {
     ghost invariant = { λ t. IsBounded t.processes t.handles t.tables.items };
 }
 
-/// Whether there is a table, and are no more of them than numbers.
-fn are_few(processes: u32, tables: &[Table]) -> bool
-    ensures { result ≡ nat_le 1 (length tables.now) && nat_le (length tables.now) (processes + 1) }
-{
-    !tables.is_empty() && tables.len() <= processes as usize + 1
-}
-
 /// Whether each table has no more places than this.
 fn are_short(handles: u32, tables: &[Table]) -> bool
     ensures { result ≡ list_all (is_short handles) tables.now }
@@ -89,20 +82,24 @@ impl Tables {
         write_list(out, self.tables.as_slice())
     }
 
-    /// Reads tables for at most `processes` process numbers and `handles` entries in each, from the front of what is
-    /// left. [`TextFault::Value`] where there are more, or none for number 0.
+    /// Reads the tables of `given` process numbers, that of number 0 among them, for at most `processes` numbers and
+    /// `handles` entries in each, from the front of what is left. [`TextFault::Value`] where there are more or fewer
+    /// tables, or more places in one: with more tables than numbers, or more than 16,384 places, before any is read.
     pub fn read(
         alloc: Global,
         processes: u32,
         handles: u32,
+        given: u32,
         from: &mut Cursor<'_>,
     ) -> Result<Tables, ReadFault>
         requires few_processes { processes ≤ PROCESSES_MAX }
         requires few_handles { handles ≤ HANDLES_MAX }
-        ensures { Gives (λ tables. tables) result (tables_at processes handles from.old) from.new }
+        requires some_given { 1 ≤ given }
+        requires few_given { given ≤ processes + 1 }
+        ensures { Gives (λ tables. tables) result (tables_at processes handles given from.old) from.new }
     {
-        let tables = read_list::<Table>(alloc, from)?;
-        if !are_few(processes, tables.as_slice()) || !are_short(handles, tables.as_slice()) {
+        let tables = read_list::<Table>(alloc, from, given)?;
+        if tables.len() != given as usize || !are_short(handles, tables.as_slice()) {
             return Err(ReadFault::Text(TextFault::Value));
         }
         Ok(Tables {

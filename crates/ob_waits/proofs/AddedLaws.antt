@@ -11,7 +11,7 @@ use Rattle.ob_waits.specs.declared.wait.Wait.{Wait}
 use Rattle.ob_waits.specs.declared.wait.State.TheVariants.{Answered}
 use Rattle.ob_waits.specs.Rules.{thread_of, IsWaitable, WaitWaitable, Within}
 use Rattle.ob_waits.specs.Numbers.{IsOrdered, numbers_of}
-use Rattle.ob_waits.specs.Waits.{new_wait, nowhere, is_pending, names_slot, number_of}
+use Rattle.ob_waits.specs.Waits.{new_wait, nowhere, is_code, is_pending, names_slot, number_of}
 use Rattle.ob_waits.specs.Roster.{Roster, IsRight, HasPlace, IsTracked}
 use Rattle.ob_waits.proofs.TrackedLaws.{no_number}
 
@@ -113,9 +113,10 @@ tracked_added limit ws r r' n t mode ids d len some below waitable alone k right
 
 -- one that is answered needs none
 pub tracked_answered : (limit : ℕ) (ws : List (Option Wait)) (r : Roster) (t code : ℕ) (d : Option ℕ) → 0 < length ws
-    → length ws ≤ limit → number_of t ws ≡ None
+    → length ws ≤ limit → is_code code ≡ true → number_of t ws ≡ None
     → IsTracked limit ws r → IsTracked limit (ws ++ Some (record { thread = t; deadline = d; state = Answered code })
     ∷ []) r
-tracked_answered limit ws r t code d some below alone k =
-    tracked_came limit ws r r (record { thread = t; deadline = d; state = Answered code }) some below tt alone k k.right
+tracked_answered limit ws r t code d some below coded alone k =
+    tracked_came limit ws r r (record { thread = t; deadline = d; state = Answered code }) some below coded alone k
+    k.right
     (λ g. absurd (cc)) (λ s g. absurd (cc))

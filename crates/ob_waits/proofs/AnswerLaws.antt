@@ -12,9 +12,8 @@ use Rattle.ob_waits.specs.Answers.{is_answered, Untaken, IsAnswered, AreToldBut,
 use Rattle.ob_waits.specs.Rules.{thread_of, IsRising, Within}
 use Rattle.ob_waits.specs.Waits.{answered, is_pending}
 use Rattle.ob_waits.proofs.AddedLaws.{by_number}
-use Rattle.ob_waits.proofs.Keeping.{Fade}
 use Rattle.ob_waits.proofs.NumberLaws.{last_most, within_left, within_last}
-use Rattle.ob_waits.proofs.TrackedLaws.{fade_answered}
+use Rattle.ob_waits.proofs.Writes.{set_at}
 
 -- the same waits, and more room
 pub told_room : {ws : List (Option Wait)} {u u' : Untaken} → u'.fresh ≡ u.fresh
@@ -88,6 +87,10 @@ told_added ws w u pending place told = record {
     came = told_came ws w u place told
 
 -- a pending wait is answered
+thread_stays : (code : ℕ) (w : Option Wait) → thread_of (answered w code) ≡ thread_of w
+thread_stays code None = refl
+thread_stays code (Some w) = refl
+
 pub told_answered : (ws : List (Option Wait)) (n code : ℕ) (u : Untaken) → is_pending (get_or ws n None) ≡ true
     → AreTold ws u → AreToldBut (Some n) (set ws n (answered (get_or ws n None) code)) u
 told_answered ws n code u pending told = record {
@@ -100,14 +103,15 @@ told_answered ws n code u pending told = record {
   ];
   each = λ t m apart own. let other : m ≢ n = λ e. apart (ap Some e) in
       told.each t m (λ e. cc (e)) (subst (IsAnswered t) (get_or-set_other ws n m x None other) own);
-  placed = λ t m own. told.placed t m (sym (fade.each m).thread ∙ own);
+  placed = λ t m own. told.placed t m (sym (same m) ∙ own);
 }
   where
     x : Option Wait
     x = answered (get_or ws n None) code
 
-    fade : Fade ws (set ws n (answered (get_or ws n None) code))
-    fade = fade_answered ws n code pending
+    same : (m : ℕ) → thread_of (get_or (set ws n x) m None) ≡ thread_of (get_or ws m None)
+    same m = set_at (λ y. thread_of y ≡ thread_of (get_or ws m None)) ws n m x None
+        (λ e. thread_stays code (get_or ws n None) ∙ ap (λ i. thread_of (get_or ws i None)) (sym e)) refl
 
 -- and its number is put at the end of the list, or at its thread
 pub told_fresh : (ws : List (Option Wait)) (n : ℕ) (u u' : Untaken) → u'.fresh ≡ u.fresh ++ n ∷ [] → u'.late ≡ u.late

@@ -5,7 +5,7 @@ use Rattle.std.proofs.lemmas.Bool.{cases_eq}
 use Rattle.ob_body.specs.declared.body.Body.{Body}
 use Rattle.ob_waits.specs.declared.wait.Wait.{Wait}
 use Rattle.ob_waits.specs.Rules.{WaitWaitable, thread_of, IsKept, WaitHasRoom, WaitsHaveRoom, Fits}
-use Rattle.ob_waits.specs.Waits.{nowhere, is_ready, Scene, answered_wait, effect, passed, settled, is_pending, names_slot, ids_of}
+use Rattle.ob_waits.specs.Waits.{nowhere, is_code, is_ready, Scene, answered_wait, effect, passed, settled, is_pending, names_slot, ids_of}
 use Rattle.ob_waits.proofs.Settling.{Answers, answers, ready_within, RoomKept, settled_by_effects}
 use Rattle.ob_waits.proofs.Writes.{set_at}
 
@@ -20,10 +20,11 @@ pub record Fades (old new : Option Wait) : Type 0 where
 fades_same : (w : Option Wait) → Fades w w
 fades_same w = record { thread = refl; waitable = λ h. h; names = λ slot h. h; pending = λ h. h; stays = λ h. refl }
 
-pub fades_answered : (w : Wait) (code : ℕ) → Fades (Some w) (answered_wait w code)
-fades_answered w code = record {
+pub fades_answered : (w : Wait) (code : ℕ) → (WaitWaitable (Some w) → is_code code ≡ true)
+    → Fades (Some w) (answered_wait w code)
+fades_answered w code coded = record {
   thread = refl;
-  waitable = λ h. tt;
+  waitable = coded;
   names = λ slot h. absurd (cc);
   pending = λ h. absurd (cc);
   stays = λ h. absurd (cc);
@@ -51,18 +52,18 @@ fade_both a b c ab bc = record {
 
 -- the wait of one number was
 pub fade_one : (ws : List (Option Wait)) (n code : ℕ) (w : Wait) → get_or ws n None ≡ Some w
-    → Fade ws (set ws n (answered_wait w code))
-fade_one ws n code w own = record {
+    → (WaitWaitable (Some w) → is_code code ≡ true) → Fade ws (set ws n (answered_wait w code))
+fade_one ws n code w own coded = record {
   len = length-set ws n (answered_wait w code);
   each = λ m. set_at (Fades (get_or ws m None)) ws n m (answered_wait w code) None
       (λ same. subst (λ x. Fades x (answered_wait w code)) (sym (ap (λ i. get_or ws i None) same ∙ own))
-      (fades_answered w code)) (fades_same (get_or ws m None));
+      (fades_answered w code coded)) (fades_same (get_or ws m None));
 }
 
 pub effect_fades : (scene : Scene) (n : ℕ) → is_ready scene.objects.bodies (get_or scene.waits n None) ≡ true
     → Fade scene.waits (effect scene n).waits
 effect_fades scene n ready = let a = answers scene n ready in
-    subst (λ ws. Fade scene.waits ws) (sym a.waits) (fade_one scene.waits n a.code a.wait a.own)
+    subst (λ ws. Fade scene.waits ws) (sym a.waits) (fade_one scene.waits n a.code a.wait a.own a.coded)
 
 -- a pass answers some waits
 pub passed_fades : (ns : List ℕ) (scene : Scene) → Fade scene.waits (passed ns scene).waits

@@ -41,21 +41,28 @@ items_in_parts (suc n) bytes = by (row_at bytes) (λ (rest : List ℕ). items_in
     by (Ok a) later = one a.0 (items_at numbered_at n a.1)
         ∙ ap (λ (r : Read (List (ℕ × Wait))). r >>= λ (o : List (ℕ × Wait) × List ℕ). Ok (a.0 ∷ o.0, o.1)) (later a.1)
 
-pub list_in_parts : (bytes : List ℕ) → in_parts (list_at numbered_at bytes) ≡ list_at row_at bytes
+pub list_in_parts : (most : ℕ) (bytes : List ℕ)
+    → in_parts (list_at most numbered_at bytes) ≡ list_at most row_at bytes
 unfolding list_at
-list_in_parts bytes = by (number_at w32 bytes)
+list_in_parts most bytes = by (number_at w32 bytes)
   where
-    by : (r : Read ℕ) → in_parts (r >>= λ (n : ℕ × List ℕ). items_at numbered_at n.0 n.1)
-        ≡ (r >>= λ (n : ℕ × List ℕ). items_at row_at n.0 n.1)
-    by (Err f) = refl
-    by (Ok n) = items_in_parts n.0 n.1
+    few : (b : Bool) (n : ℕ × List ℕ) → in_parts (cond b (items_at numbered_at n.0 n.1) (Err Value))
+        ≡ cond b (items_at row_at n.0 n.1) (Err Value)
+    few true n = items_in_parts n.0 n.1
+    few false n = refl
 
-pub rows_in_parts : (r : Result (Vec NumberedWait Global) ReadFault) (bytes rest : List ℕ)
-    → Gives (λ rows. rows.items) r (list_at numbered_at bytes) rest
-    → Gives (λ rows. map numbered_parts rows.items) r (list_at row_at bytes) rest
-rows_in_parts (Ok rows) bytes rest is = sym (list_in_parts bytes) ∙ ap in_parts is
-rows_in_parts (Err Memory) bytes rest fails = tt
-rows_in_parts (Err (Text f)) bytes rest fails = sym (list_in_parts bytes) ∙ ap in_parts fails
+    by : (r : Read ℕ)
+        → in_parts (r >>= λ (n : ℕ × List ℕ). cond (leb n.0 most) (items_at numbered_at n.0 n.1) (Err Value))
+        ≡ (r >>= λ (n : ℕ × List ℕ). cond (leb n.0 most) (items_at row_at n.0 n.1) (Err Value))
+    by (Err f) = refl
+    by (Ok n) = few (leb n.0 most) n
+
+pub rows_in_parts : (r : Result (Vec NumberedWait Global) ReadFault) (most : ℕ) (bytes rest : List ℕ)
+    → Gives (λ rows. rows.items) r (list_at most numbered_at bytes) rest
+    → Gives (λ rows. map numbered_parts rows.items) r (list_at most row_at bytes) rest
+rows_in_parts (Ok rows) most bytes rest is = sym (list_in_parts most bytes) ∙ ap in_parts is
+rows_in_parts (Err Memory) most bytes rest fails = tt
+rows_in_parts (Err (Text f)) most bytes rest fails = sym (list_in_parts most bytes) ∙ ap in_parts fails
 
 -- what all comes to, where threads and slots are below some, and the bytes behind it
 abbrev pub within : ℕ → ℕ → Result WaitList TextFault → Result WaitList TextFault
@@ -71,7 +78,7 @@ abbrev where_they : (List (Option Wait) → Bool) → Read (List (Option Wait)) 
 where_they can r = r >>= λ (a : List (Option Wait) × List ℕ). cond (can a.0) (Ok a) (Err Value)
 
 read_is : (limit clock threads slots last : ℕ) (bytes between rest : List ℕ) (ps : List (ℕ × Wait))
-    → number_at w32 bytes ≡ Ok (last, between) → list_at row_at between ≡ Ok (ps, rest)
+    → number_at w32 bytes ≡ Ok (last, between) → list_at threads row_at between ≡ Ok (ps, rest)
     → waits_at limit clock threads slots bytes ≡ behind rest
     (within threads slots (tested limit clock (spread (last, ps))))
 read_is limit clock threads slots last bytes between rest ps first second = rw (first, second) (by (spread (last, ps)))
@@ -170,7 +177,7 @@ within_is limit clock threads slots last rows = by (fits_from 0 (suc last) (map 
 
 -- what is read, so
 pub rows_read : (limit clock threads slots last : ℕ) (bytes between rest : List ℕ) (rows : List NumberedWait)
-    → number_at w32 bytes ≡ Ok (last, between) → list_at row_at between ≡ Ok (map numbered_parts rows, rest)
+    → number_at w32 bytes ≡ Ok (last, between) → list_at threads row_at between ≡ Ok (map numbered_parts rows, rest)
     → waits_at limit clock threads slots bytes ≡ behind rest
     (cond (rows_within threads slots rows) (built limit clock last rows) (Err Value))
 rows_read limit clock threads slots last bytes between rest rows first second =
@@ -192,9 +199,9 @@ pub read_within : (limit clock threads slots : ℕ) (bytes : List ℕ) (list : W
     → waits_at limit clock threads slots bytes ≡ Ok (list, rest)
     → (list.limit ≡ limit) × (list.clock ≡ clock) × (are_within threads slots list.waits ≡ true)
 read_within limit clock threads slots bytes list rest e =
-    let a = bind_ok (where_at (are_within threads slots) (where_at (can_be limit clock) (sparse_at wait_at)) bytes) _
+    let a = bind_ok (where_at (are_within threads slots) (where_at (can_be limit clock) (sparse_at threads wait_at)) bytes) _
     (list, rest) e in
-    let b = bind_ok (where_at (can_be limit clock) (sparse_at wait_at) bytes) _ a.0 a.1 in
+    let b = bind_ok (where_at (can_be limit clock) (sparse_at threads wait_at) bytes) _ a.0 a.1 in
     let g = guard_passed (are_within threads slots b.0.0) Value b.0 a.0 b.2 in
     let is = ap (λ (z : WaitList × List ℕ). z.0) (ok_is (with_rest limit clock a.0.0, a.0.1) (list, rest) a.2) in
     let fits : are_within threads slots a.0.0 ≡ true =

@@ -1,9 +1,9 @@
 -- Taking makes nothing signaled, so a pass over the waits in order settles them, and what it leaves is settled.
 use Rattle.std.proofs.Common.{◌≡◌, ℕ, zero, suc, ◌+◌, ◌<◌, ◌≤◌, List, [], ◌∷◌, length, Option, Some, None, refl, ap, ◌∙◌, subst, arith, get_or, set, Bool, true, false, cond, inl, inr, ltb}
 use Rattle.std.specs.Prelude.{count_by, sum_by}
-use Rattle.std.specs.List.{position_or_len, list_all}
+use Rattle.std.specs.List.{position_or_len, list_all, list_any}
 use Rattle.std.proofs.lemmas.List.{get_or_past, get_or-set_same, get_or-set_other}
-use Rattle.std.proofs.lemmas.Bool.{cases_eq, cases_lt, false_from_ne_true, le-ltb, lt-ltb}
+use Rattle.std.proofs.lemmas.Bool.{cases_eq, cases_lt, false_from_ne_true, le-ltb, lt-ltb, ltb-true}
 use Rattle.std.proofs.lemmas.Bool.Decides.{nat_tests}
 use Rattle.std.proofs.lemmas.List.Sums.{sum_by-set, count_by-le-length, get_or-le-sum_by, fails_before_first, passes_at_first, position_or_len_is}
 use Rattle.pin_core.specs.declared.id.Id.{Id}
@@ -15,8 +15,8 @@ use Rattle.ob_waits.specs.declared.wait.Wait.{Wait}
 use Rattle.ob_waits.specs.declared.wait.State.{State}
 use Rattle.ob_waits.specs.declared.wait.State.TheVariants.{Pending, Answered}
 use Rattle.ob_waits.specs.Objects.{slot_signaled, slot_room, slot_acquired}
-use Rattle.ob_waits.specs.Rules.{IsSettled, thread_of}
-use Rattle.ob_waits.specs.Waits.{nowhere, is_signaled, list_ready, state_ready, is_ready, first_ready, Scene, bodies_after, code_of, answered_wait, effect, effect_of, effect_at, settled_within, settled, ids_of, is_pending, state_ids, state_pending}
+use Rattle.ob_waits.specs.Rules.{IsSettled, IsWaitable, StateWaitable, WaitWaitable, thread_of}
+use Rattle.ob_waits.specs.Waits.{nowhere, first_signaled, is_abandoned, is_code, is_signaled, list_ready, state_ready, is_ready, first_ready, Scene, bodies_after, code_of, answered_wait, effect, effect_of, effect_at, settled_within, settled, ids_of, is_pending, state_ids, state_pending}
 use Rattle.ob_waits.proofs.EachSlot.{slots-satisfied, slots-taken}
 
 -- no object is signaled that was not, for any thread
@@ -136,10 +136,34 @@ pub record Answers (scene after : Scene) (n : ℕ) : Type 0 where
   pub less : IsLess scene.objects.bodies after.objects.bodies
   pub room : (limit : ℕ) → RoomKept limit wait.thread scene.objects.bodies after.objects.bodies
   pub own : get_or scene.waits n None ≡ Some wait
+  pub coded : WaitWaitable (Some wait) → is_code code ≡ true
+
+-- the code of a wait that is ready
+index-code : (i : ℕ) → i < 64 → is_code (i + 0) ≡ true
+index-code i lt = grind (arith, nat_tests, lt)
+
+abandoned-code : (i : ℕ) → i < 64 → is_code (i + 128) ≡ true
+abandoned-code i lt = grind (arith, nat_tests, lt)
+
+coded_as : (mode : Mode) (t : ℕ) (bodies : List (Option Body)) (ids : List Id) → IsWaitable mode ids
+    → list_ready mode t bodies ids ≡ true → is_code (code_of mode t bodies ids) ≡ true
+coded_as Any t bodies ids may ready =
+    let i = first_signaled t bodies ids in
+    let below : i < 64 = (let few = may.at_most in let lt = ltb-true i (length ids) ready in omega (arith, few, lt)) in
+    by i below (is_abandoned bodies (get_or ids i nowhere))
+  where
+    by : (i : ℕ) → i < 64 → (b : Bool) → is_code (i + cond b 128 0) ≡ true
+    by i lt true = abandoned-code i lt
+    by i lt false = index-code i lt
+coded_as All t bodies ids may ready = by (list_any (is_abandoned bodies) ids)
+  where
+    by : (b : Bool) → is_code (cond b 128 0) ≡ true
+    by true = refl
+    by false = refl
 
 answered_by : (scene : Scene) (n : ℕ) (w : Wait) (st : State) → get_or scene.waits n None ≡ Some w
-    → state_pending st ≡ true → Answers scene (effect_of scene n w st) n
-answered_by scene n w (Pending mode ids) own h = record {
+    → w.state ≡ st → state_ready w.thread scene.objects.bodies st ≡ true → Answers scene (effect_of scene n w st) n
+answered_by scene n w (Pending mode ids) own is ready = record {
   wait = w;
   code = code_of mode w.thread scene.objects.bodies ids;
   waits = refl;
@@ -152,14 +176,14 @@ answered_by scene n w (Pending mode ids) own h = record {
         (room_taken limit w.thread) (λ x t other h. refl) mode ids scene.objects k t other;
   };
   own = own;
+  coded = λ may. coded_as mode w.thread scene.objects.bodies ids (subst StateWaitable is may) ready;
 }
-answered_by scene n w (Answered code) own h = absurd (cc)
+answered_by scene n w (Answered code) own is ready = absurd (cc)
 
 answered_at : (scene : Scene) (n : ℕ) (w : Option Wait) → get_or scene.waits n None ≡ w
     → is_ready scene.objects.bodies w ≡ true → Answers scene (effect_at scene n w) n
 answered_at scene n None is h = absurd (cc)
-answered_at scene n (Some w) is h = answered_by scene n w w.state is
-    (state_ready_pending w.thread scene.objects.bodies w.state h)
+answered_at scene n (Some w) is h = answered_by scene n w w.state is refl h
 
 pub answers : (scene : Scene) (n : ℕ) → is_ready scene.objects.bodies (get_or scene.waits n None) ≡ true
     → Answers scene (effect scene n) n

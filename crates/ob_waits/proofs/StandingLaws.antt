@@ -12,7 +12,7 @@ use Rattle.ob_waits.specs.Form.{IsAfter}
 use Rattle.ob_waits.specs.Roster.{IsTracked, Roster}
 use Rattle.ob_waits.specs.Rules.{IsWaitable, WaitWaitable, thread_of}
 use Rattle.ob_waits.specs.Spelling.{can_be, may_list, may_stand, names_twice, one_each}
-use Rattle.ob_waits.specs.Waits.{has_slot, is_waits_of, nowhere}
+use Rattle.ob_waits.specs.Waits.{has_slot, is_code, is_waits_of, nowhere}
 use Rattle.ob_waits.specs.declared.wait.Mode.{Mode}
 use Rattle.ob_waits.specs.declared.wait.Mode.TheVariants.{Any, All}
 use Rattle.ob_waits.specs.declared.wait.State.{State}
@@ -88,7 +88,7 @@ standing clock (Some w) can ahead = by w.state can ahead
         → may_stand clock (Some (record w { state = s })) ≡ true
     by (Pending mode ids) can ahead = and_from (may_list mode ids) (not (is_due clock w.deadline))
         (may-wait mode ids can) (ap not (undue clock w.deadline ahead))
-    by (Answered code) can ahead = refl
+    by (Answered code) can ahead = and_from (is_code code) true can refl
 
 all-stand : (clock : ℕ) (ws : List (Option Wait)) → ((n : ℕ) → may_stand clock (get_or ws n None) ≡ true)
     → list_all (may_stand clock) ws ≡ true

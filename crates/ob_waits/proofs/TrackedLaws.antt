@@ -9,7 +9,7 @@ use Rattle.std.proofs.lemmas.Bool.Decides.{nat_tests}
 use Rattle.ob_waits.specs.declared.wait.Wait.{Wait}
 use Rattle.ob_waits.specs.Rules.{thread_of, WaitWaitable}
 use Rattle.ob_waits.specs.Numbers.{IsOrdered, AreOrdered}
-use Rattle.ob_waits.specs.Waits.{is_pending, names_slot, is_waits_of, number_of, answered}
+use Rattle.ob_waits.specs.Waits.{is_code, is_pending, names_slot, is_waits_of, number_of, answered}
 use Rattle.ob_waits.specs.Roster.{Roster, AreIndexed, Leaves, IsTracked}
 use Rattle.ob_waits.proofs.Keeping.{Fade, fade_one, kept_faded}
 use Rattle.ob_waits.proofs.RosterLaws.{right_left}
@@ -123,13 +123,13 @@ tracked_left limit ws r r' l k = record {
 }
 
 -- a pending wait is answered
-pub fade_answered : (ws : List (Option Wait)) (n code : ℕ) → is_pending (get_or ws n None) ≡ true
-    → Fade ws (set ws n (answered (get_or ws n None) code))
-fade_answered ws n code pending = by (get_or ws n None) refl pending
+pub fade_answered : (ws : List (Option Wait)) (n code : ℕ) → is_code code ≡ true
+    → is_pending (get_or ws n None) ≡ true → Fade ws (set ws n (answered (get_or ws n None) code))
+fade_answered ws n code coded pending = by (get_or ws n None) refl pending
   where
     by : (w : Option Wait) → get_or ws n None ≡ w → is_pending w ≡ true → Fade ws (set ws n (answered w code))
     by None is h = absurd (cc)
-    by (Some w) is h = fade_one ws n code w is
+    by (Some w) is h = fade_one ws n code w is (λ _. coded)
 
 -- the wait of a thread goes
 lists_removed : (ws : List (Option Wait)) (n : ℕ) (order : List ℕ) (index : List (List ℕ))

@@ -8,7 +8,7 @@ use Rattle.ob_waits.specs.declared.wait.Wait.{Wait}
 use Rattle.ob_waits.specs.declared.wait.State.{State}
 use Rattle.ob_waits.specs.declared.wait.State.TheVariants.{Pending, Answered}
 use Rattle.ob_waits.specs.Objects.{Objects, slot_room, slot_signaled}
-use Rattle.ob_waits.specs.Waits.{nowhere, Scene, has_slot, is_pending, is_ready, ids_of}
+use Rattle.ob_waits.specs.Waits.{nowhere, Scene, has_slot, is_code, is_pending, is_ready, ids_of}
 
 -- each object of a list has room for the thread
 pub record HasRoom (limit thread : ℕ) (bodies : List (Option Body)) (ids : List Id) : Type 0 where
@@ -28,7 +28,7 @@ pub record IsWaitable (mode : Mode) (ids : List Id) : Type 0 where
 
 abbrev pub StateWaitable : State → Type 0
 StateWaitable (Pending mode ids) = IsWaitable mode ids
-StateWaitable (Answered code) = Unit {0}
+StateWaitable (Answered code) = is_code code ≡ true
 
 abbrev pub WaitWaitable : Option Wait → Type 0
 WaitWaitable None = Unit {0}
@@ -38,7 +38,7 @@ abbrev pub thread_of : Option Wait → Option ℕ
 thread_of None = None
 thread_of (Some wait) = Some wait.thread
 
--- every pending wait may be waited for, and a thread has one wait
+-- every pending wait may be waited for, each answered one has a code that can be, and a thread has one wait
 pub record IsKept (waits : List (Option Wait)) : Type 0 where
   pub each : (n : ℕ) → WaitWaitable (slice_index_or waits n None)
   pub one_each : (n m t : ℕ) → thread_of (slice_index_or waits n None) ≡ Some t

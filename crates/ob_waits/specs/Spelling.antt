@@ -5,12 +5,12 @@ use Rattle.std.specs.Int.{w32, w64, to_le_bytes}
 use Rattle.ob_codec.specs.declared.fault.TextFault.TheVariants.{Tag}
 use Rattle.ob_codec.specs.Reading.{Read, as_at, both_at, list_at, number_at, option_at, tagged_at, where_at}
 use Rattle.ob_codec.specs.Sparse.{SparseFits, sparse, sparse_at}
-use Rattle.ob_codec.specs.Spelling.{BothFit, ListFits, OptionFits, both, list, option}
+use Rattle.ob_codec.specs.Spelling.{BothFit, FewFit, OptionFits, both, list, option}
 use Rattle.pin_core.specs.Spelling.{IdFits, id_at, id_text}
 use Rattle.pin_core.specs.declared.id.Id.{Id}
 use Rattle.ob_body.specs.Spelling.{is_four}
 use Rattle.ob_waits.specs.Deadlines.{is_overdue}
-use Rattle.ob_waits.specs.Waits.{WaitList, has_slot, is_waits_of, state_ids}
+use Rattle.ob_waits.specs.Waits.{WaitList, has_slot, is_code, is_waits_of, state_ids}
 use Rattle.ob_waits.specs.declared.numbered_wait.NumberedWait.{NumberedWait}
 use Rattle.ob_waits.specs.declared.wait.Mode.{Mode}
 use Rattle.ob_waits.specs.declared.wait.Mode.TheVariants.{Any, All}
@@ -19,17 +19,14 @@ use Rattle.ob_waits.specs.declared.wait.State.TheVariants.{Pending, Answered}
 use Rattle.ob_waits.specs.declared.wait.Wait.{Wait}
 
 -- the objects of a wait, at most 64
-abbrev pub are_few : List Id → Bool
-are_few ids = nat_le (length ids) 64
-
 abbrev pub ids_text : List Id → List ℕ
 ids_text = list id_text
 
 abbrev pub ids_at : List ℕ → Read (List Id)
-ids_at = where_at are_few (list_at id_at)
+ids_at = list_at 64 id_at
 
 abbrev pub IdsFit : List Id → Type 0
-IdsFit ids = ListFits IdFits ids × (are_few ids ≡ true)
+IdsFit = FewFit 64 IdFits
 
 -- where a wait stands: the tag says whether it is pending for any or for all of its objects, or answered with a code
 abbrev pub tag_of : State → ℕ
@@ -110,9 +107,10 @@ may_list All ids = nat_lt 0 (length ids) && not (names_twice ids)
 
 abbrev pub state_may : State → Bool
 state_may (Pending mode ids) = may_list mode ids
-state_may (Answered code) = true
+state_may (Answered code) = is_code code
 
--- whether a wait can be there at a moment: one that is pending may wait for its objects, and its time isn't up
+-- whether a wait can be there at a moment: one that is pending may wait for its objects, and its time isn't up; one
+-- that is answered has a code that can be
 abbrev pub may_stand : ℕ → Option Wait → Bool
 may_stand clock None = true
 may_stand clock (Some wait) = state_may wait.state && not (is_overdue clock (Some wait))
@@ -147,11 +145,11 @@ waits_text = sparse wait_text
 abbrev pub with_rest : ℕ → ℕ → List (Option Wait) → WaitList
 with_rest limit clock waits = record { limit = limit; waits = waits; clock = clock }
 
--- so do how many threads and slots there are, which bound the memory that is asked for
+-- so do how many threads and slots there are, which bound the memory that is asked for: no thread has two waits
 abbrev pub waits_at : ℕ → ℕ → ℕ → ℕ → List ℕ → Read WaitList
 waits_at limit clock threads slots =
     as_at (with_rest limit clock)
-    (where_at (are_within threads slots) (where_at (can_be limit clock) (sparse_at wait_at)))
+    (where_at (are_within threads slots) (where_at (can_be limit clock) (sparse_at threads wait_at)))
 
 -- waits that have a spelling
 abbrev pub WaitsFit : WaitList → Type 0

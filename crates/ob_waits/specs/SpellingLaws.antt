@@ -1,22 +1,25 @@
 -- Waits are read as they were spelled.
-use Rattle.std.proofs.Common.{◌≡◌, ℕ, zero, suc, true, List, ◌++◌, Option, Ok, refl, subst}
+use Rattle.std.proofs.Common.{◌≡◌, ℕ, zero, suc, ◌<◌, ◌||◌, not, Bool, true, false, eqb, leb, ltb, List, [], ◌∷◌, ◌++◌, length, Option, Some, None, Ok, ap, arith, eq-eqb, ne_eqb, refl, subst, sym}
+use Rattle.std.specs.List.{AllByRecursion, IsDistinct, list_all, list_any}
+use Rattle.std.proofs.lemmas.Bool.{and_parts, eqb-true, le-leb, ltb-true}
+use Rattle.std.proofs.lemmas.Map.Steps.{length-le_from_distinct_below}
 use Rattle.ob_codec.specs.Codecs.{as_codec, both_codec, form_takes, list_codec, option_codec, tagged_codec, u32_codec, u64_codec, where_codec}
 use Rattle.ob_codec.specs.Laws.{IsCodec, Takes}
 use Rattle.ob_codec.specs.Reading.{Read, where_at}
-use Rattle.ob_codec.specs.Sparse.{SparseFits, sparse_at}
+use Rattle.ob_codec.specs.Sparse.{SparseFewFit, entries_from, sparse_at}
 use Rattle.ob_codec.specs.SparseLaws.{sparse_codec}
 use Rattle.ob_codec.specs.Spelling.{AreBytes}
 use Rattle.ob_codec.specs.Steps.{bind_ok, ok_is}
 use Rattle.pin_core.specs.SpellingLaws.{id_codec}
-use Rattle.ob_waits.specs.Spelling.{NumberedFits, IdsFit, StateFits, WaitFits, WaitsFit, are_few, are_within, can_be, numbered_at, numbered_of, numbered_parts, numbered_text, ids_at, ids_text, parts_text, state_at, state_in, state_text, tag_of, wait_at, wait_of, wait_parts, wait_text, waits_at, waits_text, with_rest}
-use Rattle.ob_waits.specs.Waits.{WaitList}
+use Rattle.ob_waits.specs.Spelling.{NumberedFits, IdsFit, StateFits, WaitFits, WaitsFit, are_below, are_within, can_be, is_within, may_stand, one_each, numbered_at, numbered_of, numbered_parts, numbered_text, ids_at, ids_text, parts_text, state_at, state_in, state_text, tag_of, wait_at, wait_of, wait_parts, wait_text, waits_at, waits_text, with_rest}
+use Rattle.ob_waits.specs.Waits.{WaitList, is_waits_of, state_ids}
 use Rattle.ob_waits.specs.declared.wait.Mode.TheVariants.{Any, All}
 use Rattle.ob_waits.specs.declared.wait.State.{State}
 use Rattle.ob_waits.specs.declared.wait.State.TheVariants.{Pending, Answered}
 use Rattle.ob_waits.specs.declared.wait.Wait.{Wait}
 
 pub ids_codec : IsCodec ids_text ids_at IdsFit
-ids_codec = where_codec (list_codec id_codec) are_few
+ids_codec = list_codec id_codec 64
 
 one-again : (t : ℕ) (x : State) (rest : List ℕ) → tag_of x ≡ t → StateFits x
     → state_in t (parts_text x ++ rest) ≡ Ok (x, rest)
@@ -50,24 +53,87 @@ wait_codec = as_codec wait_of wait_parts (λ _. refl) (λ _. refl)
 pub numbered_codec : IsCodec numbered_text numbered_at NumberedFits
 numbered_codec = as_codec numbered_of numbered_parts (λ _. refl) (λ _. refl) (both_codec u32_codec wait_codec)
 
+-- the threads of waits, each of which has one, are no more than there are
+abbrev threads_of : List (Option Wait) → List ℕ
+threads_of [] = []
+threads_of (None ∷ waits) = threads_of waits
+threads_of (Some wait ∷ waits) = wait.thread ∷ threads_of waits
+
+rows_long : (k : ℕ) (waits : List (Option Wait)) → length (entries_from k waits) ≡ length (threads_of waits)
+rows_long k [] = refl
+rows_long k (None ∷ waits) = rows_long (suc k) waits
+rows_long k (Some wait ∷ waits) = ap suc (rows_long (suc k) waits)
+
+others : (thread : ℕ) (waits : List (Option Wait)) → not (list_any (is_waits_of thread) waits) ≡ true
+    → AllByRecursion (λ other. eqb thread other ≡ false) (threads_of waits)
+others thread [] none = tt
+others thread (None ∷ waits) none = others thread waits none
+others thread (Some wait ∷ waits) none = by (eqb wait.thread thread) refl none (others thread waits)
+  where
+    by : (same : Bool) → eqb wait.thread thread ≡ same → not (same || list_any (is_waits_of thread) waits) ≡ true
+        → (not (list_any (is_waits_of thread) waits) ≡ true
+        → AllByRecursion (λ other. eqb thread other ≡ false) (threads_of waits))
+        → AllByRecursion (λ other. eqb thread other ≡ false) (wait.thread ∷ threads_of waits)
+    by true is none later = absurd cc
+    by false is none later = (
+      ne_eqb thread wait.thread (λ same. let e = eq-eqb wait.thread thread (sym same) in absurd cc),
+      later none,
+    )
+
+distinct : (waits : List (Option Wait)) → one_each waits ≡ true → IsDistinct eqb (threads_of waits)
+unfolding IsDistinct
+distinct [] one = tt
+distinct (None ∷ waits) one = distinct waits one
+distinct (Some wait ∷ waits) one =
+    let both = and_parts (not (list_any (is_waits_of wait.thread) waits)) (one_each waits) one in
+    (others wait.thread waits both.0, distinct waits both.1)
+
+below : (threads slots : ℕ) (waits : List (Option Wait)) → are_within threads slots waits ≡ true → (thread : ℕ)
+    → list_any (eqb thread) (threads_of waits) ≡ true → thread < threads
+below threads slots [] within thread has = absurd cc
+below threads slots (None ∷ waits) within thread has = below threads slots waits within thread has
+below threads slots (Some wait ∷ waits) within thread has =
+    by (eqb thread wait.thread) refl has (below threads slots waits here.1 thread)
+  where
+    here : (is_within threads slots (Some wait) ≡ true) × (are_within threads slots waits ≡ true)
+    here = and_parts (is_within threads slots (Some wait)) (are_within threads slots waits) within
+
+    by : (same : Bool) → eqb thread wait.thread ≡ same → same || list_any (eqb thread) (threads_of waits) ≡ true
+        → (list_any (eqb thread) (threads_of waits) ≡ true → thread < threads) → thread < threads
+    by true is has later =
+        let low = ltb-true wait.thread threads (and_parts (ltb wait.thread threads)
+        (are_below slots (state_ids wait.state)) here.0).0 in
+        omega (arith, low, eqb-true thread wait.thread is)
+    by false is has later = later has
+
+few_waits : (threads slots limit clock : ℕ) (waits : List (Option Wait)) → can_be limit clock waits ≡ true
+    → are_within threads slots waits ≡ true → leb (length (entries_from 0 waits)) threads ≡ true
+few_waits threads slots limit clock waits can within =
+    let one = (and_parts (list_all (may_stand clock) waits) (one_each waits) (and_parts _ _ can).1).1 in
+    let few = length-le_from_distinct_below (threads_of waits) threads (distinct waits one)
+    (below threads slots waits within) in
+    le-leb (length (entries_from 0 waits)) threads (omega (arith, few, rows_long 0 waits))
+
 abbrev ListsFit : ℕ → ℕ → ℕ → ℕ → List (Option Wait) → Type 0
-ListsFit limit clock threads slots waits = (SparseFits WaitFits waits × (can_be limit clock waits ≡ true))
+ListsFit limit clock threads slots waits = (SparseFewFit threads WaitFits waits × (can_be limit clock waits ≡ true))
     × (are_within threads slots waits ≡ true)
 
 abbrev lists_at : ℕ → ℕ → ℕ → ℕ → List ℕ → Read (List (Option Wait))
 lists_at limit clock threads slots = where_at (are_within threads slots)
-    (where_at (can_be limit clock) (sparse_at wait_at))
+    (where_at (can_be limit clock) (sparse_at threads wait_at))
 
 lists_codec : (limit clock threads slots : ℕ)
     → IsCodec waits_text (lists_at limit clock threads slots) (ListsFit limit clock threads slots)
-lists_codec limit clock threads slots = where_codec (where_codec (sparse_codec wait_codec) (can_be limit clock))
+lists_codec limit clock threads slots = where_codec
+    (where_codec (sparse_codec wait_codec threads) (can_be limit clock))
     (are_within threads slots)
 
 pub waits_again : (threads slots : ℕ) (list : WaitList) (rest : List ℕ) → WaitsFit list
     → are_within threads slots list.waits ≡ true
     → waits_at list.limit list.clock threads slots (waits_text list.waits ++ rest) ≡ Ok (list, rest)
 waits_again threads slots list rest fits within = rw
-    ((lists_codec list.limit list.clock threads slots).again list.waits rest (fits, within)) refl
+    ((lists_codec list.limit list.clock threads slots).again list.waits rest
+    (((fits.0, few_waits threads slots list.limit list.clock list.waits fits.1 within), fits.1), within)) refl
 
 pub waits_take : (limit clock threads slots : ℕ) (bytes : List ℕ) (list : WaitList) (rest : List ℕ) → AreBytes bytes
     → waits_at limit clock threads slots bytes ≡ Ok (list, rest)
@@ -78,4 +144,4 @@ waits_take limit clock threads slots bytes list rest fits e =
     let w = (lists_codec limit clock threads slots).takes bytes x.0.0 x.0.1 fits x.1 in
     subst (λ (z : WaitList × List ℕ). Takes bytes (waits_text z.0.waits) z.1 × WaitsFit z.0
     × (are_within threads slots z.0.waits ≡ true)) (ok_is (with_rest limit clock x.0.0, x.0.1) (list, rest) x.2)
-    (w.0, w.1.0, w.1.1)
+    (w.0, (w.1.0.0.0, w.1.0.1), w.1.1)

@@ -1,5 +1,5 @@
 -- Waits for any and for all of some objects: when one is ready, what it takes, and how they settle.
-use Rattle.std.specs.Prelude.{ℕ, zero, suc, ◌+◌, ◌-◌, ◌==◌, nat_lt, Bool, true, false, List, [], ◌∷◌, ◌++◌, Option, Some, None, if◌then◌else◌, slice_index_or, slice_set, length, map, sum_by, count_by, position, replicate}
+use Rattle.std.specs.Prelude.{ℕ, zero, suc, ◌+◌, ◌-◌, ◌==◌, nat_le, nat_lt, ◌&&◌, ◌||◌, Bool, true, false, List, [], ◌∷◌, ◌++◌, Option, Some, None, if◌then◌else◌, slice_index_or, slice_set, length, map, sum_by, count_by, position, replicate}
 use Rattle.std.specs.List.{position_or_len, list_any, list_all}
 use Rattle.pin_core.specs.Holds.{same_id}
 use Rattle.pin_core.specs.declared.id.Id.{Id}
@@ -52,6 +52,11 @@ code_of Any thread bodies ids =
     let index = first_signaled thread bodies ids in
     index + (if is_abandoned bodies (slice_index_or ids index nowhere) then 128 else 0)
 code_of All thread bodies ids = if list_any (is_abandoned bodies) ids then 128 else 0
+
+-- whether a code can be that of an answered wait: an index, an index of which the mutex was abandoned, or that its time
+-- was up
+abbrev pub is_code : ℕ → Bool
+is_code code = nat_lt code 64 || ((nat_le 128 code && nat_lt code 192) || code == 258)
 
 -- what a wait that need not become pending is answered with, and what it leaves
 abbrev pub code_now : Mode → ℕ → List (Option Body) → List Id → Option ℕ

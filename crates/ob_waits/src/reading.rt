@@ -4,8 +4,9 @@ ghost use Rattle.ob_codec.specs.Reading.{Gives, GivesAll, list_at};
 ghost use Rattle.ob_waits.specs.Rows.{built, come, may_come, rows_within};
 ghost use Rattle.ob_waits.specs.Spelling.{are_below, is_within, may_list, may_stand, names_twice};
 ghost use Rattle.ob_waits.specs.Spelling.{numbered_parts, row_at};
-ghost use Rattle.ob_waits.specs.Waits.{has_slot, is_full, number_of};
+ghost use Rattle.ob_waits.specs.Waits.{has_slot, is_code, is_full, number_of};
 
+use crate::codes::{MAXIMUM_WAIT_OBJECTS, WAIT_ABANDONED_0, WAIT_TIMEOUT};
 use crate::numbered_wait::NumberedWait;
 use crate::wait::{Mode, State, Wait};
 use crate::waits::Waits;
@@ -13,14 +14,15 @@ use ob_codec::{Cursor, ReadFault, TextFault, read_list};
 use pin_core::Id;
 use std::alloc::{AllocError, Global};
 
-/// Reads waits with their numbers.
+/// Reads waits with their numbers, at most so many.
 pub(crate) fn read_rows(
     alloc: Global,
     from: &mut Cursor<'_>,
+    most: u32,
 ) -> Result<Vec<NumberedWait>, ReadFault>
-    ensures { Gives (λ rows. map numbered_parts rows.items) result (list_at row_at from.old) from.new }
+    ensures { Gives (λ rows. map numbered_parts rows.items) result (list_at most row_at from.old) from.new }
 {
-    read_list::<NumberedWait>(alloc, from)
+    read_list::<NumberedWait>(alloc, from, most)
 }
 
 /// Whether the slots of some objects are below one.
@@ -77,6 +79,16 @@ fn may_list(mode: Mode, ids: &[Id]) -> bool
     }
 }
 
+/// Whether a wait can be answered with a code.
+fn is_code(code: u32) -> bool
+    ensures { result ≡ is_code code }
+{
+    let most = MAXIMUM_WAIT_OBJECTS as u32;
+    code < most
+        || (WAIT_ABANDONED_0 <= code && code < WAIT_ABANDONED_0 + most)
+        || code == WAIT_TIMEOUT
+}
+
 /// Whether a wait can be there at a moment.
 fn may_stand(wait: &Wait, clock: u64) -> bool
     ensures { result ≡ may_stand clock (Some wait.now) }
@@ -86,7 +98,7 @@ fn may_stand(wait: &Wait, clock: u64) -> bool
             Some(deadline) if deadline <= clock => false,
             _ => may_list(*mode, ids.as_slice()),
         },
-        State::Answered(_) => true,
+        State::Answered(code) => is_code(*code),
     }
 }
 

@@ -23,10 +23,7 @@ impl Spelled for Ids {
     }
 
     fn read(alloc: Global, from: &mut Cursor<'_>) -> Result<Ids, ReadFault> {
-        let ids = read_list::<Id>(alloc, from)?;
-        if ids.len() > MAXIMUM_WAIT_OBJECTS {
-            return Err(ReadFault::Text(TextFault::Value));
-        }
+        let ids = read_list::<Id>(alloc, from, MAXIMUM_WAIT_OBJECTS as u32)?;
         Ok(Ids::new(alloc, ids.as_slice())?)
     }
 

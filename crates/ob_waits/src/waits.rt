@@ -6,7 +6,7 @@ ghost use Rattle.ob_waits.specs.Waits.{settled, blocks_among, number_of, with_wa
 ghost use Rattle.ob_waits.specs.Waits.{without_wait, without_thread, is_pending, code_at, state_at, ids_of, is_full};
 ghost use Rattle.ob_codec.specs.Reading.{Gives};
 ghost use Rattle.ob_waits.specs.Spelling.{WaitsFit, are_within, can_be, waits_at, waits_text};
-ghost use Rattle.ob_waits.specs.Waits.{new_wait, skipped, with_answered};
+ghost use Rattle.ob_waits.specs.Waits.{is_code, new_wait, skipped, with_answered};
 ghost use Rattle.least_due.specs.Dues.{IsLeast};
 ghost use Rattle.least_free.specs.From.{IsLeastFrom};
 ghost use Rattle.ob_waits.specs.Answers.{answer_of, is_answered};
@@ -106,9 +106,10 @@ impl Waits {
 
     /// Reads waits of which at most `waits` numbers may be given, as they are at a moment, from the front of what is
     /// left. [`TextFault::Value`] where a number is above that, or above the last one given, or doesn't rise; where a
-    /// thread has two waits; and where a pending one lists no object, more than 64 or, to wait for all, one slot twice,
-    /// or its time is up. The text is refused so too where a thread isn't below `threads`, or an object's slot below
-    /// `slots`, so that no more memory is asked for than these and the text account for.
+    /// thread has two waits; where a pending one lists no object, more than 64 or, to wait for all, one slot twice, or
+    /// its time is up; and where an answered one has a code that can't be. The text is refused so too where a thread isn't below `threads`, or an object's slot below
+    /// `slots`, and before any wait is read where there are more than `threads`, or any object where a wait lists more
+    /// than 64: so no more memory is asked for than these and the text account for.
     pub fn read(
         alloc: Global,
         waits: u32,
@@ -124,7 +125,7 @@ impl Waits {
         ensures within { IfOk result (λ read. are_within threads slots read.waits ≡ true) }
     {
         let last = from.four()?;
-        let rows = read_rows(alloc, from)?;
+        let rows = read_rows(alloc, from, threads)?;
         if last > waits {
             return Err(ReadFault::Text(TextFault::Value));
         }
@@ -248,13 +249,14 @@ impl Waits {
         Ok(number)
     }
 
-    /// Gives the next number to a wait of a thread that is answered with a code.
+    /// Gives the next number to a wait of a thread that is answered with a code that can be.
     pub(crate) fn add_answered(
         &mut self,
         thread: u32,
         deadline: Option<u64>,
         code: u32,
     ) -> Result<u32, AllocError>
+        requires coded { is_code code ≡ true }
         requires alone { number_of thread self.old.waits ≡ None }
         requires below_limit { is_full self.old ≡ false }
         ensures number { IfOk result (λ number. number ≡ length self.old.waits) }

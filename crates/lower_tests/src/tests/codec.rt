@@ -37,7 +37,7 @@ fn read(alloc: Global, text: &[u8]) -> Result<bool, ReadFault> {
 
 fn read_once(alloc: Global, text: &[u8]) -> Result<bool, ReadFault> {
     let mut from = Cursor::new(text);
-    let owners = read_list::<Option<u32>>(alloc, &mut from)?;
+    let owners = read_list::<Option<u32>>(alloc, &mut from, 4)?;
     let name = from.string()?;
     from.end()?;
     Ok(owners.as_slice() == OWNERS.as_slice() && name == NAME)
@@ -67,6 +67,25 @@ fn a_sealed_text_loads(rt: HostRuntime) -> Result<(), Fail> {
     seal(&mut bytes)?;
     same(&rt, bytes.len(), 26 + DIGEST);
     same(&rt, loaded(rt.alloc(), bytes.as_slice()), Ok(true));
+    Ok(())
+}
+
+/// Reads a list of at most four numbers, of a text that has nothing but their count.
+fn counted(alloc: Global, count: u32) -> Result<usize, ReadFault> {
+    let mut text = Vec::new(alloc);
+    count.write(&mut text)?;
+    let mut from = Cursor::new(text.as_slice());
+    let numbers = read_list::<u32>(alloc, &mut from, 4)?;
+    Ok(numbers.len())
+}
+
+#[test]
+fn a_count_past_its_bound_is_refused_before_what_it_counts(rt: HostRuntime) -> Result<(), Fail> {
+    same(&rt, counted(rt.alloc(), 0)?, 0);
+    let short = counted(rt.alloc(), 4);
+    same(&rt, short, Err(ReadFault::Text(TextFault::Short)));
+    let many = counted(rt.alloc(), 5);
+    same(&rt, many, Err(ReadFault::Text(TextFault::Value)));
     Ok(())
 }
 
@@ -126,14 +145,14 @@ fn faults(rt: &impl Abort, alloc: Global, text: &mut Vec<u8>) {
         wrong(TextFault::Tag),
     );
     text[5] = 1;
-    // a string that is longer than the text, and a list
+    // a string that is longer than the text, and a list of more than it may have
     text[19] = 255;
     same(
         rt,
         read(alloc, front(text.as_slice(), 26)),
         wrong(TextFault::Short),
     );
-    same(rt, read(alloc, &[255; 4]), wrong(TextFault::Short));
+    same(rt, read(alloc, &[255; 4]), wrong(TextFault::Value));
 }
 
 /// The front of one sealed text and the back of another.
@@ -191,13 +210,10 @@ fn leaves(
 /// What is read of a text is written, for tables of at most one process with two handles.
 fn rewritten(alloc: Global, text: &[u8]) -> Result<Vec<u8>, ReadFault> {
     let mut from = Cursor::new(text);
-    let bodies = read_list::<Body>(alloc, &mut from)?;
+    let bodies = read_list::<Body>(alloc, &mut from, 4)?;
     let name = Name::read(alloc, &mut from)?;
-    let tables = Tables::read(alloc, 1, 2, &mut from)?;
+    let tables = Tables::read(alloc, 1, 2, 2, &mut from)?;
     from.end()?;
-    if bodies.len() > 4 {
-        return Err(ReadFault::Text(TextFault::Value));
-    }
     Ok(leaves(alloc, bodies.as_slice(), &name, &tables)?)
 }
 

@@ -323,6 +323,9 @@ const SMALL: &[Line<'static>] = &[
 /// has one.
 type Edit<'a> = (usize, &'a [u8], &'a [u8], Option<TextFault>);
 
+/// What the text has of that wait behind its deadline.
+const PENDING: &[u8] = &[0, 1, 0, 0, 0, 1, 0, 0, 0, 1, 0, 0, 0];
+
 /// Edits of what was saved behind these calls.
 #[rattlefmt::skip]
 const EDITS: &[Edit<'static>] = &[
@@ -331,10 +334,22 @@ const EDITS: &[Edit<'static>] = &[
     (4, &[1, 0], &[2, 0], Some(TextFault::Value)),
     (8, &[3, 0], &[0, 0], Some(TextFault::Value)),
     (46, &[0, 0], &[0, 255], Some(TextFault::Value)),
+    // counts of more than may stand there, before what they count: process and thread numbers, tables, places, waits,
+    // and the objects of one
+    (48, &[2, 0, 0, 0], &[6, 0, 0, 0], Some(TextFault::Value)),
+    (58, &[3, 0, 0, 0], &[6, 0, 0, 0], Some(TextFault::Value)),
+    (73, &[2, 0, 0, 0], &[255, 255, 255, 255], Some(TextFault::Value)),
+    (81, &[2, 0, 0, 0], &[1, 64, 0, 0], Some(TextFault::Value)),
+    (123, &[1, 0, 0, 0], &[4, 0, 0, 0], Some(TextFault::Value)),
+    (137, &[1, 0, 0, 0], &[65, 0, 0, 0], Some(TextFault::Value)),
+    // number 0 of a process, and a list without it
+    (52, &[0], &[1, 0, 0, 0, 0], Some(TextFault::Value)),
+    (48, &[2, 0, 0, 0, 0, 1, 1, 0, 0, 0], &[0, 0, 0, 0], Some(TextFault::Value)),
     // thread 2 of a process that isn't there
     (69, &[1, 0], &[2, 0], Some(TextFault::Value)),
-    // a table too many
+    // a table too many, and one too few
     (73, &[2, 0, 0, 0], &[3, 0, 0, 0, 0, 0, 0, 0], Some(TextFault::Value)),
+    (73, &[2, 0, 0, 0, 0, 0, 0, 0], &[1, 0, 0, 0], Some(TextFault::Value)),
     // entries of a free slot, and of a generation that isn't there
     (86, &[0, 0, 0, 0, 1, 0, 0, 0], &[2, 0, 0, 0, 1, 0, 0, 0], Some(TextFault::Value)),
     (86, &[0, 0, 0, 0, 1, 0, 0, 0], &[0, 0, 0, 0, 2, 0, 0, 0], Some(TextFault::Value)),
@@ -344,12 +359,30 @@ const EDITS: &[Edit<'static>] = &[
     // a wait of a thread that isn't there, and for an object that isn't
     (131, &[2, 0], &[3, 0], Some(TextFault::Value)),
     (141, &[1, 0, 0, 0, 1, 0, 0, 0], &[1, 0, 0, 0, 2, 0, 0, 0], Some(TextFault::Value)),
+    // answers: an index, that of an abandoned mutex, and that the time was up, each beside codes that are none
+    (136, PENDING, &[2, 63, 0, 0, 0], None),
+    (136, PENDING, &[2, 64, 0, 0, 0], Some(TextFault::Value)),
+    (136, PENDING, &[2, 127, 0, 0, 0], Some(TextFault::Value)),
+    (136, PENDING, &[2, 128, 0, 0, 0], None),
+    (136, PENDING, &[2, 191, 0, 0, 0], None),
+    (136, PENDING, &[2, 192, 0, 0, 0], Some(TextFault::Value)),
+    (136, PENDING, &[2, 1, 1, 0, 0], Some(TextFault::Value)),
+    (136, PENDING, &[2, 2, 1, 0, 0], None),
+    (136, PENDING, &[2, 3, 1, 0, 0], Some(TextFault::Value)),
     // owners: one that isn't live, and another that is
     (177, &[1, 1, 0], &[1, 3, 0], Some(TextFault::Value)),
     (177, &[1, 1, 0], &[1, 2, 0], None),
     // names: one that two have, and another
     (196, b"A", b"E", Some(TextFault::Value)),
     (196, b"A", b"B", None),
+    // bytes that no name has, each beside one that names have, a name without bytes, and a count of too many
+    (196, b"A", &[31], Some(TextFault::Value)),
+    (196, b"A", b" ", None),
+    (196, b"A", b"~", None),
+    (196, b"A", &[127], Some(TextFault::Value)),
+    (196, b"A", b"\\", Some(TextFault::Value)),
+    (192, &[1, 0, 0, 0, 65], &[0, 0, 0, 0], Some(TextFault::Value)),
+    (192, &[1, 0, 0, 0], &[0, 1, 0, 0], Some(TextFault::Short)),
     // the event is set, so that the wait for it is satisfied
     (224, &[0, 0, 0], &[0, 0, 1], Some(TextFault::Value)),
     // the free slot: of generation 0, past the last, of another, and retired before the last
@@ -362,6 +395,38 @@ const EDITS: &[Edit<'static>] = &[
     (241, &[0, 0], &[2, 0], Some(TextFault::Tag)),
     (241, &[0, 0], &[0], Some(TextFault::Short)),
     (241, &[0, 0], &[0, 0, 0], Some(TextFault::Trailing)),
+];
+
+/// A timer that is set, a mutex that thread 1 owns, a semaphore, and a process that is gone.
+#[rattlefmt::skip]
+const KINDS: &[Line<'static>] = &[
+    (Spawn { session: 1 }, Spawned { process: 1, thread: 1 }),
+    (Spawn { session: 1 }, Spawned { process: 2, thread: 2 }),
+    (MakeTimer { thread: 1, make: PLAIN, manual: false }, Made { handle: 4, id: FIRST }),
+    (SetTimer { thread: 1, handle: 4, due: -50_000 }, Done),
+    (MakeMutex { thread: 1, make: PLAIN, owned: true }, Made { handle: 8, id: SECOND }),
+    (MakeSemaphore { thread: 1, make: PLAIN, initial: 1, max: 2 }, Made { handle: 12, id: THIRD }),
+    (Exit { process: 2 }, Exited { process: 2 }),
+];
+
+/// Edits of what was saved behind these.
+#[rattlefmt::skip]
+const EDITS_OF_KINDS: &[Edit<'static>] = &[
+    // the timer: signaled while it is set, signaled and set no longer, due already, and of the other kind
+    (174, &[0, 1], &[1, 1], Some(TextFault::Value)),
+    (174, &[0, 1, 80, 195, 0, 0, 0, 0, 0, 0], &[1, 0], None),
+    (176, &[80, 195], &[0, 0], Some(TextFault::Value)),
+    (173, &[0], &[1], Some(TextFault::Value)),
+    // the mutex: owned no times, owned and abandoned, nobody's but owned once, and nobody's and abandoned
+    (218, &[1, 0, 0, 0], &[0, 0, 0, 0], Some(TextFault::Value)),
+    (222, &[0], &[1], Some(TextFault::Value)),
+    (213, &[1, 1, 0, 0, 0, 1, 0, 0, 0, 0], &[0, 1, 0, 0, 0, 0], Some(TextFault::Value)),
+    (213, &[1, 1, 0, 0, 0, 1, 0, 0, 0, 0], &[0, 0, 0, 0, 0, 1], None),
+    // the semaphore: past its maximum, at it, and without one, in its descriptor too
+    (252, &[1], &[3], Some(TextFault::Value)),
+    (252, &[1], &[2], None),
+    (252, &[1, 0, 0, 0, 2], &[0, 0, 0, 0, 0], Some(TextFault::Value)),
+    (238, &[18], &[2], Some(TextFault::Value)),
 ];
 
 /// A text with other bytes at a place, and behind it its digest.
@@ -434,13 +499,31 @@ fn changes_are_refused(rt: &impl Abort, alloc: Global, bytes: &mut Vec<u8>) {
     }
 }
 
-/// The same of the text in a savestate.
-fn edits_are_refused(rt: &impl Abort, alloc: Global, bytes: &[u8]) -> Result<(), AllocError> {
+/// The same of the text in a savestate, which has so many bytes.
+fn edits_are_refused(
+    rt: &impl Abort,
+    alloc: Global,
+    bytes: &[u8],
+    len: usize,
+    edits: &[Edit<'_>],
+) -> Result<(), AllocError> {
     let Ok(text) = unseal(bytes) else {
         panic!(rt; "no savestate")
     };
-    same(rt, text.len(), 243);
-    edits_are_told(rt, alloc, text, EDITS)
+    same(rt, text.len(), len);
+    edits_are_told(rt, alloc, text, edits)
+}
+
+/// Plays calls, and tries edits of what is saved then.
+fn tries_kinds(
+    rt: &impl Abort,
+    alloc: Global,
+    manager: &mut Manager<LockedPins>,
+) -> Result<(), Fault> {
+    answers(rt, alloc, manager, KINDS)?;
+    let bytes = saved(alloc, manager)?;
+    edits_are_refused(rt, alloc, bytes.as_slice(), 273, EDITS_OF_KINDS)?;
+    Ok(())
 }
 
 /// Plays the calls, and tries what is saved then, cut, changed and edited.
@@ -451,7 +534,7 @@ fn tries_edits(
 ) -> Result<(), Fault> {
     answers(rt, alloc, manager, SMALL)?;
     let mut bytes = saved(alloc, manager)?;
-    edits_are_refused(rt, alloc, bytes.as_slice())?;
+    edits_are_refused(rt, alloc, bytes.as_slice(), 243, EDITS)?;
     changes_are_refused(rt, alloc, &mut bytes);
     same(rt, load_fault(alloc, bytes.as_slice()), None);
     bytes.push(0)?;
@@ -468,6 +551,16 @@ fn what_is_no_savestate_is_refused(rt: HostRuntime) -> Result<(), Fail> {
     let limits = Limits::checked(3, 4, 4, 4, 4, 4, 4, 4)?;
     let mut manager = locked_manager(rt.alloc(), limits)?;
     let tried = tries_edits(&rt, rt.alloc(), &mut manager);
+    drop(manager);
+    tried?;
+    Ok(())
+}
+
+#[test]
+fn kinds_that_no_calls_make_are_refused(rt: HostRuntime) -> Result<(), Fail> {
+    let limits = Limits::checked(5, 4, 4, 4, 4, 4, 4, 4)?;
+    let mut manager = locked_manager(rt.alloc(), limits)?;
+    let tried = tries_kinds(&rt, rt.alloc(), &mut manager);
     drop(manager);
     tried?;
     Ok(())

@@ -1,10 +1,10 @@
-ghost use Rattle.std.specs.Prelude.{◌≤◌, length};
+ghost use Rattle.std.specs.Prelude.{◌≤◌};
 
 use crate::tests::{holds, marked, next, same};
-use ob_name::{Directory, Name, NameRef, Space};
+use ob_name::{Directory, Name, NameRef, Space, parse};
 use ob_rights::Fault;
 use pin_core::Id;
-use std::alloc::{AllocError, Global};
+use std::alloc::Global;
 use std::process::Abort;
 use std::test::Fail;
 
@@ -15,13 +15,8 @@ fn id(slot: u32) -> Id {
     }
 }
 
-fn local(base: &[u8]) -> NameRef<'_>
-    requires { length base.now ≤ 260 }
-{
-    NameRef {
-        space: Space::of_session(1),
-        base,
-    }
+fn local(base: &[u8]) -> Result<NameRef<'_>, Fault> {
+    parse(base, 1)
 }
 
 fn is_row(directory: &Directory, at: usize, space: Space, base: &[u8], slot: u32) -> bool {
@@ -69,12 +64,12 @@ fn come_and_go(rt: &impl Abort, directory: &mut Directory, most: u32) -> Result<
     requires { most ≤ 1000 }
 {
     for n in 0..most {
-        entered(rt, directory, &local(&digits(n)), n)?;
+        entered(rt, directory, &local(&digits(n))?, n)?;
     }
     same(rt, directory.len(), most as usize);
     for n in 0..most / 2 {
         let gone = 2 * n;
-        same(rt, directory.remove(&local(&digits(gone))), Some(id(gone)));
+        same(rt, directory.remove(&local(&digits(gone))?), Some(id(gone)));
     }
     for n in 0..most / 2 {
         let stays = 2 * n + 1;
@@ -88,11 +83,11 @@ fn come_and_go(rt: &impl Abort, directory: &mut Directory, most: u32) -> Result<
                 stays,
             ),
         );
-        same(rt, directory.find(&local(&digits(2 * n))), None);
+        same(rt, directory.find(&local(&digits(2 * n))?), None);
     }
     for n in (0..most / 2).rev() {
         let gone = 2 * n + 1;
-        same(rt, directory.remove(&local(&digits(gone))), Some(id(gone)));
+        same(rt, directory.remove(&local(&digits(gone))?), Some(id(gone)));
         same(rt, directory.len(), n as usize);
     }
     Ok(())
@@ -105,16 +100,12 @@ fn calls_but_reserve_take_no_memory(rt: HostRuntime) -> Result<(), Fail> {
 }
 
 /// Enters names that aren't there and removes those that are, so often in all.
-fn enter_and_remove_any(
-    alloc: Global,
-    directory: &mut Directory,
-    often: u32,
-) -> Result<(), AllocError> {
+fn enter_and_remove_any(alloc: Global, directory: &mut Directory, often: u32) -> Result<(), Fault> {
     let mut seed = 1;
     for turn in 0..often {
         seed = next(seed);
         let base = digits(seed >> 26);
-        let name = local(&base);
+        let name = local(&base)?;
         let _row = directory.row((seed >> 26) as usize);
         if directory.find(&name).is_some() {
             let mark = marked(alloc)?;

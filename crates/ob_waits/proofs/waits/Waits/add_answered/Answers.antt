@@ -21,6 +21,6 @@ invariant_of-self-2 c =
     subst (λ (ws : List (Option Wait)). IsTracked s.limit ws s.roster × AreTimely s.clock ws s.deadlines)
     (sym c.in_ok-push_answered.ensures.ok) (
       tracked_answered s.limit s.live s.roster a.thread a.code a.deadline
-          (omega (arith, len)) below alone c.self.invariant.0,
+          (omega (arith, len)) below c.requires.coded alone c.self.invariant.0,
       timely_answered s.clock s.live a.thread a.code a.deadline s.deadlines alone c.self.invariant.1,
     )

@@ -1,4 +1,4 @@
-use Rattle.std.proofs.Common.{◌≡◌, None, List, Option, true, subst, sym, get_or}
+use Rattle.std.proofs.Common.{◌≡◌, None, List, Option, refl, true, subst, sym, get_or}
 use Rattle.ob_waits.specs.declared.wait.Wait.{Wait}
 use Rattle.ob_waits.specs.Waits.{WaitList, is_pending}
 use Rattle.ob_waits.specs.Roster.{IsTracked}
@@ -11,7 +11,7 @@ pub invariant_of-self : goal.invariant_of-self
 invariant_of-self c =
     let pending : is_pending (get_or c.self.inside.live c.args.wait None) ≡ true =
     subst (λ (l : WaitList). is_pending (get_or l.waits c.args.wait None) ≡ true) (sym c.self.view_is) c.requires in
-    let fade = fade_answered c.self.inside.live c.args.wait 258 pending in
+    let fade = fade_answered c.self.inside.live c.args.wait 258 refl pending in
     subst (λ (ws : List (Option Wait)). IsTracked c.self.inside.limit ws c.self.inside.roster
     × AreTimely c.self.inside.clock ws c.self.inside.deadlines) (sym c.answer.ensures) (
       tracked_faded c.self.inside.limit c.self.inside.live _ c.self.inside.roster fade c.self.invariant.0,
