@@ -3,7 +3,9 @@
  *
  * Each savestate is spoiled as well: a byte is changed, some are cut off at an end, it stands there twice, or has the digest of another.
  * None of these is loaded, and what stood at the place stays. Bytes that are changed and have the digest that is theirs may be one: then
- * what was loaded is saved as just these bytes, and can make calls. */
+ * what was loaded is saved as just these bytes, and can make calls.
+ *
+ * One more manager has a savestate of over a megabyte, which is saved, loaded and saved again. */
 #include "calls.h"
 
 #include <stdlib.h>
@@ -256,6 +258,31 @@ static void live_twice(calls *c) {
     free(b.at);
 }
 
+/* As many objects as a process may have handles to, each with a name. */
+static void save_much(void) {
+    om_limits limits = OM_LIMITS_MOST;
+    om_making making = {0, 0, false, false, false, false};
+    om_manager m, again;
+    om_member member;
+    om_opening opening;
+    making.named = true;
+    must(om_new(&limits, &m) == OM_SUCCESS && om_spawn(&m, 1, &member) == OM_SUCCESS, "no manager");
+    for (uint32_t number = 0; number < limits.handles; number++) {
+        char name[40];
+        int length = snprintf(name, sizeof name, "an object with the number %u", number);
+        must(om_create_event(&m, member.thread, &making, name, (size_t)length, false, false, &opening) == OM_SUCCESS, "no object");
+    }
+    bytes b = saved(&m);
+    must(b.length > 1 << 20, "a savestate of less than a megabyte");
+    again = loaded(b);
+    bytes other = saved(&again);
+    must(are_same(b, other), "one state, two spellings");
+    om_free(again);
+    om_free(m);
+    free(other.at);
+    free(b.at);
+}
+
 int main(int count, char **words) {
     must(count == 3, "COUNT SEED");
     long calls_due = atol(words[1]);
@@ -271,6 +298,7 @@ int main(int count, char **words) {
         }
         end_manager(&c);
     }
+    save_much();
     must(fclose(nothing) == 0, "a file wasn't written");
     printf("%lu savestates, %lu spoiled ones refused, %lu that were changed and sealed are ones\n", savestates, spoiled, others);
     return 0;

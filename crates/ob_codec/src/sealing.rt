@@ -1,4 +1,4 @@
-ghost use Rattle.std.specs.Prelude.{◌≡◌, OnOk};
+ghost use Rattle.std.specs.Prelude.{◌≡◌, ◌≢◌, Err, OnOk};
 ghost use Rattle.ob_codec.specs.Reading.{GivesAll};
 ghost use Rattle.ob_codec.specs.Sealing.{sealed, unsealed};
 
@@ -20,7 +20,8 @@ pub fn seal(text: &mut Vec<u8>) -> Result<(), AllocError>
 /// The text before its digest: [`TextFault::Short`] where there are fewer bytes than a digest has, and
 /// [`TextFault::Digest`] where the digest is another one.
 pub fn unseal(bytes: &[u8]) -> Result<&[u8], ReadFault>
-    ensures { GivesAll (λ text. text.now) result (unsealed bytes.now) }
+    ensures gives { GivesAll (λ text. text.now) result (unsealed bytes.now) }
+    ensures known { result ≢ Err ReadFault.Memory }
 {
     if bytes.len() < DIGEST {
         return Err(ReadFault::Text(TextFault::Short));

@@ -1,10 +1,15 @@
 -- Every call may be answered, in any state whose slots may be pinned at all, and whatever a reader holds.
-use Rattle.std.proofs.Common.{◌≡◌, ℕ, ◌<◌, List, Bool, true, false, cond, not, Option, Some, None, Result, Ok, Err, inl, refl, ap, arith}
+use Rattle.std.proofs.Common.{◌≡◌, ℕ, ◌<◌, List, ◌∷◌, Bool, true, false, cond, not, Option, Some, None, Result, Ok, Err, inr, refl, ap, sym, arith}
 use Rattle.std.specs.Prelude.{◌||◌, is_ok, nat_le, nat_lt, slice_index_or}
 use Rattle.pin_core.specs.declared.id.Id.{Id}
+use Rattle.pin_core.specs.declared.word.Word.{Word}
+use Rattle.pin_core.specs.Words.{decoded, encoded}
+use Rattle.pin_core.specs.Worlds.{slot_of}
 use Rattle.pin_words.specs.declared.pin_keeper.Reclaim.{Reclaim}
 use Rattle.pin_words.specs.declared.pin_keeper.Reclaim.TheVariants as reclaim
-use Rattle.pin_words.specs.Keepers.{KeeperState}
+use Rattle.pin_words.specs.Keepers.{KeeperState, ReclaimsFound, with_looks}
+use Rattle.pin_words.specs.Views.{look}
+use Rattle.pin_words.proofs.Bits.{decoded-encoded}
 use Rattle.ob_rights.specs.declared.fault.Fault.{Fault}
 use Rattle.ob_rights.specs.declared.fault.Fault.TheVariants as fault
 use Rattle.ob_rights.specs.declared.kind.Kind.TheVariants as kind
@@ -38,21 +43,22 @@ use Rattle.ob_manager.specs.Ending.{end_thread, exit}
 use Rattle.ob_manager.specs.Signaling.{modify_state, set_event, reset_event, release_semaphore, release_mutex}
 use Rattle.ob_manager.specs.Timing.{set_timer, cancel_timer, tick}
 use Rattle.ob_manager.specs.Counting.{counts, object_of}
-use Rattle.ob_manager.specs.Reaping.{if_ended, reap}
+use Rattle.ob_manager.specs.Reaping.{IfReap, if_ended, reap}
 use Rattle.ob_manager.specs.Steps.{Step, does, lacks, outcome_of, takes_memory, final, KeeperAfter}
-use Rattle.ob_console.specs.Runs.{Spares}
+use Rattle.ob_console.specs.Runs.{Looks, Spares}
 use Rattle.ob_console.proofs.Sparing.{reaped_as}
 
--- an answer to a call, by which no slot is taken back where something is held
+-- an answer to a call, by which no slot is taken back where something is held, and a slot is held by its pins
 pub record CanAnswer (w : Whole) (call : Call) : Type 0 where
   pub reply : Reply
   pub next : Whole
   pub step : Step w call reply next
+  pub looks : Looks w.keeper call reply next.keeper
   pub spares : (held : List Id) → Spares held call reply
 
--- no answer to the call takes a slot back
-abbrev SparesAll : Call → Type 0
-SparesAll call = (held : List Id) (reply : Reply) → Spares held call reply
+-- the call asks for no slot
+abbrev AsksNoSlot : Call → Type 1
+AsksNoSlot call = (P : ℕ → Type 0) → IfReap call P
 
 -- a reply of this outcome leaves the keeper as it is
 abbrev Rests : Result Outcome Fault → KeeperState → Type 0
@@ -65,36 +71,71 @@ rests_behind k (Ok x) f rests = rests x
 rests_behind k (Err fault) f rests = tt
 
 -- a call whose outcome is determined
-answered : (w : Whole) (call : Call) (outcome : Result Outcome Fault) → SparesAll call
+answered : (w : Whole) (call : Call) (outcome : Result Outcome Fault) → AsksNoSlot call
     → ((reply : Reply) → outcome_of w.state call reply ≡ outcome) → Rests outcome w.keeper → CanAnswer w call
-answered w call (Ok outcome) spares is rests = record {
+answered w call (Ok outcome) none is rests = record {
   reply = outcome.reply;
   next = record { state = outcome.state; keeper = w.keeper };
   step = does (ap (final w.state) (is outcome.reply)) rests;
-  spares = λ held. spares held outcome.reply;
+  looks = none _;
+  spares = λ held. none _;
 }
-answered w call (Err fault) spares is rests = record {
+answered w call (Err fault) none is rests = record {
   reply = Refused fault;
   next = w;
   step = does (ap (final w.state) (is (Refused fault))) refl;
-  spares = λ held. spares held (Refused fault);
+  looks = none _;
+  spares = λ held. none _;
 }
 
 -- a call that takes memory, where it is wanting
-refused : (w : Whole) (call : Call) (outcome : Result Outcome Fault) → SparesAll call → takes_memory w.state call ≡ true
+refused : (w : Whole) (call : Call) (outcome : Result Outcome Fault) → AsksNoSlot call → takes_memory w.state call ≡ true
     → ((reply : Reply) → outcome_of w.state call reply ≡ outcome) → CanAnswer w call
-refused w call (Ok outcome) spares takes is = record {
+refused w call (Ok outcome) none takes is = record {
   reply = Refused fault.Memory;
   next = w;
   step = lacks takes (ap is_ok (is (Refused fault.Memory))) refl refl;
-  spares = λ held. spares held (Refused fault.Memory);
+  looks = none _;
+  spares = λ held. none _;
 }
-refused w call (Err fault) spares takes is = record {
+refused w call (Err fault) none takes is = record {
   reply = Refused fault;
   next = w;
   step = does (ap (final w.state) (is (Refused fault))) refl;
-  spares = λ held. spares held (Refused fault);
+  looks = none _;
+  spares = λ held. none _;
 }
+
+-- the word of the slot, with one pin
+abbrev pinned_word : KeeperState → ℕ → Word
+pinned_word k slot = record {
+  generation = (slot_of k.slots slot).generation;
+  phase = (slot_of k.slots slot).phase;
+  pins = 1;
+}
+
+-- the keeper finds that
+abbrev found_pinned : KeeperState → ℕ → KeeperState
+found_pinned k slot = with_looks k (look slot (encoded (pinned_word k slot)) ∷ k.looks)
+
+finds_pinned : (k : KeeperState) (slot : ℕ) → 0 < k.shape.max_pins
+    → ReclaimsFound k slot (reclaim.Held 1) (found_pinned k slot)
+finds_pinned k slot pins = (
+  encoded (pinned_word k slot),
+  record {
+    generation = ap (λ (w : Word). w.generation) is;
+    phase = ap (λ (w : Word). w.phase) is;
+    room = rw one (omega (arith, pins));
+  },
+  λ none. absurd (let c : ⊥ = omega (arith, one, none) in c),
+  λ some. (refl, ap reclaim.Held (sym one)),
+)
+  where
+    is : decoded (encoded (pinned_word k slot)) ≡ pinned_word k slot
+    is = decoded-encoded (pinned_word k slot) (omega arith)
+
+    one : (decoded (encoded (pinned_word k slot))).pins ≡ 1
+    one = ap (λ (w : Word). w.pins) is
 
 -- a slot that is reaped may be pinned
 held_back : (w : Whole) (slot : ℕ) (there : Result (Unit {0}) Fault) (ended : Result Id Fault)
@@ -104,18 +145,25 @@ held_back w slot (Err fault) ended pins is = record {
   reply = Refused fault;
   next = w;
   step = does (ap (final w.state) (is reclaim.Freed)) refl;
+  looks = tt;
   spares = λ held. tt;
 }
 held_back w slot (Ok unit) (Err fault) pins is = record {
   reply = Refused fault;
   next = w;
   step = does (ap (final w.state) (is reclaim.Freed)) refl;
+  looks = tt;
   spares = λ held. tt;
 }
 held_back w slot (Ok unit) (Ok id) pins is = record {
   reply = Reaped id (reclaim.Held 1);
-  next = record { state = settled (after_reclaim w.state slot (reclaim.Held 1)); keeper = w.keeper };
-  step = does (ap (final w.state) (is (reclaim.Held 1))) (refl, omega arith, omega (arith, pins), inl refl);
+  next = record {
+    state = settled (after_reclaim w.state slot (reclaim.Held 1));
+    keeper = found_pinned w.keeper id.slot;
+  };
+  step = does (ap (final w.state) (is (reclaim.Held 1)))
+      (refl, omega arith, omega (arith, pins), inr (encoded (pinned_word w.keeper id.slot), refl));
+  looks = finds_pinned w.keeper id.slot pins;
   spares = λ held. tt;
 }
 
@@ -168,29 +216,29 @@ copy_rests s entry source handle (Some target) mask inherit options k closing =
     by false (Err e) = tt
 
 pub can_answer : (w : Whole) (call : Call) → 0 < w.keeper.shape.max_pins → CanAnswer w call
-can_answer w (calls.Spawn session) pins = refused w (calls.Spawn session) _ (λ held reply. tt) refl (λ reply. refl)
-can_answer w (calls.Child thread inherit) pins = refused w (calls.Child thread inherit) _ (λ held reply. tt) refl
+can_answer w (calls.Spawn session) pins = refused w (calls.Spawn session) _ (λ P. tt) refl (λ reply. refl)
+can_answer w (calls.Child thread inherit) pins = refused w (calls.Child thread inherit) _ (λ P. tt) refl
     (λ reply. refl)
-can_answer w (calls.StartThread process) pins = refused w (calls.StartThread process) _ (λ held reply. tt) refl
+can_answer w (calls.StartThread process) pins = refused w (calls.StartThread process) _ (λ P. tt) refl
     (λ reply. refl)
 can_answer w (calls.MakeEvent thread make manual set) pins =
-    refused w (calls.MakeEvent thread make manual set) _ (λ held reply. tt) refl (λ reply. refl)
+    refused w (calls.MakeEvent thread make manual set) _ (λ P. tt) refl (λ reply. refl)
 can_answer w (calls.MakeMutex thread make owned) pins =
-    refused w (calls.MakeMutex thread make owned) _ (λ held reply. tt) refl (λ reply. refl)
+    refused w (calls.MakeMutex thread make owned) _ (λ P. tt) refl (λ reply. refl)
 can_answer w (calls.MakeSemaphore thread make initial max) pins =
-    refused w (calls.MakeSemaphore thread make initial max) _ (λ held reply. tt) refl (λ reply. refl)
+    refused w (calls.MakeSemaphore thread make initial max) _ (λ P. tt) refl (λ reply. refl)
 can_answer w (calls.MakeTimer thread make manual) pins =
-    refused w (calls.MakeTimer thread make manual) _ (λ held reply. tt) refl (λ reply. refl)
+    refused w (calls.MakeTimer thread make manual) _ (λ P. tt) refl (λ reply. refl)
 can_answer w (calls.OpenNamed thread kind mask inherit text) pins =
     answered w (calls.OpenNamed thread kind mask inherit text) (open_named w.state thread kind mask inherit text)
-    (λ held reply. tt) (λ reply. refl)
+    (λ P. tt) (λ reply. refl)
     (rests_behind w.keeper (caller w.state thread) _
     (λ process. rests_behind w.keeper (name_in w.state process text) _
     (λ name. rests_behind w.keeper (or_refuse (find_name name (directory_of w.state)) fault.NotFound) _ (λ id.
     rests_behind w.keeper (new_handle w.state process id kind mask inherit) _ (λ after. refl)))))
 can_answer w (calls.Duplicate thread source handle target mask inherit options) pins =
     answered w (calls.Duplicate thread source handle target mask inherit options)
-    (duplicate w.state thread source handle target mask inherit options) (λ held reply. tt) (λ reply. refl)
+    (duplicate w.state thread source handle target mask inherit options) (λ P. tt) (λ reply. refl)
     (rests_behind w.keeper (caller w.state thread) _
     (λ process. rests_behind w.keeper (or_refuse (slice_index_or w.state.processes source None) fault.Parameter) _
     (λ session.
@@ -199,35 +247,35 @@ can_answer w (calls.Duplicate thread source handle target mask inherit options) 
     (λ entry. rests_behind w.keeper (refuse_if (is_stuck target entry) fault.Handle) _ (λ free.
     copy_rests w.state entry source handle target mask inherit options w.keeper (leaves options entry)))))))
 can_answer w (calls.CloseHandle thread handle) pins =
-    answered w (calls.CloseHandle thread handle) (close w.state thread handle) (λ held reply. tt) (λ reply. refl)
+    answered w (calls.CloseHandle thread handle) (close w.state thread handle) (λ P. tt) (λ reply. refl)
     (rests_behind w.keeper (caller w.state thread) _
     (λ process. rests_behind w.keeper (found w.state process handle) _
     (λ entry. rests_behind w.keeper (refuse_if (is_protected entry.flags) fault.Handle) _ (λ free. refl))))
 can_answer w (calls.GetFlags thread handle) pins =
-    answered w (calls.GetFlags thread handle) (handle_flags w.state thread handle) (λ held reply. tt) (λ reply. refl)
+    answered w (calls.GetFlags thread handle) (handle_flags w.state thread handle) (λ P. tt) (λ reply. refl)
     (rests_behind w.keeper (caller w.state thread) _
     (λ process. rests_behind w.keeper (found w.state process handle) _ (λ entry. refl)))
 can_answer w (calls.SetFlags thread handle mask flags) pins =
     answered w (calls.SetFlags thread handle mask flags) (set_handle_flags w.state thread handle mask flags)
-    (λ held reply. tt) (λ reply. refl)
+    (λ P. tt) (λ reply. refl)
     (rests_behind w.keeper (caller w.state thread) _
     (λ process. rests_behind w.keeper (refuse_if (nat_lt 3 mask) fault.Parameter) _
     (λ known. rests_behind w.keeper (found w.state process handle) _ (λ entry. refl))))
 can_answer w (calls.SetEvent thread handle) pins =
-    answered w (calls.SetEvent thread handle) (set_event w.state thread handle) (λ held reply. tt) (λ reply. refl)
+    answered w (calls.SetEvent thread handle) (set_event w.state thread handle) (λ P. tt) (λ reply. refl)
     (rests_behind w.keeper (caller w.state thread) _
     (λ process. rests_behind w.keeper (found w.state process handle) _ (λ entry.
     rests_behind w.keeper (body_of w.state entry.id kind.Event) _
     (λ event. rests_behind w.keeper (granted modify_state entry) _ (λ granted. refl)))))
 can_answer w (calls.ResetEvent thread handle) pins =
-    answered w (calls.ResetEvent thread handle) (reset_event w.state thread handle) (λ held reply. tt) (λ reply. refl)
+    answered w (calls.ResetEvent thread handle) (reset_event w.state thread handle) (λ P. tt) (λ reply. refl)
     (rests_behind w.keeper (caller w.state thread) _
     (λ process. rests_behind w.keeper (found w.state process handle) _ (λ entry.
     rests_behind w.keeper (body_of w.state entry.id kind.Event) _
     (λ event. rests_behind w.keeper (granted modify_state entry) _ (λ granted. refl)))))
 can_answer w (calls.ReleaseSemaphore thread handle count) pins =
     answered w (calls.ReleaseSemaphore thread handle count) (release_semaphore w.state thread handle count)
-    (λ held reply. tt) (λ reply. refl)
+    (λ P. tt) (λ reply. refl)
     (rests_behind w.keeper (caller w.state thread) _
     (λ process. rests_behind w.keeper (or_refuse (positive count) fault.Parameter) _
     (λ more. rests_behind w.keeper (found w.state process handle) _ (λ entry.
@@ -235,54 +283,54 @@ can_answer w (calls.ReleaseSemaphore thread handle count) pins =
     (λ semaphore. rests_behind w.keeper (granted modify_state entry) _
     (λ granted. rests_behind w.keeper (post_answer more semaphore) _ (λ previous. refl)))))))
 can_answer w (calls.ReleaseMutex thread handle) pins =
-    answered w (calls.ReleaseMutex thread handle) (release_mutex w.state thread handle) (λ held reply. tt)
+    answered w (calls.ReleaseMutex thread handle) (release_mutex w.state thread handle) (λ P. tt)
     (λ reply. refl)
     (rests_behind w.keeper (caller w.state thread) _
     (λ process. rests_behind w.keeper (found w.state process handle) _ (λ entry.
     rests_behind w.keeper (body_of w.state entry.id kind.Mutex) _
     (λ mutex. rests_behind w.keeper (unlock_answer thread mutex) _ (λ released. refl)))))
 can_answer w (calls.SetTimer thread handle due) pins =
-    answered w (calls.SetTimer thread handle due) (set_timer w.state thread handle due) (λ held reply. tt)
+    answered w (calls.SetTimer thread handle due) (set_timer w.state thread handle due) (λ P. tt)
     (λ reply. refl)
     (rests_behind w.keeper (caller w.state thread) _
     (λ process. rests_behind w.keeper (found w.state process handle) _ (λ entry.
     rests_behind w.keeper (body_of w.state entry.id kind.Timer) _
     (λ timer. rests_behind w.keeper (granted modify_state entry) _ (λ granted. refl)))))
 can_answer w (calls.CancelTimer thread handle) pins =
-    answered w (calls.CancelTimer thread handle) (cancel_timer w.state thread handle) (λ held reply. tt) (λ reply. refl)
+    answered w (calls.CancelTimer thread handle) (cancel_timer w.state thread handle) (λ P. tt) (λ reply. refl)
     (rests_behind w.keeper (caller w.state thread) _
     (λ process. rests_behind w.keeper (found w.state process handle) _ (λ entry.
     rests_behind w.keeper (body_of w.state entry.id kind.Timer) _
     (λ timer. rests_behind w.keeper (granted modify_state entry) _ (λ granted. refl)))))
-can_answer w (calls.Tick now) pins = answered w (calls.Tick now) (tick w.state now) (λ held reply. tt) (λ reply. refl)
+can_answer w (calls.Tick now) pins = answered w (calls.Tick now) (tick w.state now) (λ P. tt) (λ reply. refl)
     (rests_behind w.keeper (refuse_if (nat_lt now w.state.clock || nat_lt last_moment now) fault.Parameter) _
     (λ right. refl))
 can_answer w (calls.WaitFor thread mode timeout handles) pins =
-    answered w (calls.WaitFor thread mode timeout handles) (wait w.state thread mode timeout handles) (λ held reply. tt)
+    answered w (calls.WaitFor thread mode timeout handles) (wait w.state thread mode timeout handles) (λ P. tt)
     (λ reply. refl)
     (rests_behind w.keeper (caller w.state thread) _
     (λ process. rests_behind w.keeper (refuse_if (is_misshapen handles) fault.Parameter) _ (λ shaped.
     rests_behind w.keeper (objects_of w.state process handles) _
     (λ ids. wait_rests w.state thread mode timeout ids w.keeper))))
 can_answer w (calls.WaitResult number) pins = answered w (calls.WaitResult number) (wait_result w.state number)
-    (λ held reply. tt) (λ reply. refl)
+    (λ P. tt) (λ reply. refl)
     (rests_behind w.keeper (or_refuse (state_at (slice_index_or w.state.waits number None)) fault.Parameter) _
     (λ x. shown_rests w.state number x w.keeper))
 can_answer w (calls.Expire number) pins = answered w (calls.Expire number) (waiting.expire w.state number)
-    (λ held reply. tt) (λ reply. refl)
+    (λ P. tt) (λ reply. refl)
     (rests_behind w.keeper (refuse_if (not (is_pending (slice_index_or w.state.waits number None))) fault.Parameter) _
     (λ pending. refl))
 can_answer w (calls.EndThread thread) pins = answered w (calls.EndThread thread) (end_thread w.state thread)
-    (λ held reply. tt) (λ reply. refl)
+    (λ P. tt) (λ reply. refl)
     (rests_behind w.keeper (or_refuse (slice_index_or w.state.threads thread None) fault.Parameter) _ (λ process. refl))
-can_answer w (calls.Exit process) pins = answered w (calls.Exit process) (exit w.state process) (λ held reply. tt)
+can_answer w (calls.Exit process) pins = answered w (calls.Exit process) (exit w.state process) (λ P. tt)
     (λ reply. refl)
     (rests_behind w.keeper (or_refuse (slice_index_or w.state.processes process None) fault.Parameter) _
     (λ session. refl))
 can_answer w (calls.Reap slot) pins = held_back w slot (refuse_if (nat_le w.state.limits.slots slot) fault.Parameter)
     (if_ended (slice_index_or w.state.objects slot None) (slice_index_or w.state.bodies slot None)) pins
     (λ outcome. refl)
-can_answer w (calls.Counts id) pins = answered w (calls.Counts id) (counts w.state id) (λ held reply. tt)
+can_answer w (calls.Counts id) pins = answered w (calls.Counts id) (counts w.state id) (λ P. tt)
     (λ reply. refl)
     (rests_behind w.keeper (refuse_if (nat_le w.state.limits.slots id.slot) fault.Parameter) _
     (λ there. rests_behind w.keeper (or_refuse (object_of w.state id) fault.Handle) _ (λ found. refl)))

@@ -1,5 +1,5 @@
 -- A try to pin between two meetings.
-use Rattle.std.proofs.Common.{◌≡◌, ◌==◌, ℕ, ◌<◌, ◌≤◌, Bool, true, false, List, Option, Some, None, slice_index_or, length, sym, refl, ap, subst, ◌∙◌, inl, inr, arith}
+use Rattle.std.proofs.Common.{◌≡◌, ◌≢◌, ◌==◌, ℕ, ◌<◌, ◌≤◌, Bool, true, false, List, [], ◌∷◌, ◌++◌, Option, Some, None, slice_index_or, length, sym, refl, ap, subst, ◌∙◌, inl, inr, arith}
 use Rattle.std.specs.Prelude.{Result, Ok, Err}
 use Rattle.std.proofs.Math.ListN.{get_or-map}
 use Rattle.std.proofs.lemmas.Grind.{common_steps}
@@ -23,7 +23,7 @@ use Rattle.pin_words.specs.Plays.{Show, TellsReader, NoLater, Behind}
 use Rattle.pin_words.specs.Shown.{word_age}
 use Rattle.pin_words.specs.Tries.{FollowsLook}
 use Rattle.pin_words.specs.Verdicts.{verdict_of}
-use Rattle.pin_words.specs.Views.{is_of_slot, reader_looked, reader_got, reader_noted}
+use Rattle.pin_words.specs.Views.{is_of_slot, look, reader_looked, reader_got, reader_noted}
 use Rattle.ob_body.specs.declared.body.Body.{Body}
 use Rattle.ob_store.specs.Agreement.{Agrees}
 use Rattle.ob_store.specs.Consistent.{IsConsistent}
@@ -31,13 +31,13 @@ use Rattle.ob_store.specs.Meetings.{IsFound, IsMet}
 use Rattle.ob_store.specs.Objects.{Object}
 use Rattle.ob_store.specs.State.{State, Whole, generation_of, shape_of}
 use Rattle.ob_console.specs.Attempts.{Attempts, Told}
-use Rattle.ob_console.specs.Pinning.{IsWord, IsPinned, IsBusy, Judged, Pins, phase_in, phase_at}
+use Rattle.ob_console.specs.Pinning.{Finds, IsWord, IsPinned, IsBusy, Judged, Pins, phase_in, phase_at}
 use Rattle.ob_console.proofs.Found.{card_found, met_found, within}
 
 -- there is no such slot
-pub no_slot : (s : State) (held : List Id) (id : Id) → s.limits.slots ≤ id.slot
-    → Pins s held id (Err fault.NoSuchSlot) held
-no_slot s held id out = record {
+pub no_slot : (s : State) (held : List Id) (looks : List Look) (id : Id) → s.limits.slots ≤ id.slot
+    → Pins s held looks id (Err fault.NoSuchSlot) held looks
+no_slot s held looks id out = record {
   no_slot = λ _. (refl, refl);
   full = λ inside _. absurd (let c : ⊥ = omega arith in c);
   tried = λ inside _. absurd (let c : ⊥ = omega arith in c);
@@ -67,6 +67,24 @@ looked_before Go r id n k tried m a b = cases (a.0 == n) refl
         refl
     cases false e = (subst (λ (z : ReaderView). Behind z.looks id.slot k) (a.3 (grind (arith, common_steps))).1 b).1.0
         refl
+
+-- a try begins with that look
+begins_with : (vd : Verdict) (r : ReaderView) (id : Id) (n : ℕ) (tried : Result (Unit {0}) PinFault) (m : ReaderView)
+    → FollowsLook vd r id n tried m → (more : List Look) × (m.looks ≡ more ++ (look id.slot n ∷ r.looks))
+begins_with Unborn r id n tried m a = ([], ap (λ (z : ReaderView). z.looks) a.1)
+begins_with Stale r id n tried m a = ([], ap (λ (z : ReaderView). z.looks) a.1)
+begins_with PinsFull r id n tried m a = ([], ap (λ (z : ReaderView). z.looks) a.1)
+begins_with Go r id n tried m a = cases (a.0 == n) refl
+  where
+    cases : (e : Bool) → (a.0 == n) ≡ e → (more : List Look) × (m.looks ≡ more ++ (look id.slot n ∷ r.looks))
+    cases true e = (
+      look id.slot a.0 ∷ [],
+      ap (λ (z : ReaderView). z.looks) (a.2 (grind (arith, common_steps))).1,
+    )
+    cases false e = (
+      look id.slot a.0 ∷ [],
+      ap (λ (z : ReaderView). z.looks) (a.3 (grind (arith, common_steps))).1,
+    )
 
 -- a word between two of one generation and phase has these too
 same_rank : (p q : Phase) → rank_of p ≡ rank_of q → p ≡ q
@@ -103,20 +121,21 @@ noted : (id : Id) (m r3 : ReaderView) (d : Descr) (x : Option Object) (found : I
     → r3 ≡ reader_noted m id d → d ≡ found.object.descr
 noted id m r3 d x found is = (subst (λ (r : ReaderView). Show id found.object.descr r.notes) is found.shown).0 refl
 
-judged : (vd : Verdict) (w : Whole) (r m r3 r4 : ReaderView) (id : Id) (n : ℕ) (tried : Result (Unit {0}) PinFault)
-    (res : Result Descr PinFault)
+judged : (vd : Verdict) (Found : ℕ → Type 0) (w : Whole) (r m r3 r4 : ReaderView) (id : Id) (n : ℕ)
+    (tried : Result (Unit {0}) PinFault) (res : Result Descr PinFault)
+    → ((k : ℕ) → m ≡ reader_looked (reader_looked r id.slot n) id.slot k → Found k)
     → IsConsistent w → id.slot < w.state.limits.slots → FollowsLook vd r id n tried m → Told tried m id res r3
-    → IsMet w.keeper r3 id.slot r4 → Judged vd w.state r.held id res r3.held
-judged Unborn w r m r3 r4 id n tried res consistent inside a told met =
+    → IsMet w.keeper r3 id.slot r4 → Judged vd Found n w.state r.held id res r3.held
+judged Unborn Found w r m r3 r4 id n tried res second consistent inside a told met =
     let t : Told (Err fault.Unborn) m id res r3 = subst (λ z. Told z m id res r3) a.0 told in
     (t.0, told_held tried m r3 id res told ∙ ap (λ (z : ReaderView). z.held) a.1)
-judged Stale w r m r3 r4 id n tried res consistent inside a told met =
+judged Stale Found w r m r3 r4 id n tried res second consistent inside a told met =
     let t : Told (Err fault.Stale) m id res r3 = subst (λ z. Told z m id res r3) a.0 told in
     (t.0, told_held tried m r3 id res told ∙ ap (λ (z : ReaderView). z.held) a.1)
-judged PinsFull w r m r3 r4 id n tried res consistent inside a told met =
+judged PinsFull Found w r m r3 r4 id n tried res second consistent inside a told met =
     let t : Told (Err fault.PinsFull) m id res r3 = subst (λ z. Told z m id res r3) a.0 told in
     (t.0, told_held tried m r3 id res told ∙ ap (λ (z : ReaderView). z.held) a.1)
-judged Go w r m r3 r4 id n tried res consistent inside a told met = cases (a.0 == n) refl
+judged Go Found w r m r3 r4 id n tried res second consistent inside a told met = cases (a.0 == n) refl
   where
     won : (tried ≡ Ok tt) → (m ≡ reader_got (reader_looked r id.slot n) id a.0) → IsPinned w.state r.held id res r3.held
     won ok got =
@@ -133,27 +152,30 @@ judged Go w r m r3 r4 id n tried res consistent inside a told met = cases (a.0 =
           more = told_held tried m r3 id res told ∙ ap (λ (z : ReaderView). z.held) got;
         }
 
-    lost : (tried ≡ Err (fault.Busy (decoded a.0))) → (m ≡ reader_looked (reader_looked r id.slot n) id.slot a.0)
-        → IsBusy r.held res r3.held
-    lost err same =
+    lost : (a.0 ≢ n) → (tried ≡ Err (fault.Busy (decoded a.0)))
+        → (m ≡ reader_looked (reader_looked r id.slot n) id.slot a.0) → IsBusy Found n r.held res r3.held
+    lost other err same =
         let t : Told (Err (fault.Busy (decoded a.0))) m id res r3 = subst (λ z. Told z m id res r3) err told in
         record {
-          seen = decoded a.0;
+          seen = a.0;
+          found = second a.0 same;
+          other = other;
           told = t.0;
           same =
               told_held tried m r3 id res told ∙ ap (λ (z : ReaderView). z.held) same;
         }
 
-    cases : (e : Bool) → (a.0 == n) ≡ e → Judged Go w.state r.held id res r3.held
+    cases : (e : Bool) → (a.0 == n) ≡ e → Judged Go Found n w.state r.held id res r3.held
     cases true e = let b = a.2 (grind (arith, common_steps)) in inl (won b.0 b.1)
-    cases false e = let b = a.3 (grind (arith, common_steps)) in inr (lost b.0 b.1)
+    cases false e = let other : a.0 ≢ n = grind (arith, common_steps) in let b = a.3 other in
+        inr (lost other b.0 b.1)
 
 pub pins : (w : Whole) (r r1 r3 r4 : ReaderView) (id : Id) (res : Result Descr PinFault) → IsConsistent w
     → r.shape ≡ shape_of w.state.limits → id.slot < w.state.limits.slots
     → IsMet w.keeper r id.slot r1 → Attempts r1 id res r3 → IsMet w.keeper r3 id.slot r4
-    → Pins w.state r.held id res r4.held
+    → Pins w.state r.held r.looks id res r4.held r4.looks
 pins w r r1 r3 r4 id res consistent shape inside met1 attempts met2 =
-    subst (λ (z : List Id). Pins w.state r.held id res z) (sym (ap (λ (z : ReaderView). z.held) met2.2.1))
+    subst (λ (z : List Id). Pins w.state r.held r.looks id res z r4.looks) (sym (ap (λ (z : ReaderView). z.held) met2.2.1))
     (record {
       no_slot = λ out. absurd (let c : ⊥ = omega arith in c);
       full = λ _ many. full many;
@@ -188,8 +210,11 @@ pins w r r1 r3 r4 id res consistent shape inside met1 attempts met2 =
     phase : phase_at s id.slot ≡ here.phase
     phase = phase_is id.slot _ _ _ here (consistent.slots id.slot (within w id.slot consistent inside))
 
-    tried : length r.held < 16 → (x : Word) × IsWord s r.held id.slot x
-        × Judged (verdict_of s.limits.max_pins id x) s r.held id res r3.held
+    Found : ℕ → Type 0
+    Found = Finds id.slot r.looks r4.looks
+
+    tried : length r.held < 16 → (k : ℕ) × Found k × IsWord s r.held id.slot (decoded k)
+        × Judged (verdict_of s.limits.max_pins id (decoded k)) Found k s r.held id res r3.held
     tried few =
         let t = attempts.tries.tried inside1 (subst (λ (z : List Id). length z < 16) (sym held1) few) in
         let n : ℕ = t.0 in
@@ -211,17 +236,34 @@ pins w r r1 r3 r4 id res consistent shape inside met1 attempts met2 =
         (met1.2.3.generation ∙ ap (λ (z : Slot). z.generation) at1) (met1.2.3.phase ∙ ap (λ (z : Slot). z.phase) at1)
         (met2.2.3.generation ∙ ap (λ (z : Slot). z.generation) at2) (met2.2.3.phase
         ∙ ap (λ (z : Slot). z.phase) at2) low.0 high.0 in
-        let j : Judged (verdict_of r1.shape.max_pins id (decoded n)) s r1.held id res r3.held =
-        judged (verdict_of r1.shape.max_pins id (decoded n)) w r1 attempts.middle r3 r4 id n attempts.tried res
-        consistent inside a attempts.told met2 in (
-          decoded n,
+        let first = begins_with (verdict_of r1.shape.max_pins id (decoded n)) r1 id n attempts.tried attempts.middle a in
+        let found : (more : List Look) → attempts.middle.looks ≡ more → r4.looks ≡ look id.slot n2 ∷ more =
+        λ more is. ap (λ (z : ReaderView). z.looks) met2.2.1 ∙ ap (λ ls. look id.slot n2 ∷ ls)
+        (told_looks attempts.tried attempts.middle r3 id res attempts.told ∙ is) in
+        let met : r1.looks ≡ look id.slot n1 ∷ r.looks = ap (λ (z : ReaderView). z.looks) met1.2.1 in
+        let second : (k : ℕ) → attempts.middle ≡ reader_looked (reader_looked r1 id.slot n) id.slot k → Found k =
+        λ k is. (
+          look id.slot n2 ∷ [],
+          look id.slot n ∷ look id.slot n1 ∷ [],
+          found _ (ap (λ (z : ReaderView). z.looks) is ∙ ap (λ ls. look id.slot k ∷ look id.slot n ∷ ls) met),
+        ) in
+        let j : Judged (verdict_of r1.shape.max_pins id (decoded n)) Found n s r1.held id res r3.held =
+        judged (verdict_of r1.shape.max_pins id (decoded n)) Found w r1 attempts.middle r3 r4 id n attempts.tried res
+        second consistent inside a attempts.told met2 in (
+          n,
+          (
+            look id.slot n2 ∷ first.0,
+            look id.slot n1 ∷ [],
+            found _ (first.1 ∙ ap (λ ls. first.0 ++ (look id.slot n ∷ ls)) met),
+          ),
           record {
             generation = both.0 ∙ sym (generation_is w id.slot consistent);
             phase = both.1 ∙ sym phase;
             pins = subst (λ (z : List Id). tally (is_of_slot id.slot) z ≤ (decoded n).pins) held1 tells.pins;
             room = λ _. subst (λ (z : Shape). (decoded n).pins ≤ z.max_pins) shape1 tells.room;
           },
-          subst (λ (z : Shape). Judged (verdict_of z.max_pins id (decoded n)) s r.held id res r3.held) shape1
-              (subst (λ (z : List Id). Judged (verdict_of r1.shape.max_pins id (decoded n)) s z id res r3.held) held1
+          subst (λ (z : Shape). Judged (verdict_of z.max_pins id (decoded n)) Found n s r.held id res r3.held) shape1
+              (subst (λ (z : List Id). Judged (verdict_of r1.shape.max_pins id (decoded n)) Found n s z id res r3.held)
+              held1
               j),
         )

@@ -8,7 +8,7 @@ use Rattle.ob_console.specs.Pinning.{is_held, shown_of}
 use Rattle.ob_script.specs.Acts.{Act, Nothing, Bad, ListNames, Asks, Pin, Unpin, ShowCard}
 use Rattle.ob_script.specs.Grammar.{act_of}
 use Rattle.ob_output.specs.Printed.{printed, printed_card, printed_names, printed_pin, printed_unpin, bad_line, line_end}
-use Rattle.ob_console.specs.Runs.{Point, Prints, Run, point}
+use Rattle.ob_console.specs.Runs.{Point, Prints, Run}
 use Rattle.ob_manager.proofs.TableLaws.{step_shape}
 use Rattle.ob_console.proofs.Answerable.{can_answer}
 use Rattle.ob_console.proofs.Pinnable.{can_pin}
@@ -38,7 +38,7 @@ prints_shape s n ListNames output t prints = ap (λ (p : Point). p.whole.keeper.
 prints_shape s n (Asks call) output t prints = step_shape s.whole t.whole call prints.0 prints.1
 prints_shape s n (Pin id) output t prints = ap (λ (whole : Whole). whole.keeper.shape) prints.2
 prints_shape s n (Unpin id) output t prints = ap (λ (whole : Whole). whole.keeper.shape) prints.2
-prints_shape s n (ShowCard id) output t prints = ap (λ (p : Point). p.whole.keeper.shape) prints.1
+prints_shape s n (ShowCard id) output t prints = ap (λ (whole : Whole). whole.keeper.shape) prints.1
 
 pub run_shape : (s : Point) (n : ℕ) (lines : List (List ℕ)) (outputs : List (List ℕ)) (t : Point)
     → Run s n lines outputs t → t.whole.keeper.shape ≡ s.whole.keeper.shape
@@ -66,25 +66,25 @@ prints_some s n (Asks call) pins =
     let answer = can_answer s.whole call pins in
     record {
       output = printed answer.reply;
-      next = point answer.next s.held;
-      prints = (answer.reply, answer.step, answer.spares s.held, refl, refl);
+      next = record s { whole = answer.next };
+      prints = (answer.reply, answer.step, answer.looks, answer.spares s.held, refl, refl);
     }
 prints_some s n (Pin id) pins =
-    let pin = can_pin s.whole.state s.held id in
+    let pin = can_pin s.whole.state s.held s.looks id in
     record {
       output = printed_pin id pin.answer ++ line_end;
-      next = point s.whole pin.next;
+      next = record { whole = s.whole; held = pin.next; looks = pin.looks' };
       prints = (pin.answer, pin.pins, refl, refl);
     }
 prints_some s n (Unpin id) pins = record {
   output = printed_unpin id (is_held id s.held) ++ line_end;
-  next = point s.whole (if is_held id s.held then drop_last (same_id id) s.held else s.held);
+  next = record s { held = if is_held id s.held then drop_last (same_id id) s.held else s.held };
   prints = (is_held id s.held, (refl, refl), refl, refl);
 }
 prints_some s n (ShowCard id) pins = record {
   output = printed_card (shown_of s.whole.state s.held id) ++ line_end;
   next = s;
-  prints = (refl, refl);
+  prints = (refl, refl, refl);
 }
 
 -- lines that come may always be answered

@@ -55,8 +55,8 @@ step_of_beginning w thread mode timeout handles reply v (lacks takes there lack 
 
 prints_whole : (p : Point) (number : ℕ) (act : Act) (output : List ℕ) (q : Point)
     → Prints p number (shortened act) output q → Prints p number act output q
-prints_whole p number (Asks (calls.WaitFor thread mode timeout handles)) output q (reply, step, spares, held, is) =
-    (reply, step_of_beginning p.whole thread mode timeout handles reply q.whole step, spares, held, is)
+prints_whole p number (Asks (calls.WaitFor thread mode timeout handles)) output q (reply, step, looks, spares, held, is) =
+    (reply, step_of_beginning p.whole thread mode timeout handles reply q.whole step, looks, spares, held, is)
 prints_whole p number Nothing output q prints = prints
 prints_whole p number act output q prints = prints
 

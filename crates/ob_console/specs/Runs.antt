@@ -4,12 +4,15 @@ use Rattle.std.specs.List.{concat, flat_map}
 use Rattle.pin_core.specs.declared.id.Id.{Id}
 use Rattle.pin_core.specs.declared.descr.Descr.{Descr}
 use Rattle.pin_words.specs.declared.fault.PinFault.{PinFault}
-use Rattle.pin_words.specs.Keepers.{IsFresh, IsFreshWith}
+use Rattle.pin_words.specs.declared.view.Look.{Look}
+use Rattle.pin_words.specs.declared.view.ReaderView.{ReaderView}
+use Rattle.pin_words.specs.Keepers.{IsFresh, IsFreshWith, KeeperState, ReclaimsFound}
 use Rattle.ob_store.specs.declared.limits.Limits.{Limits}
 use Rattle.ob_store.specs.State.{Whole, opening, shape_of}
 use Rattle.ob_store.specs.Directory.{directory_of}
 use Rattle.ob_manager.specs.Calls.{Call}
 use Rattle.ob_manager.specs.declared.reply.Reply.{Reply}
+use Rattle.ob_manager.specs.declared.reply.Reply.TheVariants.{Reaped}
 use Rattle.ob_manager.specs.Reaping.{IfReap, IfReaped}
 use Rattle.ob_manager.specs.Steps.{Step}
 use Rattle.ob_console.specs.Pinning.{Pins, SparesHeld, Unpins, shown_of}
@@ -19,13 +22,14 @@ use Rattle.ob_console.specs.declared.script.RunFault.TheVariants.{Memory, Read, 
 use Rattle.ob_script.specs.Grammar.{act_of}
 use Rattle.ob_output.specs.Printed.{printed, printed_card, printed_names, printed_pin, printed_unpin, bad_line, line_end}
 
--- the state with what the keeper says, and the copies that the reader holds
+-- the state with what the keeper says, the copies that the reader holds, and the words that it found, newest first
 pub record Point : Type 0 where
   pub whole : Whole
   pub held : List Id
+  pub looks : List Look
 
-abbrev pub point : Whole → List Id → Point
-point whole held = record { whole = whole; held = held }
+abbrev pub point : Whole → ReaderView → Point
+point whole reader = record { whole = whole; held = reader.held; looks = reader.looks }
 
 -- before any line: nothing was asked of the manager and of its keeper, and nothing is held
 pub record IsOpening (limits : Limits) (p : Point) : Type 0 where
@@ -43,20 +47,30 @@ pub record Reopens (before : Whole) (p : Point) : Type 0 where
 abbrev pub Spares : List Id → Call → Reply → Type 0
 Spares held call reply = IfReap call (λ slot. IfReaped reply (SparesHeld held slot))
 
+-- the keeper found the word of the slot that the reply tells of: just pins in it held the slot
+abbrev pub IsLooked : KeeperState → Reply → KeeperState → Type 0
+IsLooked k (Reaped id outcome) k' = ReclaimsFound k id.slot outcome k'
+IsLooked k reply k' = Unit {0}
+
+abbrev pub Looks : KeeperState → Call → Reply → KeeperState → Type 0
+Looks k call reply k' = IfReap call (λ slot. IsLooked k reply k')
+
 -- From a point, the line of this number may print this and go on: nothing, that the line is bad, the names of objects,
 -- the reply of a step, or what the reader is answered.
 abbrev pub Prints : Point → ℕ → Act → List ℕ → Point → Type 0
 Prints p number Nothing output q = (output ≡ []) × (q ≡ p)
 Prints p number Bad output q = (output ≡ bad_line number) × (q ≡ p)
 Prints p number ListNames output q = (output ≡ printed_names (directory_of p.whole.state)) × (q ≡ p)
-Prints p number (Asks call) output q = (reply : Reply) × Step p.whole call reply q.whole × Spares p.held call reply
-    × (q.held ≡ p.held) × (output ≡ printed reply)
-Prints p number (Pin id) output q = (answer : Result Descr PinFault) × Pins p.whole.state p.held id answer q.held
+Prints p number (Asks call) output q = (reply : Reply) × Step p.whole call reply q.whole
+    × Looks p.whole.keeper call reply q.whole.keeper × Spares p.held call reply × (q.held ≡ p.held)
+    × (output ≡ printed reply)
+Prints p number (Pin id) output q = (answer : Result Descr PinFault)
+    × Pins p.whole.state p.held p.looks id answer q.held q.looks
     × (q.whole ≡ p.whole) × (output ≡ printed_pin id answer ++ line_end)
 Prints p number (Unpin id) output q = (done : Bool) × Unpins p.held id done q.held × (q.whole ≡ p.whole)
     × (output ≡ printed_unpin id done ++ line_end)
 Prints p number (ShowCard id) output q = (output ≡ printed_card (shown_of p.whole.state p.held id) ++ line_end)
-    × (q ≡ p)
+    × (q.whole ≡ p.whole) × (q.held ≡ p.held)
 
 -- From there, the lines from this number on may print these, one after another, and end with the last.
 abbrev pub Run : Point → ℕ → List (List ℕ) → List (List ℕ) → Point → Type 0

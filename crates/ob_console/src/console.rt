@@ -39,7 +39,7 @@ impl Console {
     pub fn new(manager: Manager<Keeper>, reader: Reader, output: Output) -> Console
         requires { manager.keeper.table ≡ Some reader.table }
         ensures { result ≡ record {
-          point = point manager reader.view.held;
+          point = point manager reader.view;
           pending = output;
           held = Some [];
           lines = 0;

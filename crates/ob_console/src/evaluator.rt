@@ -35,7 +35,7 @@ impl Model for Evaluator {
     ghost Value = { Evaluation };
 
     ghost view = { λ evaluator. record {
-      point = point evaluator.manager evaluator.reader.view.held;
+      point = point evaluator.manager evaluator.reader.view;
       pending = evaluator.output;
       lines = evaluator.lines;
     } };
@@ -47,7 +47,7 @@ impl Evaluator {
     /// An evaluator to which no line has come.
     pub fn new(manager: Manager<Keeper>, reader: Reader, output: Output) -> Evaluator
         requires { manager.keeper.table ≡ Some reader.table }
-        ensures { result ≡ record { point = point manager reader.view.held; pending = output; lines = 0 } }
+        ensures { result ≡ record { point = point manager reader.view; pending = output; lines = 0 } }
     {
         Evaluator {
             manager,

@@ -32,7 +32,8 @@ fn try_descr(reader: &mut Reader, id: Id) -> Result<Descr, PinFault>
 #[tactic(auto, using(crate::proofs::Attempting::no_slot))]
 pub fn pin(manager: &mut Manager<Keeper>, reader: &mut Reader, id: Id) -> Result<Descr, PinFault>
     requires { manager.old.keeper.table ≡ Some reader.old.table }
-    ensures pins { Pins manager.old.state reader.old.view.held id result reader.new.view.held }
+    ensures pins { Pins manager.old.state reader.old.view.held reader.old.view.looks id result reader.new.view.held
+        reader.new.view.looks }
     ensures same { manager.new ≡ manager.old }
     ensures table { reader.new.table ≡ reader.old.table }
 {

@@ -1,7 +1,7 @@
 ghost use Rattle.std.specs.Prelude.{◌≡◌, ◌+◌, ◌<◌, ◌≤◌, ◌++◌, List, ℕ, IfErr, IfOk, IfSome, OnOk, IsErrOf};
 ghost use Rattle.std.specs.Prelude.{Some, length};
 ghost use Rattle.ob_store.specs.State.{shape_of};
-ghost use Rattle.ob_output.specs.Devices.{FailedOrSpent};
+ghost use Rattle.ob_output.specs.Devices.{FailedOrSpent, calls_most};
 ghost use Rattle.ob_output.specs.Pending.{FailedOrLast};
 ghost use Rattle.ob_console.specs.Runs.{GoesOn, IsCut, IsEnded, IsOpening, IsWholeEnded, Reopens};
 ghost use Rattle.ob_console.specs.Sessions.{Ends, IsReady};
@@ -42,10 +42,10 @@ pub fn run<R: Source, W: Sink>(
     ensures ended { OnOk result (R.HasEnded reader.new) }
     ensures memory { IsErrOf result RunFault.Memory → (R.calls reader.new ≡ R.calls reader.old)
         × (W.calls writer.new ≡ W.calls writer.old) }
-    ensures read { IsErrOf result RunFault.Read → FailedOrSpent R.faults R.calls reader.old reader.new CALLS_MOST }
-    ensures write { IsErrOf result RunFault.Write → FailedOrSpent W.faults W.calls writer.old writer.new CALLS_MOST }
-    ensures reads { R.calls reader.new ≤ R.calls reader.old + CALLS_MOST }
-    ensures writes { W.calls writer.new ≤ W.calls writer.old + CALLS_MOST }
+    ensures read { IsErrOf result RunFault.Read → FailedOrSpent R.faults R.calls reader.old reader.new calls_most }
+    ensures write { IsErrOf result RunFault.Write → FailedOrSpent W.faults W.calls writer.old writer.new calls_most }
+    ensures reads { R.calls reader.new ≤ R.calls reader.old + calls_most }
+    ensures writes { W.calls writer.new ≤ W.calls writer.old + calls_most }
 {
     run_bounded(alloc, limits, CALLS_MOST, CALLS_MOST, reader, writer)
 }
@@ -96,8 +96,8 @@ pub fn run_whole<W: Sink>(
     ensures answers { (output : List ℕ) × (W.taken writer.new ≡ W.taken writer.old ++ output)
         × IsWholeEnded result limits script.now output }
     ensures memory { IsErrOf result RunFault.Memory → W.calls writer.new ≡ W.calls writer.old }
-    ensures write { IsErrOf result RunFault.Write → FailedOrSpent W.faults W.calls writer.old writer.new CALLS_MOST }
-    ensures writes { W.calls writer.new ≤ W.calls writer.old + CALLS_MOST }
+    ensures write { IsErrOf result RunFault.Write → FailedOrSpent W.faults W.calls writer.old writer.new calls_most }
+    ensures writes { W.calls writer.new ≤ W.calls writer.old + calls_most }
 {
     let Ok((pins, opening)) = Pins::new(alloc, limits.shape()) else {
         return Err(RunFault::Memory);
@@ -128,10 +128,10 @@ pub fn run_over<R: Source, W: Sink>(
     ensures ended { OnOk result (R.HasEnded reader.new) }
     ensures memory { IsErrOf result RunFault.Memory → (R.calls reader.new ≡ R.calls reader.old)
         × (W.calls writer.new ≡ W.calls writer.old) }
-    ensures read { IsErrOf result RunFault.Read → FailedOrSpent R.faults R.calls reader.old reader.new CALLS_MOST }
-    ensures write { IsErrOf result RunFault.Write → FailedOrSpent W.faults W.calls writer.old writer.new CALLS_MOST }
-    ensures reads { R.calls reader.new ≤ R.calls reader.old + CALLS_MOST }
-    ensures writes { W.calls writer.new ≤ W.calls writer.old + CALLS_MOST }
+    ensures read { IsErrOf result RunFault.Read → FailedOrSpent R.faults R.calls reader.old reader.new calls_most }
+    ensures write { IsErrOf result RunFault.Write → FailedOrSpent W.faults W.calls writer.old writer.new calls_most }
+    ensures reads { R.calls reader.new ≤ R.calls reader.old + calls_most }
+    ensures writes { W.calls writer.new ≤ W.calls writer.old + calls_most }
 {
     // What owns much is dropped by a call, since a scope that ends with it lets it go on each way out.
     let Ok(mut block) = zeros(alloc, READ_MOST) else {

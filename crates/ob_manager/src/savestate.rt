@@ -51,15 +51,22 @@ impl<K: PinKeeper> Manager<K> {
 }
 
 impl Manager<LockedPins> {
+    ghost use Rattle.std.specs.Prelude.{Err};
+    ghost use Rattle.ob_codec.specs.declared.fault.ReadFault.TheVariants.{Text};
+    ghost use Rattle.ob_codec.specs.declared.fault.TextFault.{TextFault};
+    ghost use Rattle.ob_codec.specs.Sealing.{unsealed};
+
     /// The manager of a savestate, over a keeper under a lock, with all that holds of any other. Nobody holds a copy of
     /// an Id yet; [`over`](Manager::over) puts it over another keeper.
     ///
-    /// Refused with the first thing that is wrong with the bytes, the digest before all else, and with want of memory.
+    /// Refused with the first thing that is wrong with the bytes, the digest before all else and before memory is asked
+    /// for, and with want of memory.
     /// Bytes that lie about a count ask for no more memory than what stands behind it, except for 8 bytes for each
     /// thread number that their limits let be given. Linear in the bytes, except that objects are ordered by when they
     /// were made.
     pub fn load(alloc: Global, bytes: &[u8]) -> Result<Manager<LockedPins>, ReadFault>
-        ensures { GivesAll (λ manager. manager) result (load bytes.now) }
+        ensures gives { GivesAll (λ manager. manager) result (load bytes.now) }
+        ensures digest { (fault : TextFault) → unsealed bytes.now ≡ Err fault → result ≡ Err (Text fault) }
     {
         let text = unseal(bytes)?;
         let mut from = Cursor::new(text);

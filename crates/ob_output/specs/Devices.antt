@@ -1,7 +1,11 @@
--- What a source gives and a sink takes in one call.
-use Rattle.std.specs.Prelude.{◌≡◌, ◌+◌, ◌<◌, ◌⊎◌, ℕ, zero, suc, List, [], ◌++◌, Result, Ok, Err, take}
+-- What a source gives and a sink takes in one call, and in how many.
+use Rattle.std.specs.Prelude.{◌≡◌, ◌+◌, ◌<◌, ◌^◌, ◌⊎◌, ℕ, zero, suc, List, [], ◌++◌, Result, Ok, Err, take}
 use Rattle.ob_output.specs.declared.device.Trouble.{Trouble}
 use Rattle.ob_output.specs.declared.device.Trouble.TheVariants.{Interrupted, Failed}
+
+-- how many reads, and how many writes, a run of a script makes at most
+abbrev pub calls_most : ℕ
+calls_most = 10 ^ 9
 
 -- the bytes that a call moved
 abbrev pub moved : Result ℕ Trouble → List ℕ → List ℕ

@@ -63,10 +63,10 @@ impl Recorder {
         self.text.is_empty()
     }
 
-    /// Calls are recorded from now on. The refusal is want of memory.
+    /// Calls are recorded from now on. The refusal is want of memory, and never comes where they were before.
     pub fn start(&mut self) -> Result<(), AllocError>
         ensures ok { OnOk result (self.new ≡ recording self.old.text true) }
-        ensures memory { OnErr result (self.new ≡ self.old) }
+        ensures memory { OnErr result ((self.new ≡ self.old) × (self.old.is_on ≡ false)) }
     {
         if self.block.is_some() {
             return Ok(());

@@ -205,7 +205,7 @@ module _ (w u : Whole) (p q : Point) (number : ℕ) (entry : Entry) (output : Li
           (line_is_read entry.call fits) in
           let asks : Prints p number (Asks (as_said entry.call)) output q =
           subst (λ (act : Act). Prints p number act output q) read prints in
-          answered asks.0 asks.4 (ap (λ b. b && is_some (line_of entry.call)) is ∙ ap is_some some) is
+          answered asks.0 asks.5 (ap (λ b. b && is_some (line_of entry.call)) is ∙ ap is_some some) is
           ((answered_alike p.whole q.whole entry.call asks.0).0 asks.1)
 
 retold : (entries : List Entry) (w v : Whole) (p q : Point) (number : ℕ) (outputs : List (List ℕ)) → IsConsistent w

@@ -1,10 +1,14 @@
 -- A lane's list, and what a call adds to it.
-use Rattle.std.specs.Prelude.{◌≡◌, ◌⊎◌, ◌==◌, ℕ, List, [], ◌∷◌, ◌++◌, if◌then◌else◌}
+use Rattle.std.specs.Prelude.{◌≡◌, ◌⊎◌, ◌==◌, ◌^◌, ℕ, List, [], ◌∷◌, ◌++◌, if◌then◌else◌}
 use Rattle.ob_rights.specs.declared.fault.Fault.TheVariants.{Memory}
 use Rattle.ob_manager.specs.Calls.{Call}
 use Rattle.ob_manager.specs.declared.reply.Reply.{Reply}
 use Rattle.ob_manager.specs.declared.reply.Reply.TheVariants.{Refused}
 use Rattle.ob_shared.specs.declared.book.Entry.{Entry}
+
+-- how many lanes there may be
+abbrev pub lanes_most : ℕ
+lanes_most = 2 ^ 16
 
 pub record LaneState : Type 0 where
   pub number : ℕ

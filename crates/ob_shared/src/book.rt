@@ -6,6 +6,7 @@ ghost use Rattle.ob_store.specs.Consistent.{IsConsistent};
 ghost use Rattle.ob_store.specs.State.{State, Whole, opening};
 ghost use Rattle.ob_store.specs.Stored.{MatchesState};
 ghost use Rattle.ob_manager.specs.Counting.{card};
+ghost use Rattle.ob_manager.specs.Reaping.{IfReap, IfReaped};
 ghost use Rattle.ob_manager.specs.Savestates.{load};
 ghost use Rattle.ob_manager.specs.Steps.{Step};
 ghost use Rattle.ob_shared.specs.Closing.{AreWhole, IsCause};
@@ -66,8 +67,8 @@ impl Receipt {
 }
 
 /// Proof that a call was entered in a journal, without the call, which its caller still has. Only a [`Book`] that
-/// enters a call makes one, and it can be neither copied nor let go (it isn't `Drop`): so whatever was entered for a
-/// lane is listed in one.
+/// enters a call makes one, and it can be neither copied nor let go (it isn't `Drop`): so it becomes a receipt, which
+/// can.
 pub(crate) struct Entered {
     lane: u32,
     asked: Asked,
@@ -176,6 +177,8 @@ impl<K: PinKeeper> Book<K> {
         ensures entered { IfOk result (λ receipt. self.new.journal ≡ self.old.journal ++ receipt ∷ []) }
         ensures entry { IfOk result (λ receipt. (receipt.lane ≡ lane) × (receipt.call ≡ call)) }
         ensures step { IfOk result (λ receipt. Step self.old.manager call receipt.reply self.new.manager) }
+        ensures exact { IfOk result (λ receipt. IfReap call (λ slot. IfReaped receipt.reply
+            (λ outcome. K.reclaims self.old.manager.keeper slot outcome self.new.manager.keeper))) }
         ensures saved { self.new.saved ≡ self.old.saved }
         ensures memory { IfErr result (λ fault. (fault ≡ Memory) × (self.new ≡ self.old)) }
     {
@@ -193,6 +196,8 @@ impl<K: PinKeeper> Book<K> {
         ensures entered { IfOk result (λ entered. self.new.journal ≡ self.old.journal ++ entered ∷ []) }
         ensures entry { IfOk result (λ entered. (entered.lane ≡ lane) × (entered.call ≡ call.now)) }
         ensures step { IfOk result (λ entered. Step self.old.manager call.now entered.reply self.new.manager) }
+        ensures exact { IfOk result (λ entered. IfReap call.now (λ slot. IfReaped entered.reply
+            (λ outcome. K.reclaims self.old.manager.keeper slot outcome self.new.manager.keeper))) }
         ensures saved { self.new.saved ≡ self.old.saved }
         ensures memory { IfErr result (λ fault. (fault ≡ Memory) × (self.new ≡ self.old)) }
     {

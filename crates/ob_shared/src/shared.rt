@@ -124,7 +124,7 @@ impl Shared {
     ghost use Rattle.ob_shared.specs.declared.book.Entry.{Entry};
     ghost use Rattle.ob_shared.specs.Closing.{AreWhole, IsCause};
     ghost use Rattle.ob_shared.specs.Journal.{IsHistory, replay};
-    ghost use Rattle.ob_shared.specs.Lanes.{Lists};
+    ghost use Rattle.ob_shared.specs.Lanes.{Lists, lanes_most};
 
     /// A manager of which no call was made, and no lane.
     pub fn new(alloc: Global, manager: Manager<Keeper>) -> Shared
@@ -146,9 +146,9 @@ impl Shared {
 
     /// The next lane: lanes are numbered from 0. It is refused with 1450 after 65,536 lanes.
     pub fn lane(&mut self) -> Result<Lane, Fault>
-        ensures ok { IfOk result (λ lane. (self.old < LANES_MOST) × (lane ≡ record { number = self.old; list = [] })
+        ensures ok { IfOk result (λ lane. (self.old < lanes_most) × (lane ≡ record { number = self.old; list = [] })
             × (self.new ≡ self.old + 1)) }
-        ensures err { IfErr result (λ fault. (fault ≡ Limit) × (LANES_MOST ≤ self.old) × (self.new ≡ self.old)) }
+        ensures err { IfErr result (λ fault. (fault ≡ Limit) × (lanes_most ≤ self.old) × (self.new ≡ self.old)) }
     {
         if self.lanes >= LANES_MOST {
             return Err(Fault::Limit);

@@ -104,15 +104,57 @@ fn note(recorder: &mut Recorder) {
     recorder.note(&ROWS[0].0, &ROWS[0].1);
 }
 
+/// Calls are recorded from now on; once more where memory was wanting.
+fn start(recorder: &mut Recorder) -> Result<(), AllocError> {
+    if recorder.start().is_ok() {
+        return Ok(());
+    }
+    recorder.start()
+}
+
+/// How many calls have lines of more than a megabyte.
+const MANY: usize = 70_000;
+
+/// How many bytes these have, with those of a long call.
+const BYTES: usize = 16 * MANY + 3_027;
+
+/// Notes many calls, and one with a long line.
+fn note_many(recorder: &mut Recorder) {
+    for _ in 0..MANY {
+        note(recorder);
+    }
+    let call: Ask<'_> = WaitFor {
+        thread: 1,
+        mode: Mode::Any,
+        timeout: Timeout::Infinite,
+        handles: &[4; 1_000],
+    };
+    recorder.note(&call, &Reply::Code { code: 258 });
+}
+
+#[test]
+fn a_recorder_goes_on_where_memory_is_there(rt: HostRuntime) -> Result<(), Fail> {
+    let alloc = rt.alloc();
+    let mut room = vec![in alloc; 0u8; BYTES + 1]?;
+    let mut recorder = Recorder::new(alloc);
+    start(&mut recorder)?;
+    note_many(&mut recorder);
+    holds_at(&rt, recorder.is_on(), 0);
+    holds_at(&rt, recorder.start().is_ok(), 1);
+    recorder.stop();
+    start(&mut recorder)?;
+    holds_at(&rt, recorder.take(&mut room) == BYTES, 2);
+    holds_at(&rt, recorder.is_empty(), 3);
+    Ok(())
+}
+
 #[test]
 fn a_recorder_is_taken_by_whole_lines(rt: HostRuntime) -> Result<(), Fail> {
     let mut recorder = Recorder::new(rt.alloc());
     let (mut few, mut some, mut room) = ([0u8; 7], [0u8; 15], [0u8; 16]);
     note(&mut recorder);
     holds_at(&rt, gives(&mut recorder, &mut room, b""), 0);
-    if recorder.start().is_err() {
-        recorder.start()?;
-    }
+    start(&mut recorder)?;
     note(&mut recorder);
     holds_at(&rt, gives(&mut recorder, &mut few, b""), 1);
     holds_at(&rt, gives(&mut recorder, &mut some, b"spawn 7\n"), 2);

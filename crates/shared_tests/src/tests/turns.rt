@@ -54,10 +54,12 @@ impl Gate for Turns {
     }
 }
 
-/// Lets acts pass up to a place, each once it was told of all before it, and of nothing else.
+/// Lets acts pass up to a place, each once it was told of all before it, and of nothing else. It counts how often it is
+/// asked.
 #[derive(Drop)]
 pub(super) struct Until {
     last: usize,
+    asked: AtomicUsize,
     told: AtomicUsize,
     was_told_wrong: AtomicBool,
 }
@@ -66,19 +68,23 @@ impl Until {
     pub(super) fn new(last: usize) -> Until {
         Until {
             last,
+            asked: AtomicUsize::new(0),
             told: AtomicUsize::new(0),
             was_told_wrong: AtomicBool::new(false),
         }
     }
 
-    /// Whether it was told of each place up to the last one, in their order.
+    /// Whether it was asked once at each place up to the last one, and told of each before that, in their order.
     pub(super) fn was_told_all(&self) -> bool {
-        self.told.load(Ordering::SeqCst) == self.last && !self.was_told_wrong.load(Ordering::SeqCst)
+        self.asked.load(Ordering::SeqCst) == self.last.saturating_add(1)
+            && self.told.load(Ordering::SeqCst) == self.last
+            && !self.was_told_wrong.load(Ordering::SeqCst)
     }
 }
 
 impl Gate for Until {
     fn enter<R: Wait>(&self, _rt: &R, _lane: u32, place: usize) -> Pass {
+        self.asked.fetch_add(1, Ordering::SeqCst);
         if place < self.last && self.told.load(Ordering::SeqCst) == place {
             Pass::Go
         } else {

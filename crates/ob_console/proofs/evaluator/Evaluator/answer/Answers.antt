@@ -10,7 +10,7 @@ pub returns-clause-prints : goal.returns-clause-prints
 returns-clause-prints g c =
     let inside = c.self.inside in
     let old : Evaluation = record {
-      point = point inside.manager inside.reader.view.held;
+      point = point inside.manager inside.reader.view;
       pending = inside.output;
       lines = inside.lines;
     } in

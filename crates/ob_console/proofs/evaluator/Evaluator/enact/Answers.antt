@@ -10,15 +10,21 @@ use Rattle.ob_console.proofs.evaluator.Evaluator.enact.Goals as goal
 
 pub returns-in-Ask-clause-prints : goal.returns-in-Ask-clause-prints
 returns-in-Ask-clause-prints g c =
-    let p : Point = point c.self.inside.manager c.self.inside.reader.view.held in
-    let q : Point = point c.reply_to.new.manager c.reply_to.new.reader.view.held in
+    let p : Point = point c.self.inside.manager c.self.inside.reader.view in
+    let q : Point = point c.reply_to.new.manager c.reply_to.new.reader.view in
     let new : Evaluation = record { point = q; pending = c.put_reply.new.self; lines = c.self.inside.lines } in
     let printed : List ℕ = answered c.reply_to.result in
     subst (λ (old : Evaluation). Enacts old old.lines (act_in c.args.handles.now c.args.act.now) c.put_reply.result
     (g.W.Sink.taken c.args.sink.now) (g.W.Sink.taken c.put_reply.new.sink) new) c.self.view_is (
       printed,
-      subst (λ (act : Act). Prints p c.self.inside.lines (act_in c.args.handles.now act) printed q) (sym c.in-Ask.is)
-          (c.reply_to.result, c.reply_to.ensures.step, c.reply_to.ensures.spares, c.reply_to.ensures.held, refl),
+      subst (λ (act : Act). Prints p c.self.inside.lines (act_in c.args.handles.now act) printed q) (sym c.in-Ask.is) (
+        c.reply_to.result,
+        c.reply_to.ensures.step,
+        c.reply_to.ensures.looks,
+        c.reply_to.ensures.spares,
+        c.reply_to.ensures.held,
+        refl,
+      ),
       put_written c.put_reply.result (g.W.Sink.taken c.args.sink.now) (g.W.Sink.taken c.put_reply.new.sink)
           (c.self.inside.output.bytes ++ printed) c.put_reply.new.self.bytes c.put_reply.ensures.ok
           c.put_reply.ensures.err,
@@ -27,7 +33,7 @@ returns-in-Ask-clause-prints g c =
 pub returns-in-ListNames-clause-prints : goal.returns-in-ListNames-clause-prints
 returns-in-ListNames-clause-prints g c =
     let inside = c.self-in-ListNames.inside in
-    let p : Point = point inside.manager inside.reader.view.held in
+    let p : Point = point inside.manager inside.reader.view in
     let new : Evaluation = record { point = p; pending = c.list.new.output; lines = inside.lines } in
     let names : List ℕ = printed_names (directory_of inside.manager.state) in
     subst (λ (old : Evaluation). Enacts old old.lines (act_in c.args.handles.now c.args.act.now) c.list.result

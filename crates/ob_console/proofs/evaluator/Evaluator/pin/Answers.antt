@@ -9,7 +9,7 @@ use Rattle.ob_console.proofs.evaluator.Evaluator.pin.Goals as goal
 pub returns-clause-prints : goal.returns-clause-prints
 returns-clause-prints g c =
     let new : Evaluation = record {
-      point = point c.pin-answer.new.manager c.pin-answer.new.reader.view.held;
+      point = point c.pin-answer.new.manager c.pin-answer.new.reader.view;
       pending = c.put.new.self;
       lines = c.self.inside.lines;
     } in

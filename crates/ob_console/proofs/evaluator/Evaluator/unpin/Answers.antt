@@ -9,7 +9,7 @@ use Rattle.ob_console.proofs.evaluator.Evaluator.unpin.Goals as goal
 pub returns-clause-prints : goal.returns-clause-prints
 returns-clause-prints g c =
     let new : Evaluation = record {
-      point = point c.self.inside.manager c.unpin-done.new.reader.view.held;
+      point = point c.self.inside.manager c.unpin-done.new.reader.view;
       pending = c.put.new.self;
       lines = c.self.inside.lines;
     } in

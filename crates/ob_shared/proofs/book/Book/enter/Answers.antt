@@ -2,7 +2,8 @@ use Rattle.std.proofs.Common.{[], ◌∷◌, ◌++◌, List, ap, sym, subst, ◌
 use Rattle.ob_manager.specs.Calls.{Call}
 use Rattle.ob_manager.specs.Steps.{Step}
 use Rattle.ob_shared.specs.declared.book.Entry.{Entry}
-use Rattle.ob_shared.specs.Journal.{Continues}
+use Rattle.ob_manager.specs.Reaping.{IfReap, IfReaped}
+use Rattle.ob_shared.specs.Journal.{BookState, Continues}
 use Rattle.ob_shared.proofs.Journals.{history_next}
 use Rattle.ob_shared.proofs.book.Book.enter.Goals as goal
 
@@ -17,3 +18,9 @@ invariant_of-self-2 g c =
     ∙ ap (λ (entries : List Entry). entries ++ entry ∷ []) c.reserve.ensures.items))
     (history_next saved c.self.inside.journal.items c.self.inside.manager c.apply-reply.new.self entry c.self.invariant
     step c.kept.ensures)
+
+pub returns-clause-exact : goal.returns-clause-exact
+returns-clause-exact g c =
+    subst (λ (book : BookState). IfReap c.args.call.now (λ slot. IfReaped c.apply-reply.result
+    (λ outcome. g.K.PinKeeper.reclaims book.manager.keeper slot outcome c.apply-reply.new.self.keeper)))
+    c.self.view_is c.apply-reply.ensures.exact
