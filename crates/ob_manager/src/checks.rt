@@ -1,5 +1,6 @@
 ghost use Rattle.std.specs.Prelude.{◌≡◌, ◌<◌, None, Some, IfOk, length, slice_index_or};
 ghost use Rattle.ob_body.specs.Body as spec;
+ghost use Rattle.ob_store.specs.Kept.{IsLive};
 ghost use Rattle.ob_tables.specs.Table.{entry_at};
 ghost use Rattle.ob_tables.specs.Tables.{table_of};
 ghost use Rattle.ob_manager.specs.Checks.{body_of, caller, found, granted, is_allowed, natural, positive, same_kind};
@@ -17,6 +18,7 @@ pub fn caller<K: PinKeeper>(store: &Store<K>, thread: u32) -> Result<u32, Fault>
     ensures value { result ≡ caller store.now.state thread }
     ensures process { IfOk result (λ process. slice_index_or store.now.state.threads thread None ≡ Some process) }
     ensures table { IfOk result (λ process. process < length store.now.state.tables) }
+    ensures live { IfOk result (λ process. IsLive store.now.state.processes process) }
 {
     let Some(process) = store.process(thread) else {
         return Err(Fault::Parameter);

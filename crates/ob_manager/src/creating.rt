@@ -192,6 +192,7 @@ fn new_nameless<K: PinKeeper>(
     new: New,
 ) -> Result<Reply, Fault>
     requires table { process < length store.old.state.tables }
+    requires live { IsLive store.old.state.processes process }
     requires given { IsGiven new.descr }
     requires formed { form_of new.body ≡ form_in new.descr }
     requires owned { (t : ℕ) → spec.owner_of new.body ≡ Some t → IsLive store.old.state.threads t }
@@ -213,6 +214,7 @@ fn new_named<K: PinKeeper>(
     name: &NameRef<'_>,
 ) -> Result<Reply, Fault>
     requires table { process < length store.old.state.tables }
+    requires live { IsLive store.old.state.processes process }
     requires given { IsGiven new.descr }
     requires formed { form_of new.body ≡ form_in new.descr }
     requires owned { (t : ℕ) → spec.owner_of new.body ≡ Some t → IsLive store.old.state.threads t }
@@ -237,6 +239,7 @@ fn new_handle<K: PinKeeper>(
     inherit: bool,
 ) -> Result<u32, Fault>
     requires table { process < length store.old.state.tables }
+    requires live { IsLive store.old.state.processes process }
     requires is_there { 0 < handles_of store.old.state id }
     ensures handle { IfOk result (λ handle. handle ≡ next_handle store.old.state process) }
     ensures ok { OnOk result (new_handle store.old.state process id kind rights inherit ≡ Ok store.new.state) }
@@ -272,6 +275,7 @@ fn named_object<K: PinKeeper>(
     name: &NameRef<'_>,
 ) -> Result<Reply, Fault>
     requires table { process < length store.old.state.tables }
+    requires live { IsLive store.old.state.processes process }
     requires given { IsGiven new.descr }
     requires formed { form_of new.body ≡ form_in new.descr }
     requires owned { (t : ℕ) → spec.owner_of new.body ≡ Some t → IsLive store.old.state.threads t }

@@ -18,11 +18,12 @@ use Rattle.ob_body.specs.Body.{owner_of}
 use Rattle.ob_name.specs.Names.{ObjectName}
 use Rattle.ob_name.specs.Listing.{Rows, find_name}
 use Rattle.ob_tables.specs.declared.entry.Entry.{Entry}
-use Rattle.ob_tables.specs.Tables.{with_entry_of}
+use Rattle.ob_tables.specs.Tables.{with_entry_of, table_of}
 use Rattle.ob_waits.specs.Form.{form_of}
 use Rattle.ob_waits.specs.Waits.{slot_blocks}
 use Rattle.ob_waits.proofs.Room.{room_unnamed}
 use Rattle.ob_waits.proofs.Settled.{settled_unnamed}
+use Rattle.ob_tables.specs.Table.{with_entry}
 use Rattle.ob_store.specs.Objects.{Object, ObjectsState, Head, object_in, places_in, vacancy, with_object}
 use Rattle.ob_store.specs.Agreement.{Agrees, IsAgreed, IsTied}
 use Rattle.ob_store.specs.State as state
@@ -35,7 +36,7 @@ use Rattle.ob_store.proofs.NamedLaws.{named_added}
 use Rattle.ob_store.proofs.BodyLaws.{formed_added, of_live_added}
 use Rattle.ob_store.proofs.ListingLaws.{listing_added, listing_name_added, placed_agreed}
 use Rattle.ob_store.proofs.PlacedLaws.{unreferenced}
-use Rattle.ob_store.proofs.KeptLaws.{processes_same}
+use Rattle.ob_store.proofs.KeptLaws.{live_changed}
 
 -- a slot without an object has no body
 pub bodiless : (s : ObjectsState) (k : ℕ) → object_at s k ≡ None → k < length s.objects → IsAgreed s
@@ -98,6 +99,7 @@ added_state p process slot rights flags head body rows =
 module _ (p : PartsState) (kept : IsKept p) (tied : IsTied p.objects)
     (process slot : ℕ) (rights : Rights) (flags : HandleFlags) (head : Head) (body : Body)
     (table : process < length p.tables.tables)
+    (live : IsLive p.processes.processes process)
     (vacant : is_vacant_at (vacancy (places_in p.objects)) slot ≡ true)
     (formed : form_of body ≡ form_in head.descr)
     (owned : (t : ℕ) → owner_of body ≡ Some t → IsLive p.processes.threads t) where
@@ -137,9 +139,8 @@ module _ (p : PartsState) (kept : IsKept p) (tied : IsTied p.objects)
       record {
         sound = record {
           limited = sound.limited;
-          processes_kept = processes_same p.limits p.processes (length p.tables.tables)
-              (length (with_entry_of p.tables.tables process entry))
-              (length-set p.tables.tables process _) sound.processes_kept;
+          processes_kept = live_changed p.limits p.processes p.tables.tables process
+              (with_entry (table_of p.tables.tables process) entry) live sound.processes_kept;
           counted = subst (λ (n : ℕ). IsCounted (with_object o slot head body).seen n
               (with_entry_of p.tables.tables process entry) p.waits.waits)
               (sym (length-set o.objects slot (Some (object_in o slot head))))

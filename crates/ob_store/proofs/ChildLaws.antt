@@ -26,7 +26,7 @@ use Rattle.ob_store.proofs.CameLaws.{came_one}
 use Rattle.ob_store.proofs.CountedLaws.{handles_at, handles_long}
 use Rattle.ob_store.proofs.NamedLaws.{entry_counted}
 use Rattle.ob_store.proofs.ListingLaws.{listing_child}
-use Rattle.ob_store.proofs.KeptLaws.{handled, kept_process, processes_same}
+use Rattle.ob_store.proofs.KeptLaws.{handled, kept_process, table_came}
 
 -- a place of a child's table has what its parent's has there
 inherited_at : (t : List (Option Entry)) (i : ℕ) → get_or (inherited t) i None ≡ inheritable (get_or t i None)
@@ -165,13 +165,20 @@ module _ (p : PartsState) (kept : IsKept p) (parent : ℕ) (w : Whole) (view : w
       → IsKept (with_child session (with_handles_of p.objects (inherited (table_of p.tables.tables parent))))
   kept_child session processes threads =
       let plain = (kept_process p session w view kept processes threads).sound in
-      let long : length (tables.with_child ts parent) ≡ length (tables.with_process ts) =
-      length-append ts (child_table ∷ []) ∙ sym (length-append ts ([] ∷ [])) in
+      let old = kept.sound.processes_kept in
       let is : IsKept (with_child session counted) = record {
         sound = record {
           limited = kept.sound.limited;
-          processes_kept = processes_same p.limits (spec.with_process p.processes session)
-              (length (tables.with_process ts)) (length (tables.with_child ts parent)) long plain.processes_kept;
+          processes_kept = record {
+            few_processes = plain.processes_kept.few_processes;
+            few_threads = plain.processes_kept.few_threads;
+            processes_from_one = plain.processes_kept.processes_from_one;
+            threads_from_one = plain.processes_kept.threads_from_one;
+            tabled = length-append ts (child_table ∷ []) ∙ sym (length-append ts ([] ∷ []))
+                ∙ plain.processes_kept.tabled;
+            vacated = table_came p.processes.processes ts session child_table old.tabled old.vacated;
+            live = plain.processes_kept.live;
+          };
           counted = record { handles = handles_after; blocks = kept.sound.counted.blocks };
           named = named_child;
           formed = kept.sound.formed;

@@ -1,7 +1,8 @@
 -- Threads and processes end: what is sound stays so, and is on its way to the settled state.
 use Rattle.std.proofs.Common.{◌≡◌, ◌≢◌, ℕ, ◌<◌, List, [], length, Option, Some, None, refl, ap, ◌∙◌, sym, subst, arith, get_or, set, map, Bool, true, false, cond, inl, inr, eqb}
 use Rattle.std.specs.Prelude.{IsSome, is_some, sum_by}
-use Rattle.std.proofs.lemmas.List.{length-set, length-map, get_or-set_other}
+use Rattle.std.proofs.lemmas.Bool.{cases_eq}
+use Rattle.std.proofs.lemmas.List.{length-set, length-map, get_or-set_other, get_or-set_same}
 use Rattle.std.proofs.lemmas.Bool.Decides.{nat_tests}
 use Rattle.pin_core.specs.declared.id.Id.{Id}
 use Rattle.pin_words.specs.Keepers.{KeeperState}
@@ -182,6 +183,7 @@ module _ (p : PartsState) (q r : ObjectsState) (a : SignaledState) (t : ℕ)
           processes_from_one = way.sound.processes_kept.processes_from_one;
           threads_from_one = from_one_less p.processes.threads t way.sound.processes_kept.threads_from_one;
           tabled = way.sound.processes_kept.tabled;
+          vacated = way.sound.processes_kept.vacated;
           live = λ u n h. way.sound.processes_kept.live u n (some_set p.processes.threads t u n h);
         })
         counted
@@ -287,6 +289,12 @@ module _ (first : KeeperState) (p : PartsState) (s : State) (process : ℕ)
           threads_from_one = way.sound.processes_kept.threads_from_one;
           tabled = length-set p.tables.tables process [] ∙ way.sound.processes_kept.tabled
               ∙ sym (length-set p.processes.processes process None);
+          vacated = λ q gone. elim (cases_eq q process) [
+            | inl same ↦ ap (λ i. get_or cleared i []) same ∙ get_or-set_same p.tables.tables process [] [] table
+            | inr other ↦ get_or-set_other p.tables.tables process q [] [] other
+                ∙ way.sound.processes_kept.vacated q
+                (sym (get_or-set_other p.processes.processes process q None None other) ∙ gone)
+          ];
           live = λ t r h. live_still p.processes.processes process r (λ same. alone t (h ∙ ap Some same))
               (way.sound.processes_kept.live t r h);
         };

@@ -1,5 +1,5 @@
 -- What is kept is kept by each change of a store, and the state after it is the settled one.
-use Rattle.std.proofs.Common.{◌≡◌, ℕ, zero, suc, ◌+◌, ◌<◌, ◌≤◌, List, [], ◌∷◌, ◌++◌, length, Option, Some, None, refl, ap, ◌∙◌, sym, subst, arith, get_or, map, true, inl, inr, ltb}
+use Rattle.std.proofs.Common.{◌≡◌, ℕ, zero, suc, ◌+◌, ◌<◌, ◌≤◌, List, [], ◌∷◌, ◌++◌, length, Option, Some, None, refl, ap, ◌∙◌, sym, subst, arith, get_or, map, true, inl, inr, ltb, set}
 use Rattle.std.specs.Prelude.{IsSome, is_some}
 use Rattle.std.proofs.Math.Seq.{get_or-append_seam}
 use Rattle.std.proofs.lemmas.List.{length-set, length-append}
@@ -10,12 +10,13 @@ use Rattle.pin_words.specs.Keepers.{KeeperState}
 use Rattle.ob_rights.specs.declared.handle_flags.HandleFlags.{HandleFlags}
 use Rattle.ob_tables.specs.declared.entry.Entry.{Entry}
 use Rattle.ob_tables.specs.Counts.{handles_among}
-use Rattle.ob_tables.specs.Table.{entry_at}
+use Rattle.ob_tables.specs.Table.{entry_at, with_entry, with_flags}
 use Rattle.ob_tables.specs.Tables.{IsBounded, table_of, with_entry_of, with_flags_of}
 use Rattle.ob_tables.specs.Tables as tables
 use Rattle.ob_tables.proofs.SlotCounts.{slot_handles-le}
 use Rattle.ob_waits.specs.Rules.{HasBodies, WaitsHaveRoom}
 use Rattle.ob_waits.specs.Waits.{WaitList}
+use Rattle.ob_waits.proofs.Writes.{set_at}
 use Rattle.ob_store.specs.declared.limits.Limits.{Limits}
 use Rattle.ob_store.specs.Processes as spec
 use Rattle.ob_store.specs.Processes.{ProcessesState}
@@ -33,10 +34,39 @@ use Rattle.ob_store.proofs.Places.{from_one_more}
 use Rattle.ob_store.proofs.SettledLaws.{settled_still}
 use Rattle.ob_store.proofs.ThreadListLaws.{live_more}
 
--- as many tables as there are processes
-pub processes_same : (limits : Limits) (l : ProcessesState) (n m : ℕ) → m ≡ n → ProcessesKept limits l n
-    → ProcessesKept limits l m
-processes_same limits l n m same k = subst (λ (i : ℕ). ProcessesKept limits l i) (sym same) k
+-- the table of one process changes, which stays empty where that isn't live
+pub table_changed : (limits : Limits) (l : ProcessesState) (ts : List (List (Option Entry))) (process : ℕ)
+    (table : List (Option Entry)) → (get_or l.processes process None ≡ None → table ≡ [])
+    → ProcessesKept limits l ts → ProcessesKept limits l (set ts process table)
+table_changed limits l ts process table empty k = record {
+  few_processes = k.few_processes;
+  few_threads = k.few_threads;
+  processes_from_one = k.processes_from_one;
+  threads_from_one = k.threads_from_one;
+  tabled = length-set ts process table ∙ k.tabled;
+  vacated = λ q none. set_at (λ (t : List (Option Entry)). t ≡ []) ts process q table []
+      (λ same. empty (ap (λ i. get_or l.processes i None) (sym same) ∙ none)) (k.vacated q none);
+  live = k.live;
+}
+
+-- that of a live process changes at will
+pub live_changed : (limits : Limits) (l : ProcessesState) (ts : List (List (Option Entry))) (process : ℕ)
+    (table : List (Option Entry)) → IsLive l.processes process → ProcessesKept limits l ts
+    → ProcessesKept limits l (set ts process table)
+live_changed limits l ts process table live = table_changed limits l ts process table
+    (λ none. absurd (let e = ap is_some none in cc (e, live)))
+
+-- a process comes with a table
+pub table_came : (ps : List (Option ℕ)) (ts : List (List (Option Entry))) (session : ℕ) (table : List (Option Entry))
+    → length ts ≡ length ps → ((q : ℕ) → get_or ps q None ≡ None → get_or ts q [] ≡ []) → (q : ℕ)
+    → get_or (ps ++ Some session ∷ []) q None ≡ None → get_or (ts ++ table ∷ []) q [] ≡ []
+table_came [] [] session table same each zero none = absurd cc
+table_came [] [] session table same each (suc q) none = refl
+table_came [] (t ∷ ts) session table same each q none = absurd (omega (arith, same))
+table_came (p ∷ ps) [] session table same each q none = absurd (omega (arith, same))
+table_came (p ∷ ps) (t ∷ ts) session table same each zero none = each zero none
+table_came (p ∷ ps) (t ∷ ts) session table same each (suc q) none =
+    table_came ps ts session table (omega (arith, same)) (λ r. each (suc r)) q none
 
 -- what stands at a place stays there where one more comes at the end
 pub live_pushed : (xs : List (Option ℕ)) (x : Option ℕ) (n : ℕ) → IsLive xs n → IsLive (xs ++ x ∷ []) n
@@ -101,7 +131,7 @@ module _ (p : PartsState) (l : ProcessesState) (q : ObjectsState) (ws : WaitList
         births = births_same i;
       }
 
-  pub sound_rested : IsSound p → ws.limit ≡ p.waits.limit → ProcessesKept p.limits l (length p.tables.tables)
+  pub sound_rested : IsSound p → ws.limit ≡ p.waits.limit → ProcessesKept p.limits l p.tables.tables
       → IsCounted q.seen (length p.objects.objects) p.tables.tables ws.waits
       → IsNamed p.objects.objects p.tables.tables ws.waits
       → AreFormed ws.clock p.objects.objects q.seen.bodies → AreOfLive l.threads q.seen.bodies ws.waits
@@ -151,15 +181,15 @@ placed p process e = record p {
 }
 
 pub kept_placed : (p : PartsState) (process : ℕ) (e : Entry) → IsKept p → process < length p.tables.tables
-    → 0 < handles_among e.id p.tables.tables → IsKept (placed p process e)
-kept_placed p process e kept table some =
+    → IsLive p.processes.processes process → 0 < handles_among e.id p.tables.tables → IsKept (placed p process e)
+kept_placed p process e kept table live some =
     let ts = p.tables.tables in
     let sound = kept.sound in
     record {
       sound = record {
         limited = sound.limited;
-        processes_kept = processes_same p.limits p.processes (length ts) (length (with_entry_of ts process e))
-            (length-set ts process _) sound.processes_kept;
+        processes_kept = live_changed p.limits p.processes ts process (with_entry (table_of ts process) e) live
+            sound.processes_kept;
         counted = counted_placed p.objects.seen (length p.objects.objects) ts p.waits.waits sound.counted process e
             table;
         named = named_placed p.objects.objects ts p.waits.waits sound.named process e table some;
@@ -188,9 +218,10 @@ kept_flags p process value flags kept some = by (entry_at (table_of p.tables.tab
     by (Some e) found _ = record {
       sound = record {
         limited = kept.sound.limited;
-        processes_kept = processes_same p.limits p.processes (length p.tables.tables)
-            (length (with_flags_of p.tables.tables process value flags))
-            (length-set p.tables.tables process _) kept.sound.processes_kept;
+        processes_kept = table_changed p.limits p.processes p.tables.tables process
+            (with_flags (table_of p.tables.tables process) value flags)
+            (λ none. ap (λ (t : List (Option Entry)). with_flags t value flags)
+            (kept.sound.processes_kept.vacated process none)) kept.sound.processes_kept;
         counted = counted_flags p.objects.seen (length p.objects.objects) p.tables.tables p.waits.waits
             kept.sound.counted process value e flags found;
         named = named_flags p.objects.objects p.tables.tables p.waits.waits kept.sound.named process value e flags
@@ -231,6 +262,8 @@ kept_process p session w view kept processes threads = record {
       tabled = (let a = length-append p.processes.processes (Some session ∷ []) in
           let b = length-append p.tables.tables ([] ∷ []) in let c = kept.sound.processes_kept.tabled in
           omega (arith, a, b, c));
+      vacated = table_came p.processes.processes p.tables.tables session [] kept.sound.processes_kept.tabled
+          kept.sound.processes_kept.vacated;
       live = live_after;
     };
     counted = counted_process p.objects.seen (length p.objects.objects) p.tables.tables p.waits.waits
@@ -272,6 +305,7 @@ kept_thread p process kept threads live =
           processes_from_one = sound.processes_kept.processes_from_one;
           threads_from_one = from_one_more l.threads (Some process) sound.processes_kept.threads_from_one;
           tabled = sound.processes_kept.tabled;
+          vacated = sound.processes_kept.vacated;
           live = λ t q h. elim (live_more l.threads process t q h) [
             | inl old ↦
                 sound.processes_kept.live t q old.1

@@ -1,5 +1,5 @@
 -- The entry of a handle leaves: what is sound stays so, and is on its way to the settled state.
-use Rattle.std.proofs.Common.{◌≡◌, ℕ, ◌+◌, ◌<◌, List, length, Option, Some, None, refl, ap, ◌∙◌, sym, subst, arith, get_or, Bool, true, false, cond, eqb}
+use Rattle.std.proofs.Common.{◌≡◌, ℕ, ◌+◌, ◌<◌, List, length, Option, Some, None, refl, ap, ◌∙◌, sym, subst, arith, get_or, Bool, true, false, cond, eqb, set, ltb, []}
 use Rattle.std.specs.Prelude.{is_some, IsSome}
 use Rattle.std.proofs.lemmas.List.{length-set}
 use Rattle.std.proofs.lemmas.Bool.Decides.{nat_tests}
@@ -9,7 +9,7 @@ use Rattle.pin_words.specs.Keepers.{KeeperState, closed}
 use Rattle.ob_name.specs.Names.{ObjectName}
 use Rattle.ob_name.specs.Listing.{Rows}
 use Rattle.ob_tables.specs.declared.entry.Entry.{Entry}
-use Rattle.ob_tables.specs.Table.{entry_at}
+use Rattle.ob_tables.specs.Table.{entry_at, without_entry, place_of}
 use Rattle.ob_tables.specs.Counts.{handles_among}
 use Rattle.ob_tables.specs.Tables.{table_of, without_entry_of}
 use Rattle.ob_waits.proofs.Room.{room_changed}
@@ -26,7 +26,15 @@ use Rattle.ob_store.proofs.NamedLaws.{there_some, there_within, named_entry, nam
 use Rattle.ob_store.proofs.BodyLaws.{of_live_gone}
 use Rattle.ob_store.proofs.LeftLaws.{formed_left, left_gone, left_more, room_left_at}
 use Rattle.ob_store.proofs.ListingLaws.{placed_agreed, listing_removed, listing_removed_last, listing_name_removed}
-use Rattle.ob_store.proofs.KeptLaws.{processes_same, same_generations, same_shape}
+use Rattle.ob_store.proofs.KeptLaws.{same_generations, same_shape, table_changed}
+
+-- an empty table stays empty
+nothing_left : (value : ℕ) → without_entry [] value ≡ []
+nothing_left value = by (ltb value 4)
+  where
+    by : (b : Bool) → cond b [] (set {A = Option Entry} [] (place_of value) None) ≡ []
+    by true = refl
+    by false = refl
 
 module _ (p : PartsState) (process value : ℕ) (e : Entry)
     (sound : IsSound p)
@@ -93,8 +101,10 @@ module _ (p : PartsState) (process value : ℕ) (e : Entry)
       shape_is = same_shape handle_left.keeper o.keeper only_closes
           ∙ sound.limited.shape_is;
     };
-    processes_kept = processes_same p.limits p.processes (length p.tables.tables) (length tables_after)
-        (length-set p.tables.tables process _) sound.processes_kept;
+    processes_kept = table_changed p.limits p.processes p.tables.tables process
+        (without_entry (table_of p.tables.tables process) value)
+        (λ none. ap (λ (t : List (Option Entry)). without_entry t value) (sound.processes_kept.vacated process none)
+        ∙ nothing_left value) sound.processes_kept;
     counted = counted_removed o.seen (length o.objects) p.tables.tables p.waits.waits sound.counted
         handle_left.seen.bodies process value e found;
     named = named_after;

@@ -47,6 +47,7 @@ pub mod SavedCodecs
 pub mod CountingAgain
 pub mod WholeAgain
 pub mod SavedAgain
+pub mod VacatedLaws
 pub mod SavedStoreLaws
 pub mod TickLaws
 pub mod Yielding

@@ -10,7 +10,7 @@ use Rattle.pin_core.specs.Opened.{SlotOpens}
 use Rattle.pin_core.specs.Worlds.{opening_slot, slot_of}
 use Rattle.pin_words.specs.Keepers.{KeeperState, IsFresh}
 use Rattle.ob_body.specs.declared.body.Body.{Body}
-use Rattle.ob_tables.specs.Tables.{HandleTables}
+use Rattle.ob_tables.specs.Tables.{HandleTables, table_of}
 use Rattle.ob_waits.specs.declared.wait.Wait.{Wait}
 use Rattle.ob_waits.specs.Form.{IsAfter, slot_due, slot_owner}
 use Rattle.ob_waits.specs.Rules.{WaitHasRoom, thread_of}
@@ -37,6 +37,10 @@ no_tables limits = record { process_limit = limits.processes; handle_limit = lim
 abbrev pub no_waits : Limits → WaitList
 no_waits limits = record { limit = limits.waits; waits = None ∷ []; clock = 0 }
 
+one_empty : (q : ℕ) → table_of ([] ∷ []) q ≡ []
+one_empty zero = refl
+one_empty (suc q) = refl
+
 module _ (limits : Limits) (keeper : KeeperState) (fresh : IsFresh keeper (shape_of limits)) where
   abbrev pub no_objects : ObjectsState
   no_objects = with_keeper (vacant_places limits.slots) 0 keeper
@@ -62,6 +66,7 @@ module _ (limits : Limits) (keeper : KeeperState) (fresh : IsFresh keeper (shape
         processes_from_one = record { not_empty = omega arith; none = refl };
         threads_from_one = record { not_empty = omega arith; none = refl };
         tabled = refl;
+        vacated = λ q none. one_empty q;
         live = λ t p h. absurd (let none = one_none ℕ t in cc (none, h));
       };
       counted = subst (λ (n : ℕ). IsCounted no_objects.seen n ([] ∷ []) (None ∷ []))

@@ -8,6 +8,7 @@ use Rattle.std.proofs.lemmas.Bool.Decides.{nat_tests}
 use Rattle.pin_core.specs.declared.shape.Shape.{Shape}
 use Rattle.ob_tables.specs.Counts.{handles_among}
 use Rattle.ob_waits.specs.Waits.{blocks_among}
+use Rattle.ob_tables.specs.declared.entry.Entry.{Entry}
 use Rattle.ob_store.specs.declared.limits.Limits.{Limits}
 use Rattle.ob_store.specs.declared.found.Found.{Found}
 use Rattle.ob_store.specs.Processes.{ProcessesState}
@@ -89,15 +90,17 @@ live_within numbers n live = elim (cases_lt n (length numbers)) [
 ]
 
 -- a live process has its table
-pub process_tabled : (limits : Limits) (l : ProcessesState) (tables process : ℕ) (x : Option ℕ)
-    → ProcessesKept limits l tables → x ≡ get_or l.processes process None → OnSome x (process < tables)
+pub process_tabled : (limits : Limits) (l : ProcessesState) (tables : List (List (Option Entry))) (process : ℕ)
+    (x : Option ℕ) → ProcessesKept limits l tables → x ≡ get_or l.processes process None
+    → OnSome x (process < length tables)
 process_tabled limits l tables process None kept is = tt
 process_tabled limits l tables process (Some s) kept is = let lt = live_within l.processes process (ap is_some (sym is))
     in let same = kept.tabled in omega (arith, lt, same)
 
 -- the process of a live thread has its table
-pub thread_tabled : (limits : Limits) (l : ProcessesState) (tables thread : ℕ) (x : Option ℕ)
-    → ProcessesKept limits l tables → x ≡ get_or l.threads thread None → IfSome x (λ p. p < tables)
+pub thread_tabled : (limits : Limits) (l : ProcessesState) (tables : List (List (Option Entry))) (thread : ℕ)
+    (x : Option ℕ) → ProcessesKept limits l tables → x ≡ get_or l.threads thread None
+    → IfSome x (λ p. p < length tables)
 thread_tabled limits l tables thread None kept is = tt
 thread_tabled limits l tables thread (Some p) kept is = let lt = live_within l.processes p (kept.live thread p (sym is))
     in let same = kept.tabled in omega (arith, lt, same)

@@ -4,6 +4,7 @@ use Rattle.std.specs.Prelude.{is_some, not}
 use Rattle.std.proofs.lemmas.Bool.{and_from, le-leb}
 use Rattle.ob_codec.specs.Codecs.{as_codec, both_codec, list_codec, option_codec, u32_codec, where_codec}
 use Rattle.ob_codec.specs.Laws.{IsCodec}
+use Rattle.ob_tables.specs.declared.entry.Entry.{Entry}
 use Rattle.ob_store.specs.declared.limits.Limits.{Limits}
 use Rattle.ob_store.specs.Kept.{IsLive, ProcessesKept}
 use Rattle.ob_store.specs.Processes.{IsFromOne, ProcessesState}
@@ -40,7 +41,7 @@ module _ (ps : List (Option ℕ)) where
       → are_of_live (ps, ts) ≡ true
   live_pass ts each = all_from (is_of_live ps) ts None (λ t lt. live_from (get_or ts t None) (each t))
 
-pub kept_fits : (limits : Limits) (l : ProcessesState) (tables : ℕ) → ProcessesKept limits l tables → ListsFit l
+pub kept_fits : (limits : Limits) (l : ProcessesState) (tables : List (List (Option Entry))) → ProcessesKept limits l tables → ListsFit l
     → ProcessesFit limits.processes limits.threads l
 kept_fits limits l tables kept fits = (
   (

@@ -36,7 +36,7 @@ use Rattle.ob_store.specs.SavedLimitLaws.{limits_codec}
 use Rattle.ob_store.specs.SavedObjects.{begun_over, objects_at, objects_text, slots_saved}
 use Rattle.ob_store.specs.SavedProcesses.{ListsFit, processes_at, processes_text}
 use Rattle.ob_store.specs.SavedSlots.{SlotFits, keeper_slot, object_text, slot_text}
-use Rattle.ob_store.specs.SavedStore.{is_moment, lists_at, moment_at, parts_at, begun_again, slot_bytes, store_at, store_text, behind_lists, whole_with}
+use Rattle.ob_store.specs.SavedStore.{are_vacated, is_moment, lists_at, moment_at, parts_at, begun_again, slot_bytes, store_at, store_text, tables_for, behind_lists, whole_with}
 use Rattle.ob_store.specs.State.{Whole, generation_of, shape_of}
 use Rattle.ob_store.proofs.NamedLaws.{place_counted, there_within}
 use Rattle.ob_store.proofs.PlacedLaws.{live_within}
@@ -46,6 +46,7 @@ use Rattle.ob_store.proofs.SavedProcessLaws.{kept_fits, processes_codec}
 use Rattle.ob_store.proofs.SavedObjectLaws.{none_saved}
 use Rattle.ob_store.proofs.ByPlace.{all_at, all_from}
 use Rattle.ob_store.proofs.SavedSlotLaws.{slot_generation}
+use Rattle.ob_store.proofs.VacatedLaws.{vacated_from, vacated_pass}
 
 -- six texts, and what stands behind them
 behind_six : (a b c d e f rest : List ℕ) → (a ++ (b ++ (c ++ (d ++ (e ++ f))))) ++ rest
@@ -77,7 +78,7 @@ generations_back s tied =
     ∙ sym (get_or-map generation_of s.keeper.slots k opening_slot 0 (omega (arith, here, tied.agreed.wide)))))
 
 -- tables that fit, within the limits
-tables_bounded : (limits : Limits) (p : ProcessesState) (t : HandleTables) → ProcessesKept limits p (length t.tables)
+tables_bounded : (limits : Limits) (p : ProcessesState) (t : HandleTables) → ProcessesKept limits p t.tables
     → t.process_limit ≡ limits.processes → t.handle_limit ≡ limits.handles → TablesFit t
     → IsBounded t.process_limit t.handle_limit t.tables
 tables_bounded limits p t kept few short fits =
@@ -180,14 +181,22 @@ module _ (p : PartsState) (kept : IsKept p) (tied : IsTied p.objects) (processes
   processes_again : (rest : List ℕ) → processes_at p.limits.processes p.limits.threads
       (processes_text p.processes ++ rest) ≡ Ok (p.processes, rest)
   processes_again rest = (processes_codec p.limits.processes p.limits.threads).again p.processes rest
-      (kept_fits p.limits p.processes (length p.tables.tables) sound.processes_kept processes)
+      (kept_fits p.limits p.processes p.tables.tables sound.processes_kept processes)
 
-  tables_back : (rest : List ℕ) → tables_at p.limits.processes p.limits.handles (length p.processes.processes)
+  tables_there : (rest : List ℕ) → tables_at p.limits.processes p.limits.handles (length p.processes.processes)
       (tables_text p.tables.tables ++ rest) ≡ Ok (p.tables, rest)
-  tables_back rest = subst (λ (z : ℕ × (ℕ × ℕ)). tables_at z.0 z.1.0 z.1.1 (tables_text p.tables.tables ++ rest)
+  tables_there rest = subst (λ (z : ℕ × (ℕ × ℕ)). tables_at z.0 z.1.0 z.1.1 (tables_text p.tables.tables ++ rest)
       ≡ Ok (p.tables, rest))
       (λ i. (sound.limited.processes_are i, (sound.limited.handles_are i, sound.processes_kept.tabled i)))
       (tables_again p.tables rest tables)
+
+  tables_back : (rest : List ℕ) → tables_for p.limits p.processes.processes
+      (tables_text p.tables.tables ++ rest) ≡ Ok (p.tables, rest)
+  tables_back rest = rw (
+    tables_there rest,
+    vacated_pass p.processes.processes p.tables.tables
+        sound.processes_kept.vacated (length p.processes.processes),
+  ) refl
 
   waits_back : (rest : List ℕ) → waits_at p.limits.waits p.waits.clock (length p.processes.threads) p.limits.slots
       (waits_text p.waits.waits ++ rest) ≡ Ok (p.waits, rest)
@@ -269,6 +278,24 @@ tables_read processes handles given bytes t rest e =
       ),
     )
 
+-- and so are those of which the processes that aren't live have none
+pub tables_kept : (limits : Limits) (ps : List (Option ℕ)) (bytes : List ℕ) (t : HandleTables) (rest : List ℕ)
+    → tables_for limits ps bytes ≡ Ok (t, rest)
+    → (tables_at limits.processes limits.handles (length ps) bytes ≡ Ok (t, rest))
+    × ((q : ℕ) → get_or ps q None ≡ None → get_or t.tables q [] ≡ [])
+tables_kept limits ps bytes t rest e =
+    let a = bind_ok (tables_at limits.processes limits.handles (length ps) bytes)
+    (λ (a : HandleTables × List ℕ). cond (are_vacated ps a.0.tables (length ps)) (Ok a) (Err Value)) (t, rest) e in
+    let g = guard_passed (are_vacated ps a.0.0.tables (length ps)) Value a.0 (t, rest) a.2 in
+    let all : are_vacated ps t.tables (length ps) ≡ true =
+    subst (λ (z : HandleTables × List ℕ). are_vacated ps z.0.tables (length ps) ≡ true) g.1 g.0 in
+    let read : tables_at limits.processes limits.handles (length ps) bytes ≡ Ok (t, rest) =
+    a.1 ∙ ap (λ (z : HandleTables × List ℕ). Ok z) g.1 in (
+      read,
+      vacated_from ps t.tables (length ps)
+          (tables_read limits.processes limits.handles (length ps) bytes t rest read).1.1 all,
+    )
+
 -- so were the waits, at the moment that was asked for
 waits_moment : (limit clock threads slots : ℕ) (bytes : List ℕ) (list : WaitList) (rest : List ℕ)
     → waits_at limit clock threads slots bytes ≡ Ok (list, rest) → list.clock ≡ clock
@@ -286,9 +313,10 @@ lists_were limits clock bytes l are e =
     let c = bind_ok (processes_at limits.processes limits.threads bytes) _ l e in
     let p = c.0.0 in
     let lc = ((processes_codec limits.processes limits.threads).takes bytes p c.0.1 are c.1).0 in
-    let d = bind_ok (tables_at limits.processes limits.handles (length p.processes) c.0.1) _ l c.2 in
+    let d = bind_ok (tables_for limits p.processes c.0.1) _ l c.2 in
     let t = d.0.0 in
-    let ld = (tables_take limits.processes limits.handles (length p.processes) c.0.1 t d.0.1 lc.rest_fits d.1).0 in
+    let ld = (tables_take limits.processes limits.handles (length p.processes) c.0.1 t d.0.1 lc.rest_fits
+    (tables_kept limits p.processes c.0.1 t d.0.1 d.1).0).0 in
     let f = bind_ok (waits_at limits.waits clock (length p.threads) limits.slots d.0.1) _ l d.2 in
     let list = f.0.0 in
     let lf = (waits_take limits.waits clock (length p.threads) limits.slots d.0.1 list f.0.1 ld.rest_fits f.1).0 in

@@ -10,6 +10,7 @@ use Rattle.std.proofs.Math.Seq.{get_or-append_seam}
 use Rattle.std.proofs.lemmas.List.Sums.{sum_by-set, sum_by-append, sum_by-cons}
 use Rattle.std.proofs.lemmas.Bool.{cases_eq, cases_lt, ltb-false, ltb-true}
 use Rattle.std.proofs.lemmas.Bool.Decides.{nat_tests}
+use Rattle.ob_tables.specs.declared.entry.Entry.{Entry}
 use Rattle.ob_store.specs.declared.limits.Limits.{Limits}
 use Rattle.ob_store.specs.Kept.{ProcessesKept}
 use Rattle.ob_store.specs.declared.thread_lists.ThreadList.{ThreadList}
@@ -659,8 +660,8 @@ module _ (n : ℕ) (ts : List (Option ℕ)) (m : ThreadListsState) (are : AreThr
       ]) mine was.1 since less
 
 -- a new process is the newest
-pub newest : (limits : Limits) (l : ProcessesState) (tables session : ℕ) → ProcessesKept limits l tables
-    → IsNewest (with_process l session)
+pub newest : (limits : Limits) (l : ProcessesState) (tables : List (List (Option Entry))) (session : ℕ)
+    → ProcessesKept limits l tables → IsNewest (with_process l session)
 newest limits l tables session kept = record {
   before = l;
   session = session;

@@ -11,10 +11,10 @@ use Rattle.ob_store.specs.Directory.{directory_of}
 use Rattle.ob_store.specs.Kept.{AreFormed, AreOfLive, IsNamed, IsQuiet, IsThere, ProcessesKept}
 
 pub record IsConsistent (w : Whole) : Type 0 where
-  -- numbers are within the limits and 0 is nobody's, each process number has a table, and a live thread's process is
-  -- live
+  -- numbers are within the limits and 0 is nobody's, each process number has a table, which is empty where the process
+  -- isn't live, and a live thread's process is live
   pub processes : ProcessesKept w.state.limits (record { processes = w.state.processes; threads = w.state.threads })
-      (length w.state.tables)
+      w.state.tables
   -- slot by slot: free, or given up, or with one object of the slot's Id and descriptor, live with a body and closing
   -- without
   pub slots : (k : ℕ) → k < w.keeper.shape.slots →

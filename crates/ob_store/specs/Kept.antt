@@ -1,6 +1,6 @@
 -- What holds whenever no call is under way. Each group of facts is about the parts that it reads, so that a change of
 -- others leaves it as it is.
-use Rattle.std.specs.Prelude.{◌≡◌, ℕ, ◌+◌, ◌<◌, ◌≤◌, List, Option, Some, None, length, slice_index_or, IsSome, true}
+use Rattle.std.specs.Prelude.{◌≡◌, ℕ, ◌+◌, ◌<◌, ◌≤◌, List, [], Option, Some, None, length, slice_index_or, IsSome, true}
 use Rattle.pin_core.specs.declared.id.Id.{Id}
 use Rattle.pin_core.specs.declared.descr.Descr.{Descr}
 use Rattle.pin_core.specs.declared.shape.Shape.{Shape}
@@ -32,14 +32,15 @@ pub record AreLimited (limits : Limits) (processes handles waits : ℕ) (shape :
 abbrev pub IsLive : List (Option ℕ) → ℕ → Type 0
 IsLive numbers n = IsSome (slice_index_or numbers n None)
 
--- no more numbers than the limits let, and 0 is nobody's; each process number has a table; a live thread's process is
--- live
-pub record ProcessesKept (limits : Limits) (p : ProcessesState) (tables : ℕ) : Type 0 where
+-- no more numbers than the limits let, and 0 is nobody's; each process number has a table, which is empty where the
+-- process isn't live; a live thread's process is live
+pub record ProcessesKept (limits : Limits) (p : ProcessesState) (tables : List (List (Option Entry))) : Type 0 where
   pub few_processes : length p.processes ≤ limits.processes + 1
   pub few_threads : length p.threads ≤ limits.threads + 1
   pub processes_from_one : IsFromOne p.processes
   pub threads_from_one : IsFromOne p.threads
-  pub tabled : tables ≡ length p.processes
+  pub tabled : length tables ≡ length p.processes
+  pub vacated : (process : ℕ) → slice_index_or p.processes process None ≡ None → slice_index_or tables process [] ≡ []
   pub live : (thread process : ℕ) → slice_index_or p.threads thread None ≡ Some process → IsLive p.processes process
 
 -- the stored counts are the numbers of entries and of places of pending waits
@@ -105,7 +106,7 @@ pub record IsListing (rows : Rows) (tables : List (List (Option Entry))) (object
 -- what ties the parts of a store to one another while a call is under way
 pub record IsSound (p : PartsState) : Type 0 where
   pub limited : AreLimited p.limits p.tables.process_limit p.tables.handle_limit p.waits.limit p.objects.keeper.shape
-  pub processes_kept : ProcessesKept p.limits p.processes (length p.tables.tables)
+  pub processes_kept : ProcessesKept p.limits p.processes p.tables.tables
   pub counted : IsCounted p.objects.seen (length p.objects.objects) p.tables.tables p.waits.waits
   pub named : IsNamed p.objects.objects p.tables.tables p.waits.waits
   pub formed : AreFormed p.waits.clock p.objects.objects p.objects.seen.bodies

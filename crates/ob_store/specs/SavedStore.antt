@@ -1,9 +1,10 @@
 -- A store as bytes: its limits, the moment, processes and threads, handle tables, waits, and slots with their objects.
-use Rattle.std.specs.Prelude.{ℕ, ◌*◌, nat_le, Bool, List, [], ◌++◌, length, map, Ok}
+use Rattle.std.specs.Prelude.{ℕ, zero, suc, ◌*◌, nat_le, nat_lt, ◌&&◌, ◌||◌, not, Bool, true, List, [], ◌++◌, length, map, Option, None, Ok, is_some, slice_index_or}
 use Rattle.std.specs.Int.{w64, to_le_bytes}
 use Rattle.ob_codec.specs.Reading.{◌>>=◌, Read, has_at, number_at, where_at}
 use Rattle.ob_tables.specs.Spelling.{tables_at, tables_text}
 use Rattle.ob_tables.specs.Tables.{HandleTables}
+use Rattle.ob_tables.specs.declared.entry.Entry.{Entry}
 use Rattle.ob_waits.specs.Spelling.{waits_at, waits_text}
 use Rattle.ob_waits.specs.Waits.{WaitList}
 use Rattle.ob_store.specs.declared.limits.Limits.{Limits}
@@ -39,6 +40,20 @@ is_moment n = nat_le n 9223372036854775807
 abbrev pub moment_at : List ℕ → Read ℕ
 moment_at = where_at is_moment (number_at w64)
 
+-- whether a number is live, or its table is empty; and the same of the first numbers
+abbrev pub is_vacated : List (Option ℕ) → List (List (Option Entry)) → ℕ → Bool
+is_vacated processes tables k =
+    is_some (slice_index_or processes k None) || not (nat_lt 0 (length (slice_index_or tables k [])))
+
+abbrev pub are_vacated : List (Option ℕ) → List (List (Option Entry)) → ℕ → Bool
+are_vacated processes tables zero = true
+are_vacated processes tables (suc n) = are_vacated processes tables n && is_vacated processes tables n
+
+-- handle tables, one for each process number, of which only the live ones have places
+abbrev pub tables_for : Limits → List (Option ℕ) → List ℕ → Read HandleTables
+tables_for limits processes = where_at (λ t. are_vacated processes t.tables (length processes))
+    (tables_at limits.processes limits.handles (length processes))
+
 -- the state that the parts say, and what their keeper says
 abbrev pub whole_with : Limits → ProcessesState → HandleTables → WaitList → ObjectsState → Whole
 whole_with limits p t w o = record {
@@ -58,11 +73,11 @@ whole_with limits p t w o = record {
   keeper = o.keeper;
 }
 
--- processes and threads, a handle table for each process number, and waits, one behind the other
+-- processes and threads, handle tables, and waits, one behind the other
 abbrev pub lists_at : Limits → ℕ → List ℕ → Read (ProcessesState × (HandleTables × WaitList))
 lists_at limits clock bytes = do
   p ← processes_at limits.processes limits.threads bytes
-  t ← tables_at limits.processes limits.handles (length p.0.processes) p.1
+  t ← tables_for limits p.0.processes p.1
   w ← waits_at limits.waits clock (length p.0.threads) limits.slots t.1
   Ok ((p.0, (t.0, w.0)), w.1)
 

@@ -37,12 +37,13 @@ pub struct Creation {
 }
 
 impl<K: PinKeeper> Store<K> {
-    /// Makes a new object without a name in a vacant slot, with a handle at the least free value of a process, and
-    /// answers the value.
+    /// Makes a new object without a name in a vacant slot, with a handle at the least free value of a live process,
+    /// and answers the value.
     ///
     /// Refused with 8 for want of memory.
     pub fn add_nameless(&mut self, process: u32, slot: u32, new: Creation) -> Result<u32, Fault>
         requires process { process < length self.old.state.tables }
+        requires live { IsLive self.old.state.processes process }
         requires room { is_full self.old.state process ≡ false }
         requires vacant { is_vacant_at (vacancy self.old.state) slot ≡ true }
         requires given { IsGiven new.descr }
@@ -84,6 +85,7 @@ impl<K: PinKeeper> Store<K> {
         name: &NameRef<'_>,
     ) -> Result<u32, Fault>
         requires process { process < length self.old.state.tables }
+        requires live { IsLive self.old.state.processes process }
         requires room { is_full self.old.state process ≡ false }
         requires vacant { is_vacant_at (vacancy self.old.state) slot ≡ true }
         requires given { IsGiven new.descr }

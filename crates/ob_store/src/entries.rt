@@ -4,6 +4,7 @@ ghost use Rattle.ob_rights.specs.declared.fault.Fault.TheVariants.{Limit, Memory
 ghost use Rattle.ob_tables.specs.Counts.{entries_in, handles_among};
 ghost use Rattle.ob_tables.specs.Table.{entry_at, free_place, is_packed, value_of};
 ghost use Rattle.ob_tables.specs.Tables.{table_of};
+ghost use Rattle.ob_store.specs.Kept.{IsLive};
 ghost use Rattle.ob_store.specs.State.{settled, with_entry, with_flags, without_entry};
 ghost use Rattle.ob_store.specs.Objects.{name_in};
 ghost use Rattle.ob_store.specs.Moves.{OnlyCloses, rows_left};
@@ -16,10 +17,11 @@ use ob_tables::Entry;
 use pin_words::PinKeeper;
 
 impl<K: PinKeeper> Store<K> {
-    /// Gives a process a further handle to an object; answers its value.
+    /// Gives a live process a further handle to an object; answers its value.
     #[inline(always)]
     pub fn place_entry(&mut self, process: u32, entry: Entry) -> Result<u32, Fault>
         requires process { process < length self.old.state.tables }
+        requires live { IsLive self.old.state.processes process }
         requires handled { 0 < handles_among entry.id self.old.state.tables }
         ensures value { IfOk result (λ value. value ≡ value_of (free_place (table_of self.old.state.tables process))) }
         ensures ok { OnOk result (self.new ≡ record self.old {

@@ -1,8 +1,9 @@
-ghost use Rattle.std.specs.Prelude.{ℕ, ◌≡◌, ◌+◌, ◌++◌, ◌<◌, ◌≤◌, None, Some, IfOk, OnOk, OnErr, is_some, length};
+ghost use Rattle.std.specs.Prelude.{ℕ, List, Option, [], ◌≡◌, ◌+◌, ◌++◌, ◌<◌, ◌≤◌, None, Some, IfOk, OnOk, OnErr, is_some, length};
 ghost use Rattle.std.specs.Prelude.{slice_index_or, slice_set};
 ghost use Rattle.std.specs.List.{list_any};
 ghost use Rattle.least_free.specs.From.{IsLeastFrom};
 ghost use Rattle.ob_codec.specs.Reading.{Gives};
+ghost use Rattle.ob_tables.specs.declared.entry.Entry.{Entry};
 ghost use Rattle.ob_store.specs.declared.limits.Limits.{Limits};
 ghost use Rattle.ob_store.specs.Kept.{ProcessesKept};
 ghost use Rattle.ob_store.specs.Processes.{ProcessesState, is_of, no_processes, with_process, with_thread};
@@ -72,8 +73,12 @@ impl Processes {
         requires few_processes { processes ≤ 65536 }
         requires few_threads { threads ≤ 65536 }
         ensures read { Gives (λ l. l) result (processes_at processes threads from.old) from.new }
-        ensures kept { IfOk result (λ l. (limits : Limits) → limits.processes ≡ processes → limits.threads ≡ threads
-            → ProcessesKept limits l (length l.processes)) }
+        ensures few { IfOk result (λ l. length l.processes ≤ processes + 1) }
+        ensures some { IfOk result (λ l. 1 ≤ length l.processes) }
+        ensures kept { IfOk result (λ l. (limits : Limits) (tables : List (List (Option Entry)))
+            → limits.processes ≡ processes → limits.threads ≡ threads → length tables ≡ length l.processes
+            → ((process : ℕ) → slice_index_or l.processes process None ≡ None → slice_index_or tables process [] ≡ [])
+            → ProcessesKept limits l tables) }
     {
         let sessions = Numbers::read(alloc, processes, from)?;
         let owners = Numbers::read(alloc, threads, from)?;

@@ -1,10 +1,10 @@
-ghost use Rattle.std.specs.Prelude.{◌≡◌, ◌≤◌, ◌++◌, ℕ, List, IfOk, Ok, OnOk, length, true};
+ghost use Rattle.std.specs.Prelude.{◌≡◌, ◌<◌, ◌≤◌, ◌+◌, ◌++◌, ℕ, List, IfOk, Ok, OnOk, length, true};
 ghost use Rattle.ob_codec.specs.Reading.{Gives};
 ghost use Rattle.ob_store.specs.Kept.{IsKept, ProcessesKept};
 ghost use Rattle.ob_waits.specs.Spelling.{are_within};
 ghost use Rattle.ob_store.specs.Parts.{parts_of, whole_of};
-ghost use Rattle.ob_store.specs.SavedStore.{begun_again, lists_at, moment_at, parts_at};
-ghost use Rattle.ob_store.specs.SavedStore.{store_at, store_text};
+ghost use Rattle.ob_store.specs.SavedStore.{are_vacated, begun_again, is_vacated, lists_at, moment_at, parts_at};
+ghost use Rattle.ob_store.specs.SavedStore.{store_at, store_text, tables_for};
 
 use crate::limits::Limits;
 use crate::objects::Objects;
@@ -33,6 +33,46 @@ fn read_moment(from: &mut Cursor<'_>) -> Result<u64, ReadFault>
     Ok(moment)
 }
 
+/// Whether a process that isn't live has no place in its table.
+fn is_vacated(processes: &Processes, tables: &Tables, process: u32) -> bool
+    requires { process < length tables.now.tables }
+    ensures { result ≡ is_vacated processes.now.processes tables.now.tables process }
+{
+    processes.session(process).is_some() || tables.entries(process).is_empty()
+}
+
+/// Whether none of the first so many processes that aren't live has a place in its table.
+fn are_vacated(processes: &Processes, tables: &Tables, given: u32) -> bool
+    requires { given ≤ length tables.now.tables }
+    ensures { result ≡ are_vacated processes.now.processes tables.now.tables given }
+{
+    for process in 0..given {
+        if !is_vacated(processes, tables, process) {
+            return false;
+        }
+    }
+    true
+}
+
+/// Reads handle tables, one for each process number.
+fn read_tables(
+    alloc: Global,
+    limits: Limits,
+    processes: &Processes,
+    from: &mut Cursor<'_>,
+) -> Result<Tables, ReadFault>
+    requires few { length processes.now.processes ≤ limits.processes + 1 }
+    requires some { 1 ≤ length processes.now.processes }
+    ensures { Gives (λ tables. tables) result (tables_for limits processes.now.processes from.old) from.new }
+{
+    let given = processes.next_process();
+    let tables = Tables::read(alloc, limits.processes, limits.handles, given, from)?;
+    if !are_vacated(processes, &tables, given) {
+        return Err(ReadFault::Text(TextFault::Value));
+    }
+    Ok(tables)
+}
+
 /// What a savestate has before its objects.
 #[derive(Drop)]
 struct Lists {
@@ -51,7 +91,7 @@ fn read_lists(
     requires { clock ≤ LAST_MOMENT }
     ensures read { Gives (λ lists. (lists.processes, (lists.tables, lists.waits))) result
         (lists_at limits clock from.old) from.new }
-    ensures kept { IfOk result (λ lists. ProcessesKept limits lists.processes (length lists.tables.tables)) }
+    ensures kept { IfOk result (λ lists. ProcessesKept limits lists.processes lists.tables.tables) }
     ensures process_limit { IfOk result (λ lists. lists.tables.process_limit ≡ limits.processes) }
     ensures handle_limit { IfOk result (λ lists. lists.tables.handle_limit ≡ limits.handles) }
     ensures wait_limit { IfOk result (λ lists. lists.waits.limit ≡ limits.waits) }
@@ -59,13 +99,7 @@ fn read_lists(
         lists.waits.waits ≡ true) }
 {
     let processes = Processes::read(alloc, limits.processes, limits.threads, from)?;
-    let tables = Tables::read(
-        alloc,
-        limits.processes,
-        limits.handles,
-        processes.next_process(),
-        from,
-    )?;
+    let tables = read_tables(alloc, limits, &processes, from)?;
     let waits = Waits::read(
         alloc,
         limits.waits,

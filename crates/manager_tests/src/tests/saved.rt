@@ -422,6 +422,11 @@ const EDITS_OF_KINDS: &[Edit<'static>] = &[
     (222, &[0], &[1], Some(TextFault::Value)),
     (213, &[1, 1, 0, 0, 0, 1, 0, 0, 0, 0], &[0, 1, 0, 0, 0, 0], Some(TextFault::Value)),
     (213, &[1, 1, 0, 0, 0, 1, 0, 0, 0, 0], &[0, 0, 0, 0, 0, 1], None),
+    // a handle of the process that is gone, and a place that has none
+    (133, &[0, 0, 0, 0], &[1, 0, 0, 0, 1, 0, 0, 0, 0, 1, 0, 0, 0, 3, 0, 31, 0, 0, 0, 0, 0], Some(TextFault::Value)),
+    (133, &[0, 0, 0, 0], &[1, 0, 0, 0, 0], Some(TextFault::Value)),
+    // the same of number 0
+    (74, &[0, 0, 0, 0], &[1, 0, 0, 0, 0], Some(TextFault::Value)),
     // the semaphore: past its maximum, at it, and without one, in its descriptor too
     (252, &[1], &[3], Some(TextFault::Value)),
     (252, &[1], &[2], None),

@@ -49,4 +49,4 @@ pub take_back-requires : goal.take_back-requires
 take_back-requires g c =
     let s = c.self.inside.parts in
     rw c.in_ok-add_process.ensures.ok (newest s.limits s.processes
-    (length s.tables.tables) c.args.session c.self.invariant.sound.processes_kept)
+    s.tables.tables c.args.session c.self.invariant.sound.processes_kept)

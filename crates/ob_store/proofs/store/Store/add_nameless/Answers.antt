@@ -18,6 +18,7 @@ invariant_of-self g c =
     (kept_nameless (parts_of s) c.self.invariant c.kept.ensures c.args.process c.args.slot new.rights new.flags head
     new.body
     (subst (λ (w : Whole). c.args.process < length w.state.tables) (sym c.self.view_is) c.requires.process)
+    (subst (λ (w : Whole). IsLive w.state.processes c.args.process) (sym c.self.view_is) c.requires.live)
     (subst (λ (w : Whole). is_vacant_at (vacancy w.state) c.args.slot ≡ true) (sym c.self.view_is) c.requires.vacant)
     c.requires.formed
     (subst (λ (w : Whole). (t : ℕ) → owner_of new.body ≡ Some t

@@ -19,7 +19,7 @@ leave_process-requires g c =
     record {
       sound = begun.under_way.sound;
       table = subst (λ (x : State). c.args.process < length x.tables) (sym begun.under_way.rest)
-          (thread_tabled s.limits s.processes (length s.tables.tables) c.args.thread
+          (thread_tabled s.limits s.processes s.tables.tables c.args.thread
           (Some c.args.process) c.self.invariant.sound.processes_kept (sym live));
     }
 

@@ -8,5 +8,5 @@ pub returns-clause-table : goal.returns-clause-table
 returns-clause-table g c = subst (λ (w : Whole). IfSome c.process.result (λ p. p < length w.state.tables))
     c.self.view_is
     (thread_tabled c.self.inside.parts.limits c.self.inside.parts.processes
-    (length c.self.inside.parts.tables.tables) c.args.thread c.process.result c.self.invariant.sound.processes_kept
+    c.self.inside.parts.tables.tables c.args.thread c.process.result c.self.invariant.sound.processes_kept
     c.process.ensures)

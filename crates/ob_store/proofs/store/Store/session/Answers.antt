@@ -8,5 +8,5 @@ pub returns-clause-table : goal.returns-clause-table
 returns-clause-table g c = subst (λ (w : Whole). OnSome c.session.result (c.args.process < length w.state.tables))
     c.self.view_is
     (process_tabled c.self.inside.parts.limits c.self.inside.parts.processes
-    (length c.self.inside.parts.tables.tables) c.args.process c.session.result c.self.invariant.sound.processes_kept
+    c.self.inside.parts.tables.tables c.args.process c.session.result c.self.invariant.sound.processes_kept
     c.session.ensures)
