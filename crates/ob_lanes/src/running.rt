@@ -1,5 +1,5 @@
 ghost use Rattle.std.specs.Prelude.{◌≡◌, ◌+◌, ◌<◌, ◌≤◌, IsErrOf, OnOk, vec_len};
-ghost use Rattle.ob_output.specs.Devices.{FailedOrSpent};
+ghost use Rattle.ob_output.specs.Devices.{FailedOrSpent, calls_most};
 ghost use Rattle.ob_output.specs.Pending.{Spends};
 ghost use Rattle.ob_lanes.specs.Faults.{WriteHasCause};
 
@@ -33,10 +33,10 @@ pub fn run_lanes<R: Threads + Wait + Sync, I: Source, O: Sink>(
     requires above_zero { 1 ≤ lanes }
     requires at_most { lanes ≤ 64 }
     ensures ended { OnOk result (I.HasEnded reader.new) }
-    ensures read { IsErrOf result LanesFault.Read → FailedOrSpent I.faults I.calls reader.old reader.new CALLS_MOST }
-    ensures write { IsErrOf result LanesFault.Write → FailedOrSpent O.faults O.calls writer.old writer.new CALLS_MOST }
-    ensures reads { I.calls reader.new ≤ I.calls reader.old + CALLS_MOST }
-    ensures writes { O.calls writer.new ≤ O.calls writer.old + CALLS_MOST }
+    ensures read { IsErrOf result LanesFault.Read → FailedOrSpent I.faults I.calls reader.old reader.new calls_most }
+    ensures write { IsErrOf result LanesFault.Write → FailedOrSpent O.faults O.calls writer.old writer.new calls_most }
+    ensures reads { I.calls reader.new ≤ I.calls reader.old + calls_most }
+    ensures writes { O.calls writer.new ≤ O.calls writer.old + calls_most }
 {
     let mut reading = Reading::new(alloc, lanes, CALLS_MOST)?;
     let mut block = zeros(alloc, READ_MOST)?;

@@ -1,6 +1,7 @@
 -- What C is told of a save and of a load.
-use Rattle.std.specs.Prelude.{◌≡◌, ℕ, ◌<◌, ◌≤◌, List, ◌++◌, Option, Some, Ok, Err, drop, length}
+use Rattle.std.specs.Prelude.{◌≡◌, ℕ, ◌<◌, ◌≤◌, List, ◌++◌, Option, Some, Ok, Err, true, drop, is_ok, length}
 use Rattle.ob_codec.specs.declared.fault.TextFault.{TextFault}
+use Rattle.ob_codec.specs.Sealing.{unsealed}
 use Rattle.pin_core.specs.declared.shape.Shape.{Shape}
 use Rattle.pin_core.specs.declared.world.Slot.{Slot}
 use Rattle.pin_words.specs.Keepers.{state_of}
@@ -30,10 +31,10 @@ loaded_owned w t =
     unrecorded (record w { keeper = state_of (keeper_over (shape_of w.state.limits) w.keeper.slots t) })
 
 -- A place gets the manager of a savestate, and 0 is told; or it stays as it is, and 13 is told where the bytes are no
--- savestate, else 8, for want of memory.
+-- savestate, else 8, for want of memory, and never where the digest is wrong.
 pub data Loads (bytes : List ℕ) (status : ℕ) (before after : Option OwnedManager) : Type 0 where
   loads : (w : Whole) (t : TableState) → load bytes ≡ Ok w → status ≡ 0 → after ≡ Some (loaded_owned w t)
       → Loads bytes status before after
   wrong : (fault : TextFault) → load bytes ≡ Err fault → status ≡ 13 → after ≡ before
       → Loads bytes status before after
-  lacks : status ≡ 8 → after ≡ before → Loads bytes status before after
+  lacks : is_ok (unsealed bytes) ≡ true → status ≡ 8 → after ≡ before → Loads bytes status before after
