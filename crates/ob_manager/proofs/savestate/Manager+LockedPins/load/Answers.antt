@@ -1,4 +1,4 @@
-use Rattle.std.proofs.Common.{◌≡◌, List, ℕ, Result, Ok, ap, subst}
+use Rattle.std.proofs.Common.{◌≡◌, ◌∙◌, List, ℕ, Result, Ok, ap, subst, sym}
 use Rattle.std.proofs.lemmas.Result.{err_from_is_err_and}
 use Rattle.std.specs.Int.{w64}
 use Rattle.ob_codec.specs.declared.fault.ReadFault.{ReadFault}
@@ -23,8 +23,11 @@ ends_wrong {C = C} ra rb to e text between rest a b first second fails = rw (fir
 pub returns-in_err-end : goal.returns-in_err-end
 returns-in_err-end c =
     let p = err_from_is_err_and c.from_residual-in_err-end.result c.from_residual-in_err-end.ensures.1 in
-    rw (p.1, p.2, c.in_ok-text.ensures) (subst
-    (λ (t : List ℕ). Fails c.in_err-end.field-0.0 (whole_at marked_at t)) c.new-from.ensures
-    (ends_wrong (where_at is_mark (number_at w64)) store_at behind_mark c.in_err-end.field-0.0 c.new-from.result
-    c.read_mark.new.from c.read.new.from c.in_ok-_mark._mark c.in_ok-store.store c.in_ok-_mark.ensures
-    c.in_ok-store.ensures c.in_err-end.ensures))
+    rw (p.1, p.2) (record {
+      gives = rw c.in_ok-text.ensures.gives (subst
+          (λ (t : List ℕ). Fails c.in_err-end.field-0.0 (whole_at marked_at t)) c.new-from.ensures
+          (ends_wrong (where_at is_mark (number_at w64)) store_at behind_mark c.in_err-end.field-0.0 c.new-from.result
+          c.read_mark.new.from c.read.new.from c.in_ok-_mark._mark c.in_ok-store.store c.in_ok-_mark.ensures
+          c.in_ok-store.ensures c.in_err-end.ensures));
+      digest = λ fault wrong. let no = sym c.in_ok-text.ensures.gives ∙ wrong in cc;
+    })
