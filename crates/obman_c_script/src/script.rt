@@ -1,4 +1,5 @@
 //! A batch of calls, as the program reads and prints them.
+ghost use Rattle.std.specs.Prelude.{◌≡◌, ◌⊎◌};
 ghost use Rattle.obman_c_script.specs.Scripts.{ScriptAnswered, HandsOver};
 
 use ob_console::run_whole;
@@ -31,15 +32,20 @@ pub extern "C" fn om_script(
     }
 }
 
-/// Puts what was collected at the front of a room, where it fits, and says how long it is.
+/// Puts what was collected at the front of a room, where it fits, and says how long it is. The 8 never comes: a sink
+/// keeps what fits the room that it was made for.
 fn hand_over(collected: &Collected, room: &mut [u8], length: &mut usize) -> u32
-    requires { collected.most ≡ length room.old }
-    ensures { HandsOver collected.account.bytes result room.old room.new length.new }
+    ensures { HandsOver collected.now.account.bytes result room.old room.new length.new
+        ⊎ ((result ≡ 8) × (room.new ≡ room.old) × (length.new ≡ length.old)) }
 {
-    *length = collected.len();
-    let Some(bytes) = collected.whole() else {
+    if collected.len() > room.len() {
+        *length = collected.len();
         return TOO_SMALL;
+    }
+    let Some(bytes) = collected.whole() else {
+        return code_of(Fault::Memory);
     };
+    *length = bytes.len();
     room[..bytes.len()].copy_from_slice(bytes);
     SUCCESS
 }
