@@ -12,5 +12,5 @@ returns-in-Ok-run_whole c =
           c.hand_over.new.length)
           (ended.1 ∙ ap (λ (front : List ℕ). front ++ ended.0) c.new-sink.ensures.bytes)
           over)
-      | inr none ↦ lacks c.in-Ok.ensures.allowed none.0 none.1.0 none.1.1
+      | inr none ↦ lacks c.in-Ok.ensures.allowed none.0 none.1 none.2
     ]
