@@ -7,6 +7,7 @@
 #     make install-strip         the same without symbols for a debugger
 #     make dist                  all that as a tarball in build/, for machines without the kit, wherever it is unpacked
 #     make examples              builds and runs the examples in C, C++, Rust and Python
+#     make check                 passes every check (./check)
 #     make windows               builds examples/windows: Windows programs, and a host that runs them, in build/windows; it needs
 #                                mingw-w64 and Unicorn (docs/WINDOWS.md)
 #
@@ -37,7 +38,7 @@ HEADERS = $(shell realpath -ms --relative-to=$(LIBDIR) $(INCLUDEDIR))
 
 GUESTS = $(patsubst examples/windows/guests/%.c,build/windows/%.exe,$(wildcard examples/windows/guests/*.c))
 
-.PHONY: all proved install install-strip dist examples windows clean
+.PHONY: all proved check install install-strip dist examples windows clean
 
 all: build/libobman.a build/libobman.so
 
@@ -112,6 +113,9 @@ examples: all
 	build/host
 	cd bindings/rust && OBMAN_LIB=$(abspath build) CARGO_TARGET_DIR=$(abspath build/cargo) $(CARGO) run --offline --example host
 	OBMAN=build/libobman.so $(PYTHON) examples/python/host.py
+
+check:
+	./check
 
 windows: build/windows/host $(GUESTS)
 

@@ -2,7 +2,8 @@
 //!
 //! A type that is [`Spelled`] says how its values are written and how they are read from the front of some bytes, both
 //! as functions on lists, with one law that ties them. Numbers go lowest byte first, an option is a flag and its value,
-//! a list is its length in four bytes and its values; its reader says how many there may be at most. A sealed text has its SHA-256 digest behind it.
+//! a list is its length in four bytes and its values; its reader says how many there may be at most. A sealed text has
+//! its SHA-256 digest behind it.
 //!
 //! ```rust
 //! # use ob_codec::{Cursor, read_list, seal, unseal, write_list};

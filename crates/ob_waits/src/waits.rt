@@ -107,9 +107,10 @@ impl Waits {
     /// Reads waits of which at most `waits` numbers may be given, as they are at a moment, from the front of what is
     /// left. [`TextFault::Value`] where a number is above that, or above the last one given, or doesn't rise; where a
     /// thread has two waits; where a pending one lists no object, more than 64 or, to wait for all, one slot twice, or
-    /// its time is up; and where an answered one has a code that can't be. The text is refused so too where a thread isn't below `threads`, or an object's slot below
-    /// `slots`, and before any wait is read where there are more than `threads`, or any object where a wait lists more
-    /// than 64: so no more memory is asked for than these and the text account for.
+    /// its time is up; and where an answered one has a code that can't be. The text is refused so too where a thread
+    /// isn't below `threads`, or an object's slot below `slots`, and before any wait is read where there are more than
+    /// `threads`, or any object where a wait lists more than 64: so no more memory is asked for than these and the text
+    /// account for.
     pub fn read(
         alloc: Global,
         waits: u32,

@@ -15,8 +15,8 @@ use std::fmt::Display;
 use std::io::{self, ErrorKind};
 use std::process::ExitCode;
 
-/// Ends with 0 at the end of the input, or where the help or the version was asked for; with 1 after a fault; with 2 where the command
-/// line is bad.
+/// Ends with 0 at the end of the input, or where the help or the version was asked for; with 1 after a fault; with 2
+/// where the command line is bad.
 fn main(rt: HostRuntime) -> ExitCode {
     let options = match options_of(&rt) {
         Ok(options) => options,

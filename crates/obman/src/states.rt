@@ -89,8 +89,8 @@ fn save(rt: &HostRuntime, path: &str, manager: &Manager<Keeper>) -> Result<(), S
     put(rt, path, bytes.as_slice()).map_err(|error| fault_of(&error))
 }
 
-/// Writes a file, or what a symbolic link leads to, whole or not at all. What is no file, as a device or a pipe is none,
-/// is written to as it is.
+/// Writes a file, or what a symbolic link leads to, whole or not at all. What is no file, as a device or a pipe, is
+/// written to as it is.
 fn put(rt: &HostRuntime, path: &str, bytes: &[u8]) -> io::Result<()> {
     match fs::metadata(rt, path) {
         Ok(old) if old.is_file() => {
