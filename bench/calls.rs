@@ -1,4 +1,4 @@
-//! The rounds of crates/bench_calls, over a manager by hand in plain Rust.
+//! The rounds of bench/calls.c but those of time, over a manager by hand in plain Rust.
 
 #[path = "parts/answers.rs"]
 mod answers;
@@ -64,7 +64,7 @@ const LIMITS: Limits = Limits {
     handles: 16_384,
     waits: u32::MAX,
     max_gen: u32::MAX,
-    max_recursion: 1,
+    max_recursion: 2_147_483_647,
 };
 
 type Text = [u8; 16];
@@ -78,21 +78,13 @@ struct Live {
     text: Text,
 }
 
-/// How many rounds each case has, and whether they are timed.
-#[derive(Clone, Copy)]
-struct Plan {
-    batches: u32,
-    rounds: u32,
-    managers: u32,
-    lives: u32,
-    waits: u32,
-    is_timed: bool,
-}
-
-const MEASURED: Plan =
-    Plan { batches: 1000, rounds: 1_000_000, managers: 20, lives: 1000, waits: 240_000, is_timed: true };
-
-const SHOWN: Plan = Plan { batches: 2, rounds: 100, managers: 2, lives: 10, waits: 6, is_timed: false };
+/// How many batches there are; how many rounds other cases have, and those of processes and threads in each of so many
+/// managers; and how many waits a herd has in all.
+const BATCHES: u32 = 1000;
+const ROUNDS: u32 = 1_000_000;
+const LIVES: u32 = 1000;
+const MANAGERS: u32 = 20;
+const WAITS: u32 = 240_000;
 
 fn live_events(manager: &mut Manager, count: u32) -> Result<Vec<Live>, Fault> {
     let (mut process, mut thread) = (0, 0);
@@ -149,18 +141,17 @@ fn resolve(manager: &mut Manager, event: &Live) -> Result<u32, Fault> {
     Ok(manager.resolve(event.process, event.handle)?.slot)
 }
 
-/// The sum of some rounds, from event to event.
+/// The sum of the rounds, from event to event.
 #[inline(always)]
 fn rounds(
     manager: &mut Manager,
     events: &[Live],
-    rounds: u32,
     round: impl Fn(&mut Manager, &Live) -> Result<u32, Fault>,
 ) -> Result<u64, Fault> {
     let step = STRIDE % events.len();
     let mut at = 0;
     let mut sum = 0;
-    for _ in 0..rounds {
+    for _ in 0..ROUNDS {
         sum += u64::from(round(manager, &events[at])?);
         at += step + (sum >> 63) as usize;
         if at >= events.len() {
@@ -170,12 +161,8 @@ fn rounds(
     Ok(sum)
 }
 
-fn report(plan: Plan, case: &str, count: usize, rounds: u32, taken: Duration, sum: u64) {
-    if plan.is_timed && sum > 0 {
-        println!("{case}, {count}: {rounds} in {}", taken.as_nanos());
-        return;
-    }
-    println!("{case}, {count}: sum {sum}");
+fn report(case: &str, count: usize, rounds: u32, taken: Duration, sum: u64) {
+    println!("{case}, {count}: {rounds} in {}, {sum}", taken.as_nanos());
 }
 
 /// A manager and its events, and the names that come and go.
@@ -192,15 +179,10 @@ impl Scene {
         Ok(Scene { manager, events, texts: (count..count + BATCH).map(text).collect() })
     }
 
-    fn measure(
-        &mut self,
-        plan: Plan,
-        case: &str,
-        round: impl Fn(&mut Manager, &Live) -> Result<u32, Fault>,
-    ) -> Result<(), Fault> {
+    fn measure(&mut self, case: &str, round: impl Fn(&mut Manager, &Live) -> Result<u32, Fault>) -> Result<(), Fault> {
         let started = Instant::now();
-        let sum = rounds(&mut self.manager, &self.events, plan.rounds, round)?;
-        report(plan, case, self.events.len(), plan.rounds, started.elapsed(), sum);
+        let sum = rounds(&mut self.manager, &self.events, round)?;
+        report(case, self.events.len(), ROUNDS, started.elapsed(), sum);
         Ok(())
     }
 
@@ -226,11 +208,11 @@ impl Scene {
         Ok(sum)
     }
 
-    fn come_and_go(&mut self, plan: Plan, made: &str, reaped: &str, is_named: bool) -> Result<(), Fault> {
+    fn come_and_go(&mut self, made: &str, reaped: &str, is_named: bool) -> Result<(), Fault> {
         let thread = self.events.last().map_or(0, |event| event.thread);
         let (mut making, mut reaping, mut sum) = (Duration::ZERO, Duration::ZERO, 0);
         let mut slots = Vec::new();
-        for _ in 0..plan.batches {
+        for _ in 0..BATCHES {
             slots.clear();
             let started = Instant::now();
             self.make(thread, is_named, &mut slots)?;
@@ -239,26 +221,26 @@ impl Scene {
             sum += self.reap(&slots)?;
             reaping += started.elapsed();
         }
-        report(plan, made, self.events.len(), plan.batches * BATCH, making, sum);
-        report(plan, reaped, self.events.len(), plan.batches * BATCH, reaping, sum);
+        report(made, self.events.len(), BATCHES * BATCH, making, sum);
+        report(reaped, self.events.len(), BATCHES * BATCH, reaping, sum);
         Ok(())
     }
 }
 
-fn run(plan: Plan, count: u32) -> Result<(), Fault> {
+fn run(count: u32) -> Result<(), Fault> {
     let mut scene = Scene::new(count)?;
-    scene.come_and_go(plan, "create and close, unnamed", "reap, unnamed", false)?;
-    scene.come_and_go(plan, "create and close, named", "reap, named", true)?;
-    scene.measure(plan, "open and close", open_and_close)?;
-    scene.measure(plan, "set and reset", set_and_reset)?;
-    scene.measure(plan, "counts", counts)?;
-    scene.measure(plan, "resolve", resolve)?;
-    scene.measure(plan, "duplicate and close", duplicate_and_close)?;
-    scene.measure(plan, "set and wait", set_and_wait)
+    scene.come_and_go("create and close, unnamed", "reap, unnamed", false)?;
+    scene.come_and_go("create and close, named", "reap, named", true)?;
+    scene.measure("open and close", open_and_close)?;
+    scene.measure("set and reset", set_and_reset)?;
+    scene.measure("counts", counts)?;
+    scene.measure("resolve", resolve)?;
+    scene.measure("duplicate and close", duplicate_and_close)?;
+    scene.measure("set and wait", set_and_wait)
 }
 
 /// So many rounds in each of so many managers, which are made outside of what is timed.
-fn measure_anew<C: Case>(plan: Plan, case: &str, count: u32, managers: u32, rounds: u32) -> Result<(), Fault> {
+fn measure_anew<C: Case>(case: &str, count: u32, managers: u32, rounds: u32) -> Result<(), Fault> {
     let (mut taken, mut sum) = (Duration::ZERO, 0);
     for _ in 0..managers {
         let mut home = C::home(LIMITS, count)?;
@@ -266,16 +248,16 @@ fn measure_anew<C: Case>(plan: Plan, case: &str, count: u32, managers: u32, roun
         sum += rounds_at::<C>(&mut home, rounds)?;
         taken += started.elapsed();
     }
-    report(plan, case, count as usize, managers * rounds, taken, sum);
+    report(case, count as usize, managers * rounds, taken, sum);
     Ok(())
 }
 
-fn measure_wait<C: Case>(plan: Plan, case: &str, count: u32) -> Result<(), Fault> {
-    measure_anew::<C>(plan, case, count, 1, plan.rounds)
+fn measure_wait<C: Case>(case: &str, count: u32) -> Result<(), Fault> {
+    measure_anew::<C>(case, count, 1, ROUNDS)
 }
 
-fn measure_life<C: Case>(plan: Plan, case: &str, count: u32) -> Result<(), Fault> {
-    measure_anew::<C>(plan, case, count, plan.managers, plan.lives)
+fn measure_life<C: Case>(case: &str, count: u32) -> Result<(), Fault> {
+    measure_anew::<C>(case, count, MANAGERS, LIVES)
 }
 
 /// Guests of which each waits for an event of its own, in processes with a thread that never waits.
@@ -327,55 +309,48 @@ impl Crowd {
     }
 }
 
-fn run_crowd(plan: Plan, count: u32) -> Result<(), Fault> {
+fn run_crowd(count: u32) -> Result<(), Fault> {
     let mut crowd = Crowd::new(count)?;
     let started = Instant::now();
-    let sum = crowd.take_turns(plan.rounds)?;
-    report(plan, "set, answer, wait again", count as usize, plan.rounds, started.elapsed(), sum);
+    let sum = crowd.take_turns(ROUNDS)?;
+    report("set, answer, wait again", count as usize, ROUNDS, started.elapsed(), sum);
     Ok(())
 }
 
-fn run_waits(plan: Plan, beside: u32) -> Result<(), Fault> {
-    measure_wait::<WaitForAny>(plan, "wait for any", 64)?;
-    measure_wait::<WaitForAll>(plan, "wait for all", 64)?;
-    measure_wait::<WaitForSome>(plan, "wait for any, set and result", 64)?;
-    measure_wait::<WaitAndSet>(plan, "wait, set and result, waits beside", 0)?;
-    measure_wait::<WaitAndSet>(plan, "wait, set and result, waits beside", beside)
+fn run_waits() -> Result<(), Fault> {
+    measure_wait::<WaitForAny>("wait for any", 64)?;
+    measure_wait::<WaitForAll>("wait for all", 64)?;
+    measure_wait::<WaitForSome>("wait for any, set and result", 64)?;
+    measure_wait::<WaitAndSet>("wait, set and result, waits beside", 0)?;
+    measure_wait::<WaitAndSet>("wait, set and result, waits beside", 10000)
 }
 
 /// So many threads that all wait for one object.
-fn run_herds(plan: Plan, count: u32) -> Result<(), Fault> {
+fn run_herds(count: u32) -> Result<(), Fault> {
     for herd in HERDS {
-        let rounds = (plan.waits / count).max(1);
+        let rounds = (WAITS / count).max(1);
         let mut gathered = Gathered::new(LIMITS, herd, count)?;
         let started = Instant::now();
         let sum = gathered.rounds(rounds)?;
-        report(plan, herd.name(), count as usize, rounds * count, started.elapsed(), sum);
+        report(herd.name(), count as usize, rounds * count, started.elapsed(), sum);
     }
     Ok(())
 }
 
-fn run_children(plan: Plan, handles: u32) -> Result<(), Fault> {
-    measure_life::<ChildAndExit>(plan, "child and exit, handles", handles)
+fn run_children(handles: u32) -> Result<(), Fault> {
+    measure_life::<ChildAndExit>("child and exit, handles", handles)
 }
 
-fn run_threads(plan: Plan, count: u32) -> Result<(), Fault> {
-    measure_life::<ThreadAndEnd>(plan, "thread and end", count)?;
-    measure_life::<OwnerAndEnd>(plan, "thread, mutex and end", count)
+fn run_threads(count: u32) -> Result<(), Fault> {
+    measure_life::<ThreadAndEnd>("thread and end", count)?;
+    measure_life::<OwnerAndEnd>("thread, mutex and end", count)
 }
 
 fn main() -> Result<(), Fault> {
-    if std::env::args().count() > 1 {
-        [16, 1000, 60000].into_iter().try_for_each(|count| run(MEASURED, count))?;
-        run_waits(MEASURED, 10000)?;
-        [1, 1000, 16000, 60000].into_iter().try_for_each(|count| run_herds(MEASURED, count))?;
-        [16, 1000].into_iter().try_for_each(|handles| run_children(MEASURED, handles))?;
-        [1, 16, 1000, 60000].into_iter().try_for_each(|guests| run_crowd(MEASURED, guests))?;
-        return [16, 60000].into_iter().try_for_each(|count| run_threads(MEASURED, count));
-    }
-    run(SHOWN, 16)?;
-    run_waits(SHOWN, 16)?;
-    run_herds(SHOWN, 3)?;
-    run_children(SHOWN, 16)?;
-    run_threads(SHOWN, 16)
+    [16, 1000, 60000].into_iter().try_for_each(run)?;
+    run_waits()?;
+    [1, 1000, 16000, 60000].into_iter().try_for_each(run_herds)?;
+    [16, 1000].into_iter().try_for_each(run_children)?;
+    [1, 16, 1000, 60000].into_iter().try_for_each(run_crowd)?;
+    [16, 60000].into_iter().try_for_each(run_threads)
 }

@@ -1,4 +1,4 @@
-//! What is done in a round in a manager of its own, as in crates/bench_calls.
+//! What is done in a round in a manager of its own.
 
 use crate::answers::{Fault, Limits, Make, Mode, Reply, Timeout};
 use crate::given::{done, given, plain, refusal};

@@ -1,4 +1,4 @@
-//! Threads that all wait for one object, and are released one by one or all together, as in crates/bench_calls.
+//! Threads that all wait for one object, and are released one by one or all together.
 
 use crate::answers::{Fault, Limits, Mode, Timeout};
 use crate::cases::{Home, code_of, pending, started};

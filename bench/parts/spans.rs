@@ -7,7 +7,7 @@ use std::sync::atomic::{AtomicU64, Ordering::SeqCst};
 use std::thread;
 use std::time::Instant;
 
-pub const RUNS: usize = 61;
+const RUNS: usize = 61;
 
 /// When a thread began and ended, in nanoseconds.
 pub type Span = (u128, u128);
@@ -56,10 +56,12 @@ pub fn time_of(spans: &[Span]) -> Option<u128> {
     (taken / 2 < first_ended.saturating_sub(last_began)).then_some(taken)
 }
 
-/// Prints the middle of the times that count, for so many rounds a run.
+/// Prints the middle of the times that count, for so many rounds a run, or that none counts.
 pub fn measure(case: &str, rounds: u64, run: impl Fn() -> Option<u128>) {
-    let mut times: Vec<u128> = (0..RUNS).map(|_| run().unwrap_or(u128::MAX)).collect();
+    let mut times: Vec<u128> = (0..RUNS).filter_map(|_| run()).collect();
     times.sort_unstable();
-    let counted = times.iter().filter(|time| **time < u128::MAX).count();
-    println!("{case}: {rounds} in {}", times.get(counted / 2).unwrap_or(&u128::MAX));
+    match times.get(times.len() / 2) {
+        Some(time) => println!("{case}: {rounds} in {time}"),
+        None => println!("{case}: 0 in 0"),
+    }
 }
