@@ -1,78 +1,71 @@
-/* Measures om_save and om_load: 60,000 named events, 16 processes with 1,000 handles each besides, and 10,000 pending waits. */
-#include "obman.h"
-
-#include <stdio.h>
-#include <stdlib.h>
+/* om_save and om_load of 60,000 named events, 16 processes with 1,000 handles each besides, and 10,000 pending waits;
+ * and a copy of the bytes. Of each it prints the line `CASE, LENGTH bytes: 1 in NANOSECONDS, DIGEST`. */
+#include "timed.h"
 #include <string.h>
-#include <time.h>
 
-static uint64_t now(void) {
-    struct timespec t;
-    clock_gettime(CLOCK_MONOTONIC, &t);
-    return (uint64_t)t.tv_sec * 1000000000u + (uint64_t)t.tv_nsec;
+enum { ROUNDS = 5, PROCESSES = 20, EVENTS = 60000, OF_EACH = EVENTS / 4, OPENED = 1000, WAITS = 10000 };
+
+static om_manager m;
+
+static size_t text(char *name, int number) {
+    return (size_t)sprintf(name, "object %d", number);
 }
 
-static void must(uint32_t got, uint32_t due, const char *what) {
-    if (got != due) {
-        fprintf(stderr, "%s: %u, not %u\n", what, (unsigned)got, (unsigned)due);
-        exit(1);
-    }
-}
-
-int main(int argc, char **argv) {
-    int rounds = argc > 1 ? atoi(argv[1]) : 5;
-    om_limits limits = {65536, 65536, 65536, 16384, 4294967295u, 1073741823, 4294967295u, 64};
-    om_making making = {0, 0, true, false, false, false};
-    om_manager m;
-    om_member hosts[20];
+/* The first four processes make the events, and the others open some and wait. */
+static void begin(void) {
+    om_limits limits = OM_LIMITS_MOST;
+    om_making making = om_named();
+    om_member hosts[PROCESSES];
     om_opening o;
-    must(om_new(&limits, &m), 0, "new");
-    for (int i = 0; i < 20; i++) {
-        must(om_spawn(&m, 1, &hosts[i]), 0, "spawn");
+    char name[32];
+    done(om_new(&limits, &m));
+    for (int i = 0; i < PROCESSES; i++) {
+        done(om_spawn(&m, 1, &hosts[i]));
     }
-    for (int i = 0; i < 60000; i++) {
-        char name[32];
-        int n = snprintf(name, sizeof name, "object %d", i);
-        must(om_create_event(&m, hosts[i / 15000].thread, &making, name, (size_t)n, false, false, &o), 0, "create");
+    for (int i = 0; i < EVENTS; i++) {
+        done(om_create_event(&m, hosts[i / OF_EACH].thread, &making, name, text(name, i), false, false, &o));
     }
-    for (int p = 0; p < 16; p++) {
-        for (int i = 0; i < 1000; i++) {
-            char name[32];
-            int n = snprintf(name, sizeof name, "object %d", (p * 1000 + i * 7) % 60000);
-            must(om_open_event(&m, hosts[4 + p].thread, 0x1f0003, false, name, (size_t)n, &o), 0, "open");
-        }
+    for (int i = 0; i < 16 * OPENED; i++) {
+        size_t length = text(name, (i / OPENED * OPENED + i % OPENED * 7) % EVENTS);
+        done(om_open_event(&m, hosts[4 + i / OPENED].thread, OM_EVENT_ALL_ACCESS, false, name, length, &o));
     }
-    for (int i = 0; i < 10000; i++) {
-        uint32_t thread, wait, handle = 4 + 4 * (uint32_t)(i % 1000);
-        must(om_thread(&m, hosts[4 + i % 16].process, &thread), 0, "thread");
-        must(om_wait(&m, thread, false, OM_INFINITE, &handle, 1, &wait), 997, "wait");
+    for (int i = 0; i < WAITS; i++) {
+        uint32_t thread, wait, handle = 4 + 4 * (uint32_t)(i % OPENED);
+        done(om_thread(&m, hosts[4 + i % 16].process, &thread));
+        must(om_wait(&m, thread, false, OM_INFINITE, &handle, 1, &wait), OM_ERROR_IO_PENDING);
     }
+}
+
+int main(void) {
+    static const char *const cases[] = {"save", "load", "copy"};
+    uint64_t best[] = {UINT64_MAX, UINT64_MAX, UINT64_MAX};
     size_t length, written;
-    must(om_save(&m, NULL, 0, &length), 122, "size");
+    begin();
+    must(om_save(&m, NULL, 0, &length), OM_ERROR_INSUFFICIENT_BUFFER);
     unsigned char *bytes = malloc(length), *other = malloc(length);
-    uint64_t save = UINT64_MAX, load = UINT64_MAX, copy = UINT64_MAX;
-    for (int i = 0; i < rounds; i++) {
+    for (int i = 0; i < ROUNDS; i++) {
         om_manager again;
-        uint64_t t = now();
-        must(om_save(&m, bytes, length, &written), 0, "save");
-        uint64_t u = now();
-        must(om_load(bytes, length, &again), 0, "load");
-        uint64_t v = now();
+        uint64_t times[4] = {now()};
+        done(om_save(&m, bytes, length, &written));
+        times[1] = now();
+        done(om_load(bytes, length, &again));
+        times[2] = now();
         memcpy(other, bytes, length);
-        uint64_t w = now();
-        if (i == 0) {
-            must(om_save(&again, other, length, &written), 0, "save again");
-            must((uint32_t)memcmp(bytes, other, length), 0, "same");
-        }
-        save = u - t < save ? u - t : save;
-        load = v - u < load ? v - u : load;
-        copy = w - v < copy ? w - v : copy;
+        times[3] = now();
+        done(om_save(&again, other, length, &written));
+        must(memcmp(bytes, other, length) == 0, true);
         om_free(again);
+        for (int at = 0; at < 3; at++) {
+            uint64_t taken = times[at + 1] - times[at];
+            best[at] = taken < best[at] ? taken : best[at];
+        }
     }
-    printf("%zu bytes ", length);
-    for (size_t i = length - 32; i < length; i++) {
-        printf("%02x", bytes[i]);
+    for (int at = 0; at < 3; at++) {
+        printf("%s, %zu bytes: 1 in %" PRIu64 ", ", cases[at], length, best[at]);
+        for (size_t i = length - 32; i < length; i++) {
+            printf("%02x", bytes[i]);
+        }
+        printf("\n");
     }
-    printf(": save %llu load %llu memcpy %llu\n", (unsigned long long)save, (unsigned long long)load, (unsigned long long)copy);
     return 0;
 }
