@@ -1,6 +1,7 @@
-"""What a benchmark builds and runs: a program through the header or a proved one, and the one in plain Rust."""
+"""What benchmarks share: how a program through the header, a proved one and one in plain Rust are built, and how two run by turns."""
 
 import argparse
+import math
 import os
 import pathlib
 import subprocess
@@ -47,3 +48,22 @@ def options(usage):
     parser = argparse.ArgumentParser(usage=usage)
     parser.add_argument("--turns", type=turns, default=6)
     return parser
+
+
+def compare(name, turns, *runs):
+    """Runs ours and the one in plain Rust by turns, forwards and backwards, and prints a table of what each case takes at best. A run
+    gives its cases, each with nanoseconds a round and its answers, which must be the same for both. What is ours alone has no ratio."""
+    best, due = [{}, {}], {}
+    for turn in range(turns):
+        for run, times in [*zip(runs, best)][:: -1 if turn % 2 else 1]:
+            for case, time, answers in run():
+                times[case] = min(times.get(case, math.inf), time)
+                if due.setdefault(case, answers) != answers:
+                    sys.exit(f"{name} {case}: {answers} in one program, {due[case]} in the other")
+    ours, rust = best
+    if rust.keys() - ours.keys():
+        sys.exit(f"{name}: in plain Rust alone {sorted(rust.keys() - ours.keys())}")
+    print(f"{name:52} {'ours ns':>12} {'Rust ns':>12} {'ratio':>6}")
+    for case, time in ours.items():
+        columns = f"{rust[case]:12.1f} {time / rust[case]:6.2f}" if case in rust else ""
+        print(f"{case:52} {time:12.1f} {columns}".rstrip(), flush=True)
