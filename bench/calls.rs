@@ -57,16 +57,6 @@ const BATCH: u32 = 256;
 /// The option of a duplicate that gives it the rights of its source.
 const SAME_ACCESS: u32 = 2;
 
-const LIMITS: Limits = Limits {
-    slots: 65_536,
-    processes: 65_536,
-    threads: 65_536,
-    handles: 16_384,
-    waits: u32::MAX,
-    max_gen: u32::MAX,
-    max_recursion: 2_147_483_647,
-};
-
 type Text = [u8; 16];
 
 /// A named event that stays, and its one handle.
@@ -174,7 +164,7 @@ struct Scene {
 
 impl Scene {
     fn new(count: u32) -> Result<Scene, Fault> {
-        let mut manager = Manager::new(LIMITS);
+        let mut manager = Manager::new(Limits::MOST);
         let events = live_events(&mut manager, count)?;
         Ok(Scene { manager, events, texts: (count..count + BATCH).map(text).collect() })
     }
@@ -243,7 +233,7 @@ fn run(count: u32) -> Result<(), Fault> {
 fn measure_anew<C: Case>(case: &str, count: u32, managers: u32, rounds: u32) -> Result<(), Fault> {
     let (mut taken, mut sum) = (Duration::ZERO, 0);
     for _ in 0..managers {
-        let mut home = C::home(LIMITS, count)?;
+        let mut home = C::home(count)?;
         let started = Instant::now();
         sum += rounds_at::<C>(&mut home, rounds)?;
         taken += started.elapsed();
@@ -271,8 +261,8 @@ struct Crowd {
 
 impl Crowd {
     fn new(count: u32) -> Result<Crowd, Fault> {
-        let mut crowd =
-            Crowd { manager: Manager::new(LIMITS), guests: Vec::new(), places: vec![0; LIMITS.threads as usize + 1] };
+        let places = vec![0; Limits::MOST.threads as usize + 1];
+        let mut crowd = Crowd { manager: Manager::new(Limits::MOST), guests: Vec::new(), places };
         let (mut process, mut host) = (0, 0);
         for number in 0..count {
             if number % HANDLES == 0 {
@@ -329,7 +319,7 @@ fn run_waits() -> Result<(), Fault> {
 fn run_herds(count: u32) -> Result<(), Fault> {
     for herd in HERDS {
         let rounds = (WAITS / count).max(1);
-        let mut gathered = Gathered::new(LIMITS, herd, count)?;
+        let mut gathered = Gathered::new(herd, count)?;
         let started = Instant::now();
         let sum = gathered.rounds(rounds)?;
         report(herd.name(), count as usize, rounds * count, started.elapsed(), sum);

@@ -35,11 +35,8 @@ use answers::{Kind, Limits, Make, Mode, Reply, Timeout};
 use manager::Manager;
 use std::time::Instant;
 
-const LIMITS: Limits =
-    Limits { slots: 65_536, processes: 65_536, threads: 65_536, handles: 16_384, waits: u32::MAX, max_gen: u32::MAX, max_recursion: 2_147_483_647 };
-
 fn begun() -> Manager {
-    let mut m = Manager::new(LIMITS);
+    let mut m = Manager::new(Limits::MOST);
     let hosts: Vec<(u32, u32)> = (0..20)
         .map(|_| match m.spawn(1) {
             Reply::Spawned { process, thread } => (process, thread),

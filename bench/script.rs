@@ -172,15 +172,7 @@ fn memchr(text: &[u8]) -> Option<usize> {
 }
 
 fn limits_of(mut args: impl Iterator<Item = String>) -> Limits {
-    let mut limits = Limits {
-        slots: 64,
-        processes: 64,
-        threads: 256,
-        handles: 1_024,
-        waits: 1_000_000,
-        max_gen: u32::MAX,
-        max_recursion: 2_147_483_647,
-    };
+    let mut limits = Limits::DEFAULT;
     while let (Some(option), Some(value)) = (args.next(), args.next()) {
         let limit = match option.as_str() {
             "--slots" => &mut limits.slots,

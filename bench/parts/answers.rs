@@ -119,6 +119,28 @@ pub struct Limits {
     pub max_recursion: u32,
 }
 
+impl Limits {
+    pub const DEFAULT: Limits = Limits {
+        slots: 64,
+        processes: 64,
+        threads: 256,
+        handles: 1_024,
+        waits: 1_000_000,
+        max_gen: u32::MAX,
+        max_recursion: 2_147_483_647,
+    };
+
+    pub const MOST: Limits = Limits {
+        slots: 65_536,
+        processes: 65_536,
+        threads: 65_536,
+        handles: 16_384,
+        waits: u32::MAX,
+        max_gen: u32::MAX,
+        max_recursion: 2_147_483_647,
+    };
+}
+
 pub fn within(asked: u32, held: u32) -> bool {
     asked & !held == 0
 }

@@ -15,7 +15,7 @@ pub struct Home {
 
 pub trait Case {
     /// The manager, beside so many objects, handles or waits.
-    fn home(limits: Limits, count: u32) -> Result<Home, Fault>;
+    fn home(count: u32) -> Result<Home, Fault>;
 
     /// A number of the answers, which depends on what was done.
     fn round(home: &mut Home) -> Result<u32, Fault>;
@@ -72,8 +72,8 @@ pub fn pending(reply: Reply) -> Result<u32, Fault> {
 }
 
 impl Home {
-    pub fn empty(limits: Limits) -> Result<Home, Fault> {
-        let mut manager = Manager::new(limits);
+    pub fn empty() -> Result<Home, Fault> {
+        let mut manager = Manager::new(Limits::MOST);
         let (process, thread) = spawned(manager.spawn(1))?;
         Ok(Home { manager, process, thread, other: 0, handles: Vec::new() })
     }
@@ -115,8 +115,8 @@ impl Home {
 pub struct WaitForAny;
 
 impl Case for WaitForAny {
-    fn home(limits: Limits, count: u32) -> Result<Home, Fault> {
-        let mut home = Home::empty(limits)?;
+    fn home(count: u32) -> Result<Home, Fault> {
+        let mut home = Home::empty()?;
         home.add_events(count, false)?;
         Ok(home)
     }
@@ -130,8 +130,8 @@ impl Case for WaitForAny {
 pub struct WaitForAll;
 
 impl Case for WaitForAll {
-    fn home(limits: Limits, count: u32) -> Result<Home, Fault> {
-        let mut home = Home::empty(limits)?;
+    fn home(count: u32) -> Result<Home, Fault> {
+        let mut home = Home::empty()?;
         home.add_events(count, true)?;
         Ok(home)
     }
@@ -145,8 +145,8 @@ impl Case for WaitForAll {
 pub struct WaitForSome;
 
 impl Case for WaitForSome {
-    fn home(limits: Limits, count: u32) -> Result<Home, Fault> {
-        let mut home = Home::empty(limits)?;
+    fn home(count: u32) -> Result<Home, Fault> {
+        let mut home = Home::empty()?;
         (0..count).try_for_each(|_| home.add_event(false, false))?;
         home.other = started(home.manager.thread(home.process))?;
         Ok(home)
@@ -164,8 +164,8 @@ impl Case for WaitForSome {
 pub struct WaitAndSet;
 
 impl Case for WaitAndSet {
-    fn home(limits: Limits, count: u32) -> Result<Home, Fault> {
-        let mut home = Home::empty(limits)?;
+    fn home(count: u32) -> Result<Home, Fault> {
+        let mut home = Home::empty()?;
         for _ in 0..count {
             home.add_waiter()?;
             home.wait_for_last()?;
@@ -186,8 +186,8 @@ impl Case for WaitAndSet {
 pub struct ChildAndExit;
 
 impl Case for ChildAndExit {
-    fn home(limits: Limits, count: u32) -> Result<Home, Fault> {
-        let mut home = Home::empty(limits)?;
+    fn home(count: u32) -> Result<Home, Fault> {
+        let mut home = Home::empty()?;
         let make = Make { inherit: true, ..plain(None) };
         for _ in 0..count {
             given(home.manager.create_event(home.thread, &make, false, false))?;
@@ -202,8 +202,8 @@ impl Case for ChildAndExit {
 }
 
 /// Named events, and a mutex that is made last, by the process that made the last of them.
-fn home_among(limits: Limits, count: u32) -> Result<Home, Fault> {
-    let mut home = Home::empty(limits)?;
+fn home_among(count: u32) -> Result<Home, Fault> {
+    let mut home = Home::empty()?;
     let events = crate::live_events(&mut home.manager, count)?;
     if let Some(event) = events.last() {
         (home.process, home.thread) = (event.process, event.thread);
@@ -217,8 +217,8 @@ fn home_among(limits: Limits, count: u32) -> Result<Home, Fault> {
 pub struct ThreadAndEnd;
 
 impl Case for ThreadAndEnd {
-    fn home(limits: Limits, count: u32) -> Result<Home, Fault> {
-        home_among(limits, count)
+    fn home(count: u32) -> Result<Home, Fault> {
+        home_among(count)
     }
 
     fn round(home: &mut Home) -> Result<u32, Fault> {
@@ -231,8 +231,8 @@ impl Case for ThreadAndEnd {
 pub struct OwnerAndEnd;
 
 impl Case for OwnerAndEnd {
-    fn home(limits: Limits, count: u32) -> Result<Home, Fault> {
-        home_among(limits, count)
+    fn home(count: u32) -> Result<Home, Fault> {
+        home_among(count)
     }
 
     fn round(home: &mut Home) -> Result<u32, Fault> {

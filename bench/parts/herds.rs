@@ -1,6 +1,6 @@
 //! Threads that all wait for one object, and are released one by one or all together.
 
-use crate::answers::{Fault, Limits, Mode, Timeout};
+use crate::answers::{Fault, Mode, Timeout};
 use crate::cases::{Home, code_of, pending, started};
 use crate::given::{done, given, plain};
 
@@ -41,8 +41,8 @@ pub struct Gathered {
 }
 
 impl Gathered {
-    pub fn new(limits: Limits, herd: Herd, count: u32) -> Result<Gathered, Fault> {
-        let mut home = Home::empty(limits)?;
+    pub fn new(herd: Herd, count: u32) -> Result<Gathered, Fault> {
+        let mut home = Home::empty()?;
         let (manager, thread) = (&mut home.manager, home.thread);
         let made = match herd {
             Herd::Event | Herd::Halves => manager.create_event(thread, &plain(None), false, false),
