@@ -4,11 +4,13 @@
 mod id;
 #[path = "parts/pins.rs"]
 mod pins;
-#[path = "parts/spans.rs"]
-mod spans;
+#[path = "parts/runs.rs"]
+mod runs;
 
 use pins::Words;
-use spans::{Start, measure, on_threads, time_of};
+use runs::{measure, on_threads};
+use std::sync::atomic::{AtomicU64, Ordering::SeqCst};
+use std::time::Instant;
 
 // Pairs of each thread in a run.
 const PAIRS: u64 = 40000;
@@ -17,14 +19,19 @@ const APART: [u32; 4] = [64, 128, 192, 256];
 
 const NEAR: [u32; 4] = [8, 9, 10, 11];
 
+/// From the first thread that begins to the last that ends; none where they weren't all at work for more than half of it.
 fn run(words: &Words, slots: &[u32]) -> Option<u128> {
-    let start = Start::new(slots.len() as u64);
+    let (ready, origin) = (AtomicU64::new(0), Instant::now());
     let spans = on_threads(&mut slots.to_vec(), |slot| {
-        let began = start.begin();
+        ready.fetch_add(1, SeqCst);
+        while ready.load(SeqCst) < slots.len() as u64 {}
+        let began = origin.elapsed().as_nanos();
         words.spin(*slot, PAIRS);
-        start.end(began)
+        (began, origin.elapsed().as_nanos())
     });
-    time_of(&spans)
+    let (begins, ends) = (spans.iter().map(|span| span.0), spans.iter().map(|span| span.1));
+    let taken = ends.clone().max()? - begins.clone().min()?;
+    (taken / 2 < ends.min()?.saturating_sub(begins.max()?)).then_some(taken)
 }
 
 fn measure_at(case: &str, words: &Words, slots: &[u32]) {

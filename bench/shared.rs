@@ -1,5 +1,5 @@
-//! A manager by hand in plain Rust behind a lock, with the journal of its calls and a list of them for each lane; and members that
-//! make the calls of their scripts at once.
+//! A manager by hand in plain Rust behind a lock, with the journal of its calls and a list of them for each lane; and
+//! members that make the calls of their scripts at once.
 
 #[path = "parts/answers.rs"]
 mod answers;
@@ -25,8 +25,8 @@ mod lives;
 mod manager;
 #[path = "parts/objects.rs"]
 mod objects;
-#[path = "parts/spans.rs"]
-mod spans;
+#[path = "parts/runs.rs"]
+mod runs;
 #[path = "parts/table.rs"]
 mod table;
 #[path = "parts/waiting.rs"]
@@ -35,24 +35,14 @@ mod waiting;
 use answers::{Limits, Reply};
 use journal::{Call, Lane, Making, Shared};
 use manager::Manager;
-use spans::{Span, Start, measure, on_threads, time_of};
+use runs::{measure, on_threads};
 use std::time::Instant;
 
-/// Calls of each lane in a run.
+/// Calls of each member in a run.
 const CALLS: u64 = 20_000;
 
 /// How many events there are.
 const EVENTS: u32 = 64;
-
-const LIMITS: Limits = Limits {
-    slots: 64,
-    processes: 64,
-    threads: 256,
-    handles: 1024,
-    waits: 1_000_000,
-    max_gen: u32::MAX,
-    max_recursion: 2_147_483_647,
-};
 
 fn event() -> Call {
     let make = Making { name: None, inherit: false, access: None, grant: None };
@@ -61,7 +51,7 @@ fn event() -> Call {
 
 /// Threads 1 to 8 of one process, and the events, with one handle for each.
 fn prepared() -> (Shared, Lane) {
-    let mut shared = Shared::new(Manager::new(LIMITS));
+    let mut shared = Shared::new(Manager::new(Limits::DEFAULT));
     let mut lane = shared.lane();
     shared.call(&mut lane, Call::Spawn { session: 1 });
     for _ in 0..7 {
@@ -78,21 +68,6 @@ fn set(lane: u32) -> Call {
     Call::SetEvent { thread: lane % 8 + 1, handle: lane % 8 * 4 + 4 }
 }
 
-fn calls(start: &Start, shared: &Shared, lane: &mut Lane) -> Span {
-    let (began, number) = (start.begin(), lane.number());
-    for _ in 0..CALLS {
-        assert!(matches!(shared.call(lane, set(number)), Reply::Done));
-    }
-    start.end(began)
-}
-
-fn lanes_call(count: u64) -> Option<u128> {
-    let (mut shared, _first) = prepared();
-    let mut lanes: Vec<Lane> = (0..count).map(|_| shared.lane()).collect();
-    let start = Start::new(count);
-    time_of(&on_threads(&mut lanes, |lane| calls(&start, &shared, lane)))
-}
-
 /// Who makes the calls of a script, each of which it keeps, and its answers.
 struct Member {
     lane: Lane,
@@ -100,8 +75,8 @@ struct Member {
     seen: Vec<Reply>,
 }
 
-/// Members make the calls of their scripts at once, their threads' start and end included.
-fn driven(count: u64) -> Option<u128> {
+/// Nanoseconds until members have made the calls of their scripts at once, their threads' start and end included.
+fn driven(count: u64) -> u128 {
     let (mut shared, _first) = prepared();
     let mut members: Vec<Member> = (0..count)
         .map(|_| {
@@ -119,15 +94,12 @@ fn driven(count: u64) -> Option<u128> {
     });
     let taken = began.elapsed().as_nanos();
     assert!(members.iter().all(|member| member.seen.iter().all(|reply| matches!(reply, Reply::Done))));
-    Some(taken)
+    taken
 }
 
 fn main() {
-    measure("set, one lane", CALLS, || lanes_call(1));
-    measure("set, two lanes", 2 * CALLS, || lanes_call(2));
-    measure("set, four lanes", 4 * CALLS, || lanes_call(4));
-    measure("set, one member", CALLS, || driven(1));
-    measure("set, two members", 2 * CALLS, || driven(2));
-    measure("set, four members", 4 * CALLS, || driven(4));
-    measure("set, eight members", 8 * CALLS, || driven(8));
+    // The most first: then the allocator keeps memory, and the others don't wait for pages of it.
+    for (case, count) in [("eight members", 8), ("four members", 4), ("two members", 2), ("one member", 1)] {
+        measure(case, CALLS * count, || Some(driven(count)));
+    }
 }
