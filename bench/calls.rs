@@ -1,52 +1,17 @@
 //! The rounds of bench/calls.c but those of time, over a manager by hand in plain Rust.
 
-#[path = "parts/answers.rs"]
-mod answers;
-#[path = "parts/awaiting.rs"]
-mod awaiting;
-#[path = "parts/bits.rs"]
-mod bits;
-#[path = "parts/body.rs"]
-mod body;
-#[path = "parts/cases.rs"]
-mod cases;
-#[path = "parts/creating.rs"]
-mod creating;
-#[path = "parts/directory.rs"]
-mod directory;
-#[path = "parts/given.rs"]
-mod given;
-#[path = "parts/handles.rs"]
-mod handles;
-#[path = "parts/herds.rs"]
-mod herds;
-#[path = "parts/id.rs"]
-mod id;
-#[path = "parts/lives.rs"]
-mod lives;
-#[path = "parts/manager.rs"]
-mod manager;
-#[path = "parts/objects.rs"]
-mod objects;
-#[path = "parts/table.rs"]
-mod table;
-#[path = "parts/waiting.rs"]
-mod waiting;
+mod parts;
 
-use answers::{Fault, Kind, Limits, MODIFY_STATE, Mode, Reply, Timeout};
-use cases::{
-    Case, ChildAndExit, OwnerAndEnd, ThreadAndEnd, WaitAndSet, WaitForAll, WaitForAny, WaitForSome, code_of, pending,
-    rounds_at, spawned, started,
+use parts::answers::{Fault, Kind, Limits, MODIFY_STATE, Mode, Reply, Timeout};
+use parts::cases::{
+    Case, ChildAndExit, HANDLES, Live, OwnerAndEnd, ThreadAndEnd, WaitAndSet, WaitForAll, WaitForAny, WaitForSome,
+    code_of, live_events, pending, rounds_at, spawned, started,
 };
-use directory::text;
-use given::{done, given, plain, refusal};
-use herds::{Gathered, HERDS};
-use id::Id;
-use manager::Manager;
+use parts::directory::text;
+use parts::given::{done, given, plain, refusal};
+use parts::herds::{Gathered, HERDS};
+use parts::manager::Manager;
 use std::time::{Duration, Instant};
-
-/// How many objects a process makes before the next one does.
-const HANDLES: u32 = 15_000;
 
 /// Prime to each number of events, so that a walk by it comes to each of them.
 const STRIDE: usize = 7919;
@@ -57,17 +22,6 @@ const BATCH: u32 = 256;
 /// The option of a duplicate that gives it the rights of its source.
 const SAME_ACCESS: u32 = 2;
 
-type Text = [u8; 16];
-
-/// A named event that stays, and its one handle.
-struct Live {
-    process: u32,
-    thread: u32,
-    handle: u32,
-    id: Id,
-    text: Text,
-}
-
 /// How many batches there are; how many rounds other cases have, and those of processes and threads in each of so many
 /// managers; and how many waits a herd has in all.
 const BATCHES: u32 = 1000;
@@ -75,24 +29,6 @@ const ROUNDS: u32 = 1_000_000;
 const LIVES: u32 = 1000;
 const MANAGERS: u32 = 20;
 const WAITS: u32 = 240_000;
-
-fn live_events(manager: &mut Manager, count: u32) -> Result<Vec<Live>, Fault> {
-    let (mut process, mut thread) = (0, 0);
-    let mut events = Vec::new();
-    for number in 0..count {
-        if number % HANDLES == 0 {
-            let spawned = manager.spawn(1);
-            let Reply::Spawned { process: next, thread: first } = spawned else {
-                return Err(refusal(spawned));
-            };
-            (process, thread) = (next, first);
-        }
-        let text = text(number);
-        let (handle, id) = given(manager.create_event(thread, &plain(Some(&text)), false, false))?;
-        events.push(Live { process, thread, handle, id, text });
-    }
-    Ok(events)
-}
 
 fn open_and_close(manager: &mut Manager, event: &Live) -> Result<u32, Fault> {
     let (handle, _) = given(manager.open_named(event.thread, Kind::Event, MODIFY_STATE, false, &event.text))?;
@@ -159,7 +95,7 @@ fn report(case: &str, count: usize, rounds: u32, taken: Duration, sum: u64) {
 struct Scene {
     manager: Manager,
     events: Vec<Live>,
-    texts: Vec<Text>,
+    texts: Vec<[u8; 16]>,
 }
 
 impl Scene {

@@ -1,14 +1,9 @@
 //! Pins and releases on bare words, of several threads at once.
 
-#[path = "parts/id.rs"]
-mod id;
-#[path = "parts/pins.rs"]
-mod pins;
-#[path = "parts/runs.rs"]
-mod runs;
+mod parts;
 
-use pins::Words;
-use runs::{measure, on_threads};
+use parts::pins::Words;
+use parts::runs::{measure, on_threads};
 use std::sync::atomic::{AtomicU64, Ordering::SeqCst};
 use std::time::Instant;
 

@@ -1,38 +1,10 @@
 //! What bench/savestates.c measures but the copy, by a manager by hand in plain Rust.
 
-#[path = "parts/answers.rs"]
-mod answers;
-#[path = "parts/awaiting.rs"]
-mod awaiting;
-#[path = "parts/bits.rs"]
-mod bits;
-#[path = "parts/body.rs"]
-mod body;
-#[path = "parts/creating.rs"]
-mod creating;
-#[path = "parts/directory.rs"]
-mod directory;
-#[path = "parts/handles.rs"]
-mod handles;
-#[path = "parts/id.rs"]
-mod id;
-#[path = "parts/lives.rs"]
-mod lives;
-#[path = "parts/manager.rs"]
-mod manager;
-#[path = "parts/objects.rs"]
-mod objects;
-#[path = "parts/saving.rs"]
-mod saving;
-#[path = "parts/sha256.rs"]
-mod sha256;
-#[path = "parts/table.rs"]
-mod table;
-#[path = "parts/waiting.rs"]
-mod waiting;
+mod parts;
 
-use answers::{Kind, Limits, Make, Mode, Reply, Timeout};
-use manager::Manager;
+use parts::answers::{Kind, Limits, Make, Mode, Reply, Timeout};
+use parts::manager::Manager;
+use parts::saving;
 use std::time::Instant;
 
 fn begun() -> Manager {

@@ -1,42 +1,12 @@
 //! What obman does with a script, over the manager by hand: lines from standard input, their answers to standard output, both
 //! in blocks of 64 KiB. It has obman's options of limits but those of pins and recursion, each as `--slots 4`.
 
-#[path = "parts/answers.rs"]
-mod answers;
-#[path = "parts/asking.rs"]
-mod asking;
-#[path = "parts/awaiting.rs"]
-mod awaiting;
-#[path = "parts/bits.rs"]
-mod bits;
-#[path = "parts/body.rs"]
-mod body;
-#[path = "parts/creating.rs"]
-mod creating;
-#[path = "parts/directory.rs"]
-mod directory;
-#[path = "parts/handles.rs"]
-mod handles;
-#[path = "parts/id.rs"]
-mod id;
-#[path = "parts/lives.rs"]
-mod lives;
-#[path = "parts/manager.rs"]
-mod manager;
-#[path = "parts/objects.rs"]
-mod objects;
-#[path = "parts/printing.rs"]
-mod printing;
-#[path = "parts/table.rs"]
-mod table;
-#[path = "parts/waiting.rs"]
-mod waiting;
-#[path = "parts/words.rs"]
-mod words;
+mod parts;
 
-use answers::Limits;
-use manager::Manager;
-use printing::Printed;
+use parts::answers::Limits;
+use parts::asking;
+use parts::manager::Manager;
+use parts::printing::Printed;
 use std::io::{ErrorKind, Read, Result, StdoutLock, Write};
 
 /// How many bytes are read at once, at most, and how many are gathered before they are written.

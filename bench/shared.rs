@@ -1,41 +1,12 @@
 //! A manager by hand in plain Rust behind a lock, with the journal of its calls and a list of them for each lane; and
 //! members that make the calls of their scripts at once.
 
-#[path = "parts/answers.rs"]
-mod answers;
-#[path = "parts/awaiting.rs"]
-mod awaiting;
-#[path = "parts/bits.rs"]
-mod bits;
-#[path = "parts/body.rs"]
-mod body;
-#[path = "parts/creating.rs"]
-mod creating;
-#[path = "parts/directory.rs"]
-mod directory;
-#[path = "parts/handles.rs"]
-mod handles;
-#[path = "parts/id.rs"]
-mod id;
-#[path = "parts/journal.rs"]
-mod journal;
-#[path = "parts/lives.rs"]
-mod lives;
-#[path = "parts/manager.rs"]
-mod manager;
-#[path = "parts/objects.rs"]
-mod objects;
-#[path = "parts/runs.rs"]
-mod runs;
-#[path = "parts/table.rs"]
-mod table;
-#[path = "parts/waiting.rs"]
-mod waiting;
+mod parts;
 
-use answers::{Limits, Reply};
-use journal::{Call, Lane, Making, Shared};
-use manager::Manager;
-use runs::{measure, on_threads};
+use parts::answers::{Limits, Reply};
+use parts::journal::{Call, Lane, Making, Shared};
+use parts::manager::Manager;
+use parts::runs::{measure, on_threads};
 use std::time::Instant;
 
 /// Calls of each member in a run.

@@ -1,7 +1,6 @@
 //! What calls are asked and what they answer.
-#![allow(dead_code)]
 
-use crate::id::Id;
+use super::id::Id;
 
 pub const MODIFY_STATE: u32 = 2;
 pub const SYNCHRONIZE: u32 = 0x0010_0000;

@@ -1,8 +1,8 @@
 //! A line asks a manager.
 
-use crate::answers::{Mode, Reply, Timeout};
-use crate::manager::Manager;
-use crate::words::{Words, either, id, kind, labelled, mask, number, signed};
+use super::answers::{Mode, Reply, Timeout};
+use super::manager::Manager;
+use super::words::{Words, either, id, kind, labelled, mask, number, signed};
 
 const CLOSE_SOURCE: u32 = 1;
 const SAME_ACCESS: u32 = 2;

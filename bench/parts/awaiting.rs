@@ -1,9 +1,9 @@
 //! A thread waits for a list of handles.
 
-use crate::answers::{Fault, Mode, Reply, SYNCHRONIZE, Timeout, WAIT_TIMEOUT, within};
-use crate::id::Id;
-use crate::manager::Manager;
-use crate::waiting::try_now;
+use super::answers::{Fault, Mode, Reply, SYNCHRONIZE, Timeout, WAIT_TIMEOUT, within};
+use super::id::Id;
+use super::manager::Manager;
+use super::waiting::try_now;
 
 const MAXIMUM_WAIT_OBJECTS: usize = 64;
 
@@ -108,7 +108,6 @@ impl Manager {
     }
 
     /// The least wait that is answered: its thread and the code. It is over then.
-    #[allow(dead_code)]
     pub fn take_answered(&mut self) -> Option<(u32, u32)> {
         let wait = self.waits.next_answered()?;
         self.take(wait).ok()?

@@ -1,6 +1,6 @@
 //! Free numbers by three levels of bits, each of which tells which words below it aren't 0.
 
-use crate::table::Free;
+use super::table::Free;
 
 #[derive(Default)]
 pub struct Bits {

@@ -1,5 +1,4 @@
 //! What an object is now.
-#![allow(dead_code)]
 
 pub const RECURSION_MAX: u32 = 2_147_483_647;
 

@@ -1,8 +1,36 @@
 //! What is done in a round in a manager of its own.
 
-use crate::answers::{Fault, Limits, Make, Mode, Reply, Timeout};
-use crate::given::{done, given, plain, refusal};
-use crate::manager::Manager;
+use super::answers::{Fault, Limits, Make, Mode, Reply, Timeout};
+use super::directory::text;
+use super::given::{done, given, plain, refusal};
+use super::id::Id;
+use super::manager::Manager;
+
+/// How many objects a process makes before the next one does.
+pub const HANDLES: u32 = 15_000;
+
+/// A named event that stays, and its one handle.
+pub struct Live {
+    pub process: u32,
+    pub thread: u32,
+    pub handle: u32,
+    pub id: Id,
+    pub text: [u8; 16],
+}
+
+pub fn live_events(manager: &mut Manager, count: u32) -> Result<Vec<Live>, Fault> {
+    let (mut process, mut thread) = (0, 0);
+    let mut events = Vec::new();
+    for number in 0..count {
+        if number % HANDLES == 0 {
+            (process, thread) = spawned(manager.spawn(1))?;
+        }
+        let text = text(number);
+        let (handle, id) = given(manager.create_event(thread, &plain(Some(&text)), false, false))?;
+        events.push(Live { process, thread, handle, id, text });
+    }
+    Ok(events)
+}
 
 /// A manager for a case that needs more than events with names, and who makes its calls.
 pub struct Home {
@@ -204,7 +232,7 @@ impl Case for ChildAndExit {
 /// Named events, and a mutex that is made last, by the process that made the last of them.
 fn home_among(count: u32) -> Result<Home, Fault> {
     let mut home = Home::empty()?;
-    let events = crate::live_events(&mut home.manager, count)?;
+    let events = live_events(&mut home.manager, count)?;
     if let Some(event) = events.last() {
         (home.process, home.thread) = (event.process, event.thread);
     }

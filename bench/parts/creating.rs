@@ -2,13 +2,13 @@
 //!
 //! A name is hashed once a call, and where it leaves not at all: its object keeps the hash.
 
-use crate::answers::{Fault, Kind, Make, Reply, within};
-use crate::body::{Body, Mutex};
-use crate::directory::{GLOBAL, hash_of};
-use crate::id::Id;
-use crate::manager::Manager;
-use crate::objects::Object;
-use crate::table::{Entry, Free, INHERIT};
+use super::answers::{Fault, Kind, Make, Reply, within};
+use super::body::{Body, Mutex};
+use super::directory::{GLOBAL, hash_of};
+use super::id::Id;
+use super::manager::Manager;
+use super::objects::Object;
+use super::table::{Entry, Free, INHERIT};
 
 #[derive(Clone, Copy)]
 struct New {

@@ -1,16 +1,14 @@
 //! A directory of names: rows in the order of entry, with holes where names went, and a table of their places by hash. A name
 //! is looked up as it stands, with no copy, and its hash is that of the kit's default hasher.
 
-use crate::id::Id;
+use super::id::Id;
 
 /// A name of 16 bytes.
-#[allow(dead_code)]
 pub fn text(number: u32) -> [u8; 16] {
     format!("event-{number:010}").into_bytes().try_into().unwrap()
 }
 
 /// The namespace that all sessions share; each session's own has its number.
-#[allow(dead_code)]
 pub const GLOBAL: u64 = 1 << 32;
 
 /// A name with its object.
@@ -26,7 +24,6 @@ impl Row {
         self.space == space && self.base == base
     }
 
-    #[allow(dead_code)]
     pub fn is_of(&self, id: Id) -> bool {
         self.id == id
     }
@@ -144,13 +141,11 @@ impl Directory {
         }
     }
 
-    #[allow(dead_code)]
     pub fn len(&self) -> usize {
         self.count
     }
 
     /// The namespace, the object and the rest of the text of each name, in the order of entry.
-    #[allow(dead_code)]
     pub fn rows(&self) -> impl Iterator<Item = (u64, Id, &[u8])> {
         self.rows.iter().flatten().map(|row| (row.space, row.id, row.base.as_slice()))
     }

@@ -1,7 +1,7 @@
 //! What is read off the answers of calls.
 
-use crate::answers::{Fault, Make, Reply};
-use crate::id::Id;
+use super::answers::{Fault, Make, Reply};
+use super::id::Id;
 
 pub fn given(reply: Reply) -> Result<(u32, Id), Fault> {
     match reply {

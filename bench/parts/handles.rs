@@ -1,12 +1,12 @@
 //! Handles are duplicated and closed, and what they name is set, reset, released and counted.
 
-use crate::answers::{Fault, MODIFY_STATE, Reclaim, Reply, within};
-use crate::body::Body;
-use crate::creating::flags_of;
-use crate::id::Id;
-use crate::manager::Manager;
-use crate::objects::Phase;
-use crate::table::{Entry, Free};
+use super::answers::{Fault, MODIFY_STATE, Reclaim, Reply, within};
+use super::body::Body;
+use super::creating::flags_of;
+use super::id::Id;
+use super::manager::Manager;
+use super::objects::Phase;
+use super::table::{Entry, Free};
 
 const CLOSE_SOURCE: u32 = 1;
 const SAME_ACCESS: u32 = 2;

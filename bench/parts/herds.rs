@@ -1,8 +1,8 @@
 //! Threads that all wait for one object, and are released one by one or all together.
 
-use crate::answers::{Fault, Mode, Timeout};
-use crate::cases::{Home, code_of, pending, started};
-use crate::given::{done, given, plain};
+use super::answers::{Fault, Mode, Timeout};
+use super::cases::{Home, code_of, pending, started};
+use super::given::{done, given, plain};
 
 #[derive(Clone, Copy, PartialEq, Eq)]
 pub enum Herd {

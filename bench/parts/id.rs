@@ -1,7 +1,6 @@
 //! What names an object.
 
 #[derive(Clone, Copy, Debug, PartialEq, Eq)]
-#[allow(dead_code)]
 pub struct Id {
     pub slot: u32,
     pub generation: u32,

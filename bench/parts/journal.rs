@@ -1,8 +1,8 @@
 //! A manager behind a lock, with the journal of its calls.
 
-use crate::answers::{Kind, Make, Mode, Reply, Timeout};
-use crate::id::Id;
-use crate::manager::Manager;
+use super::answers::{Kind, Make, Mode, Reply, Timeout};
+use super::id::Id;
+use super::manager::Manager;
 use std::sync::{Condvar, Mutex};
 
 #[derive(Clone)]
@@ -20,7 +20,6 @@ impl Making {
 }
 
 /// A call with what it is given.
-#[allow(dead_code)]
 #[derive(Clone)]
 pub enum Call {
     Spawn { session: u32 },
@@ -78,7 +77,6 @@ impl Manager {
     }
 }
 
-#[allow(dead_code)]
 pub struct Entry {
     lane: u32,
     call: Call,
@@ -142,7 +140,6 @@ impl Shared {
     }
 
     /// Waits until a wait is answered, and takes its result.
-    #[allow(dead_code)]
     pub fn block(&self, lane: &mut Lane, wait: u32) -> Reply {
         let call = Call::WaitResult { wait };
         let mut book = self.book.lock().unwrap();

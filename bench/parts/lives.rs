@@ -1,9 +1,9 @@
 //! Processes and threads start and end.
 
-use crate::answers::{Fault, Reply};
-use crate::bits::Bits;
-use crate::manager::{Manager, Process, Thread};
-use crate::table::{INHERIT, Table};
+use super::answers::{Fault, Reply};
+use super::bits::Bits;
+use super::manager::{Manager, Process, Thread};
+use super::table::{INHERIT, Table};
 
 impl Manager {
     fn start(&mut self, process: u32) -> u32 {

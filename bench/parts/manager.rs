@@ -1,13 +1,13 @@
 //! An object manager by hand, with the calls of crates/ob_manager: the same answers, the same refusals in the same order, and
 //! the same counters. The compiler may inline its calls, as it may those of the other side.
 
-use crate::answers::{Fault, Kind, Limits, Make, Mode, Reply, Timeout};
-use crate::bits::Bits;
-use crate::directory::Directory;
-use crate::id::Id;
-use crate::objects::{Object, Objects};
-use crate::table::{Entry, Free, Table};
-use crate::waiting::Waits;
+use super::answers::{Fault, Kind, Limits, Make, Mode, Reply, Timeout};
+use super::bits::Bits;
+use super::directory::Directory;
+use super::id::Id;
+use super::objects::{Object, Objects};
+use super::table::{Entry, Free, Table};
+use super::waiting::Waits;
 
 pub struct Thread {
     pub process: u32,
@@ -35,7 +35,6 @@ pub struct Manager {
     pub(crate) waits: Waits,
 }
 
-#[allow(dead_code)]
 impl Manager {
     pub fn new(limits: Limits) -> Manager {
         let mut vacant = Bits::default();

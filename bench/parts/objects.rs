@@ -2,12 +2,11 @@
 //!
 //! A slot's generation and phase stand beside its object, on one cache line, and in a word that readers on other threads could pin.
 
-use crate::answers::{Fault, Kind};
-use crate::body::Body;
-use crate::id::Id;
+use super::answers::{Fault, Kind};
+use super::body::Body;
+use super::id::Id;
 use std::sync::atomic::{AtomicU64, Ordering::SeqCst};
 
-#[allow(dead_code)]
 pub struct Object {
     pub birth: u64,
     pub kind: Kind,
@@ -70,7 +69,6 @@ impl Objects {
     }
 
     /// A slot as a savestate says it.
-    #[allow(dead_code)]
     pub fn restore(&mut self, slot: u32, generation: u32, phase: Phase, descr: u64, object: Option<Object>) {
         let at = slot as usize;
         let code = match phase {

@@ -1,6 +1,6 @@
 //! Pins and releases on bare words: a load, the verdict on the word, a compare-exchange and a fetch-sub.
 
-use crate::id::Id;
+use super::id::Id;
 use std::hint::black_box;
 use std::sync::atomic::{AtomicU64, Ordering::SeqCst};
 

@@ -1,8 +1,8 @@
 //! Answers, printed one behind another.
 
-use crate::answers::{Reclaim, Reply};
-use crate::directory::GLOBAL;
-use crate::id::Id;
+use super::answers::{Reclaim, Reply};
+use super::directory::GLOBAL;
+use super::id::Id;
 
 /// Two digits at a time.
 const PAIRS: &[u8; 200] = b"\

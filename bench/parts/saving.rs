@@ -1,15 +1,15 @@
 //! Savestates by hand: the bytes of docs/SAVESTATES.md, with all that a load refuses. There is no timer, and no deadline.
 
-use crate::answers::{Kind, Limits, Mode};
-use crate::bits::Bits;
-use crate::body::{Body, Mutex};
-use crate::directory::{GLOBAL, hash_of};
-use crate::id::Id;
-use crate::manager::{Manager, Process, Thread};
-use crate::objects::{Object, Phase};
-use crate::sha256::sha256;
-use crate::table::{Entry, Free, Table};
-use crate::waiting::Shown;
+use super::answers::{Kind, Limits, Mode};
+use super::bits::Bits;
+use super::body::{Body, Mutex};
+use super::directory::{GLOBAL, hash_of};
+use super::id::Id;
+use super::manager::{Manager, Process, Thread};
+use super::objects::{Object, Phase};
+use super::sha256::sha256;
+use super::table::{Entry, Free, Table};
+use super::waiting::Shown;
 
 const MARK: u64 = 0x1_534a_424f;
 

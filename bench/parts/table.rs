@@ -1,8 +1,7 @@
 //! The handle table of one process, as a list of places that are filled or not, with those below its end that aren't in a set.
 
-use crate::id::Id;
+use super::id::Id;
 
-#[allow(dead_code)]
 pub const INHERIT: u32 = 1;
 
 /// Numbers that are free.
@@ -13,7 +12,6 @@ pub trait Free: Default {
 }
 
 #[derive(Clone, Copy)]
-#[allow(dead_code)]
 pub struct Entry {
     pub id: Id,
     pub rights: u32,
@@ -34,7 +32,6 @@ impl<F: Free> Table<F> {
         *self.places.get(value as usize / 4 - 1)?
     }
 
-    #[allow(dead_code)]
     pub fn is_full(&self, limit: u32) -> bool {
         self.free.least().is_none() && self.places.len() >= limit as usize
     }
@@ -55,7 +52,6 @@ impl<F: Free> Table<F> {
     }
 
     /// The entries with a flag, at their values.
-    #[allow(dead_code)]
     pub fn with(&self, flag: u32) -> Table<F> {
         let flagged = |place: &Option<Entry>| place.filter(|entry| entry.flags & flag != 0);
         let len = self.places.iter().rposition(|place| flagged(place).is_some()).map_or(0, |last| last + 1);

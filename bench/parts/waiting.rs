@@ -1,8 +1,8 @@
 //! Waits: each at its thread, in linked lists by the slots of what it waits for, and found by its number.
 
-use crate::answers::{Fault, Mode, WAIT_TIMEOUT};
-use crate::id::Id;
-use crate::objects::Objects;
+use super::answers::{Fault, Mode, WAIT_TIMEOUT};
+use super::id::Id;
+use super::objects::Objects;
 use std::collections::{HashMap, VecDeque};
 use std::hash::{BuildHasherDefault, Hasher};
 
@@ -148,7 +148,6 @@ pub fn try_now(objects: &mut Objects, thread: u32, mode: Mode, ids: &[Id]) -> Op
 }
 
 /// A wait as a savestate says it: what it is pending for, or the code that it is answered with.
-#[allow(dead_code)]
 pub struct Shown {
     pub number: u32,
     pub thread: u32,
@@ -196,12 +195,10 @@ impl Waits {
         Ok(number)
     }
 
-    #[allow(dead_code)]
     pub fn given(&self) -> u32 {
         self.given
     }
 
-    #[allow(dead_code)]
     pub fn shown(&self) -> Vec<Shown> {
         let ids = |places: &Places| places.as_slice().iter().map(|place| self.blocks.pool[*place as usize].id).collect();
         let shown = |(thread, wait): (usize, &Wait)| match &wait.state {
@@ -212,12 +209,10 @@ impl Waits {
     }
 
     /// The numbers up to this one are given to nobody.
-    #[allow(dead_code)]
     pub fn skip_to(&mut self, number: u32) {
         self.given = number;
     }
 
-    #[allow(dead_code)]
     pub fn add_answered(&mut self, thread: u32, code: u32) {
         self.given += 1;
         let at = thread as usize;
@@ -258,7 +253,6 @@ impl Waits {
         Ok((thread, self.waits[thread as usize].as_ref().ok_or(Fault::Parameter)?))
     }
 
-    #[allow(dead_code)]
     pub fn is_pending(&self, number: u32) -> bool {
         self.found(number).is_ok_and(|(_, wait)| matches!(wait.state, State::Pending(..)))
     }

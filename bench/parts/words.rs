@@ -1,7 +1,7 @@
 //! The words of a line, and what they say.
 
-use crate::answers::{Kind, Make};
-use crate::id::Id;
+use super::answers::{Kind, Make};
+use super::id::Id;
 
 /// What is left of a line: none where no word is.
 #[derive(Clone, Copy)]
