@@ -238,7 +238,6 @@ fn new_handle<K: PinKeeper>(
     rights: Rights,
     inherit: bool,
 ) -> Result<u32, Fault>
-    requires table { process < length store.old.state.tables }
     requires live { IsLive store.old.state.processes process }
     requires is_there { 0 < handles_of store.old.state id }
     ensures handle { IfOk result (λ handle. handle ≡ next_handle store.old.state process) }

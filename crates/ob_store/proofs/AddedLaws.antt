@@ -35,7 +35,7 @@ use Rattle.ob_store.proofs.CountedLaws.{blocks_at, counted_added}
 use Rattle.ob_store.proofs.NamedLaws.{named_added}
 use Rattle.ob_store.proofs.BodyLaws.{formed_added, of_live_added}
 use Rattle.ob_store.proofs.ListingLaws.{listing_added, listing_name_added, placed_agreed}
-use Rattle.ob_store.proofs.PlacedLaws.{unreferenced}
+use Rattle.ob_store.proofs.PlacedLaws.{live_tabled, unreferenced}
 use Rattle.ob_store.proofs.KeptLaws.{live_changed}
 
 -- a slot without an object has no body
@@ -98,7 +98,6 @@ added_state p process slot rights flags head body rows =
 
 module _ (p : PartsState) (kept : IsKept p) (tied : IsTied p.objects)
     (process slot : ℕ) (rights : Rights) (flags : HandleFlags) (head : Head) (body : Body)
-    (table : process < length p.tables.tables)
     (live : IsLive p.processes.processes process)
     (vacant : is_vacant_at (vacancy (places_in p.objects)) slot ≡ true)
     (formed : form_of body ≡ form_in head.descr)
@@ -115,6 +114,9 @@ module _ (p : PartsState) (kept : IsKept p) (tied : IsTied p.objects)
 
   abbrev o : ObjectsState
   o = p.objects
+
+  table : process < length p.tables.tables
+  table = live_tabled p.limits p.processes p.tables.tables process kept.sound.processes_kept live
 
   none : object_at p.objects slot ≡ None
   none = vacant_empty (vacancy (places_in o)) slot vacant
@@ -154,6 +156,7 @@ module _ (p : PartsState) (kept : IsKept p) (tied : IsTied p.objects)
           room = room_unnamed p.limits.max_recursion o.seen.bodies p.waits.waits slot (Some body) unnamed sound.room;
           listing = listing;
         };
+        populated = kept.populated;
         settled = settled_unnamed o.seen.bodies p.waits.waits slot (Some body) unnamed kept.settled;
       }
 

@@ -27,6 +27,7 @@ use Rattle.ob_store.proofs.CountedLaws.{handles_at, handles_long}
 use Rattle.ob_store.proofs.NamedLaws.{entry_counted}
 use Rattle.ob_store.proofs.ListingLaws.{listing_child}
 use Rattle.ob_store.proofs.KeptLaws.{handled, kept_process, table_came}
+use Rattle.ob_store.proofs.PopulatedLaws.{populated_process}
 
 -- a place of a child's table has what its parent's has there
 inherited_at : (t : List (Option Entry)) (i : ℕ) → get_or (inherited t) i None ≡ inheritable (get_or t i None)
@@ -186,6 +187,7 @@ module _ (p : PartsState) (kept : IsKept p) (parent : ℕ) (w : Whole) (view : w
           room = kept.sound.room;
           listing = listing_child p.rows ts p.objects.objects p.objects.births kept.sound.listing parent;
         };
+        populated = populated_process p.processes.processes p.processes.threads session kept.populated;
         settled = kept.settled;
       } in
       subst (λ (o : ObjectsState). IsKept (with_child session o)) (sym (handles_stay child_table p.objects)) is

@@ -16,6 +16,7 @@ pub consistent : (p : PartsState) → IsKept p → IsTied p.objects → rules.Is
     → AreAhead p.waits.clock p.waits.waits → IsConsistent (whole_of p)
 consistent p kept tied waits ahead = record {
   processes = kept.sound.processes_kept;
+  populated = kept.populated;
   slots = tied.agreed.each;
   shape = kept.sound.limited.shape_is;
   generations = refl;

@@ -31,6 +31,8 @@ use Rattle.ob_store.proofs.NamedLaws.{there_within, named_flags, named_placed, n
 use Rattle.ob_store.proofs.BodyLaws.{of_live_more}
 use Rattle.ob_store.proofs.ListingLaws.{listing_flags, listing_process, listing_placed}
 use Rattle.ob_store.proofs.Places.{from_one_more}
+use Rattle.ob_store.proofs.PlacedLaws.{live_tabled}
+use Rattle.ob_store.proofs.PopulatedLaws.{populated_process, populated_thread}
 use Rattle.ob_store.proofs.SettledLaws.{settled_still}
 use Rattle.ob_store.proofs.ThreadListLaws.{live_more}
 
@@ -180,11 +182,12 @@ placed p process e = record p {
   objects = with_handle_of p.objects e.id.slot;
 }
 
-pub kept_placed : (p : PartsState) (process : ℕ) (e : Entry) → IsKept p → process < length p.tables.tables
-    → IsLive p.processes.processes process → 0 < handles_among e.id p.tables.tables → IsKept (placed p process e)
-kept_placed p process e kept table live some =
+pub kept_placed : (p : PartsState) (process : ℕ) (e : Entry) → IsKept p → IsLive p.processes.processes process
+    → 0 < handles_among e.id p.tables.tables → IsKept (placed p process e)
+kept_placed p process e kept live some =
     let ts = p.tables.tables in
     let sound = kept.sound in
+    let table = live_tabled p.limits p.processes ts process sound.processes_kept live in
     record {
       sound = record {
         limited = sound.limited;
@@ -198,6 +201,7 @@ kept_placed p process e kept table live some =
         room = sound.room;
         listing = listing_placed p.rows ts p.objects.objects p.objects.births sound.listing process e some;
       };
+      populated = kept.populated;
       settled = kept.settled;
     }
 
@@ -232,6 +236,7 @@ kept_flags p process value flags kept some = by (entry_at (table_of p.tables.tab
         listing = listing_flags p.rows p.tables.tables p.objects.objects p.objects.births kept.sound.listing process
             value e flags found;
       };
+      populated = kept.populated;
       settled = kept.settled;
     }
 
@@ -276,6 +281,7 @@ kept_process p session w view kept processes threads = record {
     room = kept.sound.room;
     listing = listing_process p.rows p.tables.tables p.objects.objects p.objects.births kept.sound.listing;
   };
+  populated = populated_process p.processes.processes p.processes.threads session kept.populated;
   settled = kept.settled;
 }
   where
@@ -320,5 +326,6 @@ kept_thread p process kept threads live =
         room = sound.room;
         listing = sound.listing;
       };
+      populated = populated_thread l.processes l.threads process kept.populated;
       settled = kept.settled;
     }

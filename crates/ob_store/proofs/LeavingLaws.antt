@@ -1,7 +1,6 @@
 -- The entry of a handle leaves: what is sound stays so, and is on its way to the settled state.
 use Rattle.std.proofs.Common.{◌≡◌, ℕ, ◌+◌, ◌<◌, List, length, Option, Some, None, refl, ap, ◌∙◌, sym, subst, arith, get_or, Bool, true, false, cond, eqb, set, ltb, []}
 use Rattle.std.specs.Prelude.{is_some, IsSome}
-use Rattle.std.proofs.lemmas.List.{length-set}
 use Rattle.std.proofs.lemmas.Bool.Decides.{nat_tests}
 use Rattle.pin_core.specs.declared.word.Phase.TheVariants as phase
 use Rattle.pin_core.specs.Worlds.{slot_of}

@@ -16,6 +16,7 @@ pub mod DirectoryLaws
 pub mod ListingLaws
 pub mod SettledLaws
 pub mod KeptLaws
+pub mod PopulatedLaws
 pub mod OwnerLaws
 pub mod OneByOne
 pub mod TimerLaws

@@ -2,7 +2,7 @@
 use Rattle.std.proofs.Common.{◌≡◌, ℕ, zero, suc, ◌≤◌, length, false, List, [], ◌∷◌, Option, None, refl, ap, ◌∙◌, sym, subst, arith, get_or, map}
 use Rattle.ob_arena.proofs.Phasing.{map-replicate}
 use Rattle.ob_store.proofs.ByPlace.{replicate_at}
-use Rattle.std.specs.Prelude.{replicate, sum_by}
+use Rattle.std.specs.Prelude.{is_some, replicate, sum_by}
 use Rattle.std.proofs.lemmas.List.{length-replicate}
 use Rattle.std.proofs.lemmas.List.Sums.{sum_by-cons}
 use Rattle.pin_core.specs.declared.world.Slot.{Slot}
@@ -89,6 +89,7 @@ module _ (limits : Limits) (keeper : KeeperState) (fresh : IsFresh keeper (shape
       };
       listing = listing_opening limits.slots;
     };
+    populated = λ q live. absurd (let none = ap is_some (one_none ℕ q) in cc (none, live));
     settled = record { each = λ n. ap (is_ready no_objects.seen.bodies) (one_none Wait n) };
   }
 

@@ -90,17 +90,22 @@ live_within numbers n live = elim (cases_lt n (length numbers)) [
 ]
 
 -- a live process has its table
+pub live_tabled : (limits : Limits) (l : ProcessesState) (tables : List (List (Option Entry))) (process : ℕ)
+    → ProcessesKept limits l tables → IsLive l.processes process → process < length tables
+live_tabled limits l tables process kept live = let lt = live_within l.processes process live in
+    let same = kept.tabled in omega (arith, lt, same)
+
 pub process_tabled : (limits : Limits) (l : ProcessesState) (tables : List (List (Option Entry))) (process : ℕ)
     (x : Option ℕ) → ProcessesKept limits l tables → x ≡ get_or l.processes process None
     → OnSome x (process < length tables)
 process_tabled limits l tables process None kept is = tt
-process_tabled limits l tables process (Some s) kept is = let lt = live_within l.processes process (ap is_some (sym is))
-    in let same = kept.tabled in omega (arith, lt, same)
+process_tabled limits l tables process (Some s) kept is =
+    live_tabled limits l tables process kept (ap is_some (sym is))
 
 -- the process of a live thread has its table
 pub thread_tabled : (limits : Limits) (l : ProcessesState) (tables : List (List (Option Entry))) (thread : ℕ)
     (x : Option ℕ) → ProcessesKept limits l tables → x ≡ get_or l.threads thread None
     → IfSome x (λ p. p < length tables)
 thread_tabled limits l tables thread None kept is = tt
-thread_tabled limits l tables thread (Some p) kept is = let lt = live_within l.processes p (kept.live thread p (sym is))
-    in let same = kept.tabled in omega (arith, lt, same)
+thread_tabled limits l tables thread (Some p) kept is =
+    live_tabled limits l tables p kept (kept.live thread p (sym is))

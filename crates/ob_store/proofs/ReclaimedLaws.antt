@@ -110,6 +110,7 @@ module _ (p : PartsState) (kept : IsKept p) (tied : IsTied p.objects)
         listing = listing_left p.rows p.tables.tables o.objects o.births kept.sound.listing k object is_object.1
             no_handles;
       };
+      populated = kept.populated;
       settled = subst (λ (bs : List (Option Body)). IsSettled bs p.waits.waits) (sym bodies_same) kept.settled;
     }
 
@@ -136,6 +137,7 @@ module _ (p : PartsState) (kept : IsKept p) (tied : IsTied p.objects)
       room = kept.sound.room;
       listing = kept.sound.listing;
     };
+    populated = kept.populated;
     settled = kept.settled;
   })
 

@@ -1,7 +1,7 @@
 -- Objects that were read are tied to a keeper that begins with their slots.
-use Rattle.std.proofs.Common.{◌≡◌, ℕ, zero, suc, ◌+◌, ◌<◌, ◌&&◌, Bool, true, false, cond, ltb, List, [], ◌∷◌, length, get_or, map, Option, Some, None, Ok, refl, sym, ap, ◌∙◌, subst, arith, inl, inr}
+use Rattle.std.proofs.Common.{◌≡◌, ℕ, zero, suc, ◌+◌, ◌<◌, Bool, true, false, cond, ltb, List, [], ◌∷◌, length, get_or, map, Option, Some, None, Ok, refl, sym, ap, ◌∙◌, subst, arith, inl, inr}
 use Rattle.std.specs.Prelude.{is_none, is_some, sum_by}
-use Rattle.std.proofs.lemmas.Bool.{cases_eq, cases_lt}
+use Rattle.std.proofs.lemmas.Bool.{cases_lt}
 use Rattle.std.proofs.lemmas.List.{get_or-map, get_or-replicate, get_or_past, length-map, length-replicate}
 use Rattle.ob_codec.specs.Reading.{items_at}
 use Rattle.ob_codec.specs.Steps.{bind_ok, ok_is}
@@ -27,6 +27,7 @@ use Rattle.ob_store.specs.SavedObjects.{are_bodied, is_bodied, with_slots}
 use Rattle.ob_store.specs.SavedSlots.{body_from, is_retired, keeper_slot, object_from, objects_from, places_from, slot_at, slots_at, slots_from}
 use Rattle.ob_store.specs.SavedWaits.{object_blocks, with_blocks}
 use Rattle.ob_store.specs.State.{by_slot}
+use Rattle.ob_store.proofs.ByPlace.{below_at}
 use Rattle.ob_store.proofs.BySlot.{is_by_slot}
 use Rattle.ob_store.proofs.CountingLaws.{Counts, IsWide, tables_count}
 use Rattle.ob_store.proofs.KeeperLaws.{all_shown}
@@ -34,32 +35,13 @@ use Rattle.ob_store.proofs.SavedBirthLaws.{ordered_born}
 use Rattle.ob_store.proofs.SavedLaws.{objects-long}
 use Rattle.ob_store.proofs.SavedSlotLaws.{IsSound, items_all, slot_aged, slot_agrees, slot_formed, slot_generation, slot_later, slot_opens, slot_sound}
 
--- a slot that isn't bodied is one of those that aren't
-pub not_bodied : (o : waits.Objects) (n k : ℕ) → k < n → is_bodied o k ≡ false → are_bodied o n ≡ false
-not_bodied o zero k lt e = absurd (omega arith)
-not_bodied o (suc n) k lt e = elim (cases_eq k n) [
-  | inl here ↦ ap (λ (b : Bool). are_bodied o n && b) (ap (is_bodied o) (sym here) ∙ e) ∙ last (are_bodied o n)
-  | inr other ↦ ap (λ (b : Bool). b && is_bodied o n) (not_bodied o n k (omega (arith, lt, other)) e)
-]
-  where
-    last : (b : Bool) → b && false ≡ false
-    last true = refl
-    last false = refl
-
-bodied_here : (o : waits.Objects) (n k : ℕ) → are_bodied o n ≡ true → k < n → is_bodied o k ≡ true
-bodied_here o n k all lt = by (is_bodied o k) refl
-  where
-    by : (b : Bool) → is_bodied o k ≡ b → is_bodied o k ≡ true
-    by true is = is
-    by false is = absurd (let f = not_bodied o n k lt is in let e = sym all ∙ f in cc e)
-
--- then each slot has a body exactly where something refers to its object
+-- each slot has a body exactly where something refers to its object
 all_bodied : (o : waits.Objects) (n : ℕ) → length o.bodies ≡ n → length o.handles ≡ n → length o.blocks ≡ n →
     are_bodied o n ≡ true → HasBodies o
 all_bodied o n bodies handles blocks all = record {
   each = λ k. elim (cases_lt k n) [
     | inl lt ↦ by (ltb 0 (get_or o.handles k 0 + get_or o.blocks k 0)) (get_or o.bodies k None)
-        (bodied_here o n k all lt)
+        (below_at (is_bodied o) n k all lt)
     | inr le ↦ (let none = get_or_past o.bodies k None (omega (arith, bodies, le)) in
         let a = get_or_past o.handles k 0 (omega (arith, handles, le)) in
         let b = get_or_past o.blocks k 0 (omega (arith, blocks, le)) in

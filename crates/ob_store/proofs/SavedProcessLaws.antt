@@ -1,23 +1,24 @@
 -- Processes and threads are read as they were spelled, and what is read is kept.
-use Rattle.std.proofs.Common.{◌≡◌, ℕ, ◌≤◌, ◌+◌, ◌&&◌, Bool, List, None, Option, Some, ap, arith, get_or, leb, length, refl, subst, true}
+use Rattle.std.proofs.Common.{◌≡◌, ℕ, ◌≤◌, ◌+◌, List, None, Option, Some, ap, arith, get_or, leb, length, refl, subst, true}
 use Rattle.std.specs.Prelude.{is_some, not}
 use Rattle.std.proofs.lemmas.Bool.{and_from, le-leb}
 use Rattle.ob_codec.specs.Codecs.{as_codec, both_codec, list_codec, option_codec, u32_codec, where_codec}
 use Rattle.ob_codec.specs.Laws.{IsCodec}
 use Rattle.ob_tables.specs.declared.entry.Entry.{Entry}
 use Rattle.ob_store.specs.declared.limits.Limits.{Limits}
-use Rattle.ob_store.specs.Kept.{IsLive, ProcessesKept}
+use Rattle.ob_store.specs.Kept.{IsLive, IsPopulated, ProcessesKept}
 use Rattle.ob_store.specs.Processes.{IsFromOne, ProcessesState}
-use Rattle.ob_store.specs.SavedProcesses.{AreWithin, ListsFit, NumbersFit, ProcessesFit, are_numbers, are_of_live, is_of_live, lists_of, numbers_at, numbers_text, processes_at, processes_of, processes_text}
+use Rattle.ob_store.specs.SavedProcesses.{AreWithin, ListsFit, NumbersFit, ProcessesFit, are_numbers, are_of_live, are_populated, is_of_live, lists_of, numbers_at, numbers_text, processes_at, processes_of, processes_text}
 use Rattle.ob_store.proofs.ByPlace.{all_from}
+use Rattle.ob_store.proofs.PopulatedLaws.{populated_pass}
 
 pub numbers_codec : (limit : ℕ) → IsCodec numbers_text (numbers_at limit) (AreWithin limit)
 numbers_codec limit = where_codec (list_codec (option_codec u32_codec) (limit + 1)) are_numbers
 
 pub processes_codec : (processes threads : ℕ)
     → IsCodec processes_text (processes_at processes threads) (ProcessesFit processes threads)
-processes_codec processes threads = as_codec processes_of lists_of (λ _. refl) (λ _. refl)
-    (where_codec (both_codec (numbers_codec processes) (numbers_codec threads)) are_of_live)
+processes_codec processes threads = where_codec (as_codec processes_of lists_of (λ _. refl) (λ _. refl)
+    (where_codec (both_codec (numbers_codec processes) (numbers_codec threads)) are_of_live)) are_populated
 
 within : (limit : ℕ) (xs : List (Option ℕ)) → length xs ≤ limit + 1 → IsFromOne xs → NumbersFit xs
     → AreWithin limit xs
@@ -41,12 +42,16 @@ module _ (ps : List (Option ℕ)) where
       → are_of_live (ps, ts) ≡ true
   live_pass ts each = all_from (is_of_live ps) ts None (λ t lt. live_from (get_or ts t None) (each t))
 
-pub kept_fits : (limits : Limits) (l : ProcessesState) (tables : List (List (Option Entry))) → ProcessesKept limits l tables → ListsFit l
+pub kept_fits : (limits : Limits) (l : ProcessesState) (tables : List (List (Option Entry)))
+    → ProcessesKept limits l tables → IsPopulated l.processes l.threads → ListsFit l
     → ProcessesFit limits.processes limits.threads l
-kept_fits limits l tables kept fits = (
+kept_fits limits l tables kept populated fits = (
   (
-    within limits.processes l.processes kept.few_processes kept.processes_from_one fits.0,
-    within limits.threads l.threads kept.few_threads kept.threads_from_one fits.1,
+    (
+      within limits.processes l.processes kept.few_processes kept.processes_from_one fits.0,
+      within limits.threads l.threads kept.few_threads kept.threads_from_one fits.1,
+    ),
+    live_pass l.processes l.threads kept.live,
   ),
-  live_pass l.processes l.threads kept.live,
+  populated_pass l populated,
 )

@@ -1,8 +1,8 @@
 -- A store that is kept is read again as it was written, and what is read of a store was written so.
-use Rattle.std.proofs.Common.{◌≡◌, ℕ, suc, ◌+◌, ◌*◌, ◌<◌, ◌≤◌, ◌^◌, ◌&&◌, leb, ltb, Bool, true, false, cond, eqb, List, [], ◌∷◌, ◌++◌, length, get_or, map, Option, Some, None, Ok, Err, append_assoc, refl, sym, ap, ◌∙◌, subst, arith}
+use Rattle.std.proofs.Common.{◌≡◌, ℕ, suc, ◌*◌, ◌<◌, ◌≤◌, ◌^◌, ltb, Bool, true, false, cond, eqb, List, [], ◌∷◌, ◌++◌, length, get_or, map, Option, Some, None, Ok, Err, append_assoc, refl, sym, ap, ◌∙◌, subst, arith}
 use Rattle.std.specs.Int.{w32, w64, to_le_bytes}
 use Rattle.std.specs.List.{AllByRecursion, flat_map, list_all}
-use Rattle.std.proofs.lemmas.Bool.{and_from, and_parts, eq-eqb, eqb-true, le-leb, le-ltb, leb-true, lt-ltb}
+use Rattle.std.proofs.lemmas.Bool.{and_from, and_parts, eqb-true, le-leb, le-ltb, leb-true, lt-ltb}
 use Rattle.std.proofs.lemmas.List.{ext_get_or, get_or-map, length-append, length-map}
 use Rattle.std.proofs.lemmas.List.Concat.{flat_map-cons}
 use Rattle.ob_codec.specs.Codecs.{u64_codec, where_codec}
@@ -181,7 +181,7 @@ module _ (p : PartsState) (kept : IsKept p) (tied : IsTied p.objects) (processes
   processes_again : (rest : List ℕ) → processes_at p.limits.processes p.limits.threads
       (processes_text p.processes ++ rest) ≡ Ok (p.processes, rest)
   processes_again rest = (processes_codec p.limits.processes p.limits.threads).again p.processes rest
-      (kept_fits p.limits p.processes p.tables.tables sound.processes_kept processes)
+      (kept_fits p.limits p.processes p.tables.tables sound.processes_kept kept.populated processes)
 
   tables_there : (rest : List ℕ) → tables_at p.limits.processes p.limits.handles (length p.processes.processes)
       (tables_text p.tables.tables ++ rest) ≡ Ok (p.tables, rest)

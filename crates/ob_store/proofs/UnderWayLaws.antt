@@ -14,7 +14,7 @@ use Rattle.ob_waits.proofs.Apart.{ready_at_change}
 use Rattle.ob_waits.proofs.Settled.{settled_less, settled_unnamed}
 use Rattle.ob_waits.proofs.Settling.{settled_same}
 use Rattle.ob_store.specs.Agreement.{IsTied}
-use Rattle.ob_store.specs.Kept.{AreFormed, AreOfLive, IsKept, IsNamed, IsSound, Yields}
+use Rattle.ob_store.specs.Kept.{AreFormed, AreOfLive, IsKept, IsNamed, IsPopulated, IsSound, Yields}
 use Rattle.ob_store.specs.Objects.{ObjectsState, KeptRest, kept_rest}
 use Rattle.ob_store.specs.Parts.{PartsState, state_of, whole_of}
 use Rattle.ob_store.specs.Signaled.{SignaledState}
@@ -65,9 +65,10 @@ module _ (p : PartsState) (q : ObjectsState) (ws : WaitList)
   abbrev scene : Scene
   scene = record { objects = p.objects.seen; waits = p.waits.waits }
 
-  pub way_kept : WaitsHaveRoom p.limits.max_recursion q.seen.bodies ws.waits → IsSettled q.seen.bodies ws.waits
+  pub way_kept : IsPopulated p.processes.processes p.processes.threads
+      → WaitsHaveRoom p.limits.max_recursion q.seen.bodies ws.waits → IsSettled q.seen.bodies ws.waits
       → IsKept (record p { objects = q; waits = ws })
-  way_kept room quiet = record {
+  way_kept populated room quiet = record {
     sound = sound_rested p p.processes q ws p.signaled rest sound limit sound.processes_kept
         (counted_settled p.objects.seen (length p.objects.objects) p.tables.tables p.waits.waits sound.counted
         p.objects.seen.bodies q.seen ws.waits value)
@@ -77,6 +78,7 @@ module _ (p : PartsState) (q : ObjectsState) (ws : WaitList)
         (formed_settled scene q.seen ws.waits value p.waits.clock p.objects.objects sound.formed))
         (of_live_settled scene q.seen ws.waits value p.processes.threads sound.of_live)
         room;
+    populated = populated;
     settled = quiet;
   }
 

@@ -118,6 +118,7 @@ module _ (p : PartsState) (q : ObjectsState) (t : ℕ) (mode : Mode) (ids : List
         (of_live_taken p.processes.threads p.objects.seen.bodies p.waits.waits t mode ids live kept.sound.of_live))
         (subst (λ (bs : List (Option Body)). WaitsHaveRoom p.limits.max_recursion bs p.waits.waits) (sym bodies_are)
         (room_now p.limits.max_recursion mode t p.objects.seen.bodies ids p.waits.waits alone kept.sound.room));
+    populated = kept.populated;
     settled = subst (λ (bs : List (Option Body)). IsSettled bs p.waits.waits) (sym bodies_are)
         (settled_now mode t p.objects.seen.bodies ids p.waits.waits kept.settled);
   }
@@ -229,6 +230,7 @@ module _ (p : PartsState) (t : ℕ) (mode : Mode) (ids : List Id) (d : Option �
               (of_live_waiting p.processes.threads p.objects.seen.bodies p.waits.waits t mode ids d live
               kept.sound.of_live)
               (room_added p.limits.max_recursion p.objects.seen.bodies p.waits.waits t mode ids d room kept.sound.room);
+          populated = kept.populated;
           settled = settled_added p.objects.seen.bodies p.waits.waits t mode ids d unready kept.settled;
         })
 
@@ -334,5 +336,6 @@ kept_over p n code kept is =
                 (λ u h. absurd (cc)) kept.sound.of_live.waiters;
           })
           (room_removed p.limits.max_recursion p.objects.seen.bodies p.waits.waits n kept.sound.room);
+      populated = kept.populated;
       settled = settled_removed p.objects.seen.bodies p.waits.waits n kept.settled;
     }

@@ -1,5 +1,5 @@
 -- Births that are distinct are ordered, and objects that have bodies just where something refers to them pass.
-use Rattle.std.proofs.Common.{◌≡◌, ◌≢◌, ℕ, zero, suc, ◌+◌, ◌<◌, ◌&&◌, ltb, Bool, true, false, cond, List, [], ◌∷◌, get_or, Option, Some, None, Ok, Err, refl, ap, ◌∙◌, arith}
+use Rattle.std.proofs.Common.{◌≡◌, ◌≢◌, ℕ, suc, ◌+◌, ◌<◌, ◌&&◌, ltb, Bool, true, false, cond, List, [], ◌∷◌, get_or, Option, Some, None, Ok, Err, refl, ap, ◌∙◌, arith}
 use Rattle.std.specs.Prelude.{is_none, is_some}
 use Rattle.std.specs.BTreeMap.{insert_entry, is_at}
 use Rattle.std.specs.Ordering.{nat_cmp}
@@ -13,6 +13,7 @@ use Rattle.ob_store.specs.Agreement.{AreBorn}
 use Rattle.ob_store.specs.Objects.{Object}
 use Rattle.ob_store.specs.SavedBirths.{Births, births_from}
 use Rattle.ob_store.specs.SavedObjects.{are_bodied, is_bodied}
+use Rattle.ob_store.proofs.ByPlace.{below_from}
 use Rattle.ob_store.proofs.SavedBirthLaws.{at_other, none_first, taken, taken_inserted}
 
 -- a birth that isn't there stays so as another comes
@@ -60,10 +61,8 @@ unfolding Fresh Apart
 births_again objects births born = from-again births [] 0 objects (λ k o is. (born.below k o is, refl)) born.apart
 
 pub bodied_again : (o : waits.Objects) (n : ℕ) → HasBodies o → are_bodied o n ≡ true
-bodied_again o zero has = refl
-bodied_again o (suc n) has =
-    and_from (are_bodied o n) (is_bodied o n) (bodied_again o n has)
-    (by (ltb 0 (get_or o.handles n 0 + get_or o.blocks n 0)) (get_or o.bodies n None) (has.each n))
+bodied_again o n has = below_from (is_bodied o) n (λ k _.
+    by (ltb 0 (get_or o.handles k 0 + get_or o.blocks k 0)) (get_or o.bodies k None) (has.each k))
   where
     by : (referred : Bool) (body : Option Body) → is_some body ≡ referred →
         cond referred (is_some body) (is_none body) ≡ true

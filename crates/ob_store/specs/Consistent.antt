@@ -8,13 +8,15 @@ use Rattle.ob_waits.specs.Rules.{IsKept}
 use Rattle.ob_store.specs.Agreement.{Agrees, AreBorn, IsListed}
 use Rattle.ob_store.specs.State.{Whole, generation_of, handles_of, blocks_of, settled, shape_of}
 use Rattle.ob_store.specs.Directory.{directory_of}
-use Rattle.ob_store.specs.Kept.{AreFormed, AreOfLive, IsNamed, IsQuiet, IsThere, ProcessesKept}
+use Rattle.ob_store.specs.Kept.{AreFormed, AreOfLive, IsNamed, IsPopulated, IsQuiet, IsThere, ProcessesKept}
 
 pub record IsConsistent (w : Whole) : Type 0 where
   -- numbers are within the limits and 0 is nobody's, each process number has a table, which is empty where the process
   -- isn't live, and a live thread's process is live
   pub processes : ProcessesKept w.state.limits (record { processes = w.state.processes; threads = w.state.threads })
       w.state.tables
+  -- and each live process has a live thread
+  pub populated : IsPopulated w.state.processes w.state.threads
   -- slot by slot: free, or given up, or with one object of the slot's Id and descriptor, live with a body and closing
   -- without
   pub slots : (k : ℕ) → k < w.keeper.shape.slots →

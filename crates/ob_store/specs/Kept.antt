@@ -1,6 +1,7 @@
 -- What holds whenever no call is under way. Each group of facts is about the parts that it reads, so that a change of
 -- others leaves it as it is.
 use Rattle.std.specs.Prelude.{◌≡◌, ℕ, ◌+◌, ◌<◌, ◌≤◌, List, [], Option, Some, None, length, slice_index_or, IsSome, true}
+use Rattle.std.specs.List.{list_any}
 use Rattle.pin_core.specs.declared.id.Id.{Id}
 use Rattle.pin_core.specs.declared.descr.Descr.{Descr}
 use Rattle.pin_core.specs.declared.shape.Shape.{Shape}
@@ -15,7 +16,7 @@ use Rattle.ob_waits.specs.Form.{Form, IsAfter, form_of, slot_due, slot_owner}
 use Rattle.ob_waits.specs.Rules.{IsSettled, WaitsHaveRoom, thread_of}
 use Rattle.ob_waits.specs.Waits.{blocks_among, slot_blocks}
 use Rattle.ob_store.specs.declared.limits.Limits.{Limits}
-use Rattle.ob_store.specs.Processes.{IsFromOne, ProcessesState}
+use Rattle.ob_store.specs.Processes.{IsFromOne, ProcessesState, is_of}
 use Rattle.ob_store.specs.Objects.{Object}
 use Rattle.ob_store.specs.Parts.{PartsState}
 use Rattle.ob_store.specs.State.{by_slot, shape_of}
@@ -42,6 +43,11 @@ pub record ProcessesKept (limits : Limits) (p : ProcessesState) (tables : List (
   pub tabled : length tables ≡ length p.processes
   pub vacated : (process : ℕ) → slice_index_or p.processes process None ≡ None → slice_index_or tables process [] ≡ []
   pub live : (thread process : ℕ) → slice_index_or p.threads thread None ≡ Some process → IsLive p.processes process
+
+-- each live process has a live thread, which doesn't hold while it ends
+abbrev pub IsPopulated : List (Option ℕ) → List (Option ℕ) → Type 0
+IsPopulated processes threads =
+    (process : ℕ) → IsLive processes process → list_any (is_of process) threads ≡ true
 
 -- the stored counts are the numbers of entries and of places of pending waits
 pub record IsCounted (seen : Objects) (n : ℕ) (tables : List (List (Option Entry)))
@@ -117,4 +123,5 @@ pub record IsSound (p : PartsState) : Type 0 where
 -- and whenever none is. No public clause names it; what a caller sees of it is MatchesState
 pub record IsKept (p : PartsState) : Type 0 where
   pub sound : IsSound p
+  pub populated : IsPopulated p.processes.processes p.processes.threads
   pub settled : IsSettled p.objects.seen.bodies p.waits.waits

@@ -1,7 +1,7 @@
 -- What a save says of the objects, once what refers to them is counted: bodies, births, names, and what their keeper
 -- says.
-use Rattle.std.specs.Prelude.{ℕ, zero, suc, ◌+◌, nat_lt, ◌&&◌, Bool, true, false, if◌then◌else◌, List, [], length, Option, Some, None, Result, Ok, Err, is_none, is_some, map, slice_index_or, sum_by}
-use Rattle.std.specs.List.{flat_map, range_with_len}
+use Rattle.std.specs.Prelude.{ℕ, ◌+◌, nat_lt, Bool, false, if◌then◌else◌, List, [], length, Option, Some, None, Result, Ok, Err, is_none, is_some, map, slice_index_or, sum_by}
+use Rattle.std.specs.List.{flat_map, list_all, range_with_len}
 use Rattle.ob_codec.specs.declared.fault.TextFault.{TextFault}
 use Rattle.ob_codec.specs.declared.fault.TextFault.TheVariants.{Value}
 use Rattle.ob_codec.specs.Reading.{◌>>=◌, Read, where_at}
@@ -36,8 +36,7 @@ is_bodied o k =
 
 -- the same of the first slots
 abbrev pub are_bodied : waits.Objects → ℕ → Bool
-are_bodied o zero = true
-are_bodied o (suc n) = are_bodied o n && is_bodied o n
+are_bodied o n = list_all (is_bodied o) (range_with_len 0 n)
 
 -- what a keeper under a lock says that begins with these slots
 abbrev pub begun_over : Shape → List Slot → KeeperState

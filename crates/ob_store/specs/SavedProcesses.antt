@@ -1,10 +1,10 @@
 -- Processes and threads as bytes: the session of each process number, then the process of each thread number.
-use Rattle.std.specs.Prelude.{◌≡◌, ℕ, ◌+◌, ◌<◌, ◌^◌, nat_le, ◌&&◌, not, Bool, true, List, length, Option, Some, None, is_some, slice_index_or}
+use Rattle.std.specs.Prelude.{◌≡◌, ℕ, ◌+◌, ◌<◌, ◌^◌, nat_le, ◌&&◌, ◌||◌, not, Bool, true, List, length, Option, Some, None, is_none, is_some, slice_index_or}
 use Rattle.std.specs.Int.{w32, to_le_bytes}
-use Rattle.std.specs.List.{list_all}
+use Rattle.std.specs.List.{list_all, list_any, range_with_len}
 use Rattle.ob_codec.specs.Reading.{Read, as_at, both_at, list_at, number_at, option_at, where_at}
 use Rattle.ob_codec.specs.Spelling.{BothFit, FewFit, ListFits, OptionFits, both, list, option}
-use Rattle.ob_store.specs.Processes.{ProcessesState}
+use Rattle.ob_store.specs.Processes.{ProcessesState, is_of}
 
 -- what stands at each number, that of number 0 first, or nothing where it is gone
 abbrev pub numbers_text : List (Option ℕ) → List ℕ
@@ -33,6 +33,13 @@ is_of_live numbers (Some number) = is_some (slice_index_or numbers number None)
 abbrev pub are_of_live : List (Option ℕ) × List (Option ℕ) → Bool
 are_of_live p = list_all (is_of_live p.0) p.1
 
+-- whether a number is gone, or its process has a live thread; and the same of each number
+abbrev pub is_populated : ProcessesState → ℕ → Bool
+is_populated l process = is_none (slice_index_or l.processes process None) || list_any (is_of process) l.threads
+
+abbrev pub are_populated : ProcessesState → Bool
+are_populated l = list_all (is_populated l) (range_with_len 0 (length l.processes))
+
 abbrev pub processes_of : List (Option ℕ) × List (Option ℕ) → ProcessesState
 processes_of p = record { processes = p.0; threads = p.1 }
 
@@ -44,14 +51,14 @@ abbrev pub processes_text : ProcessesState → List ℕ
 processes_text l = both numbers_text numbers_text (lists_of l)
 
 abbrev pub processes_at : ℕ → ℕ → List ℕ → Read ProcessesState
-processes_at processes threads =
-    as_at processes_of (where_at are_of_live (both_at (numbers_at processes) (numbers_at threads)))
+processes_at processes threads = where_at are_populated
+    (as_at processes_of (where_at are_of_live (both_at (numbers_at processes) (numbers_at threads))))
 
 -- processes and threads that have a spelling, and those that are within their limits as well, each live thread with a
--- live process
+-- live process, and each live process with a live thread
 abbrev pub ListsFit : ProcessesState → Type 0
 ListsFit l = BothFit NumbersFit NumbersFit (lists_of l)
 
 abbrev pub ProcessesFit : ℕ → ℕ → ProcessesState → Type 0
-ProcessesFit processes threads l = BothFit (AreWithin processes) (AreWithin threads) (lists_of l)
-    × (are_of_live (lists_of l) ≡ true)
+ProcessesFit processes threads l = (BothFit (AreWithin processes) (AreWithin threads) (lists_of l)
+    × (are_of_live (lists_of l) ≡ true)) × (are_populated l ≡ true)

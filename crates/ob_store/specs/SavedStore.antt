@@ -1,5 +1,6 @@
 -- A store as bytes: its limits, the moment, processes and threads, handle tables, waits, and slots with their objects.
-use Rattle.std.specs.Prelude.{ℕ, zero, suc, ◌*◌, nat_le, nat_lt, ◌&&◌, ◌||◌, not, Bool, true, List, [], ◌++◌, length, map, Option, None, Ok, is_some, slice_index_or}
+use Rattle.std.specs.Prelude.{ℕ, ◌*◌, nat_le, nat_lt, ◌||◌, not, Bool, List, [], ◌++◌, length, map, Option, None, Ok, is_some, slice_index_or}
+use Rattle.std.specs.List.{list_all, range_with_len}
 use Rattle.std.specs.Int.{w64, to_le_bytes}
 use Rattle.ob_codec.specs.Reading.{◌>>=◌, Read, has_at, number_at, where_at}
 use Rattle.ob_tables.specs.Spelling.{tables_at, tables_text}
@@ -46,8 +47,7 @@ is_vacated processes tables k =
     is_some (slice_index_or processes k None) || not (nat_lt 0 (length (slice_index_or tables k [])))
 
 abbrev pub are_vacated : List (Option ℕ) → List (List (Option Entry)) → ℕ → Bool
-are_vacated processes tables zero = true
-are_vacated processes tables (suc n) = are_vacated processes tables n && is_vacated processes tables n
+are_vacated processes tables n = list_all (is_vacated processes tables) (range_with_len 0 n)
 
 -- handle tables, one for each process number, of which only the live ones have places
 abbrev pub tables_for : Limits → List (Option ℕ) → List ℕ → Read HandleTables

@@ -1,4 +1,4 @@
-ghost use Rattle.std.specs.Prelude.{◌≡◌, ◌<◌, ℕ, false, true, IfErr, IfOk, None, OnErr, OnOk, Some, length};
+ghost use Rattle.std.specs.Prelude.{◌≡◌, ℕ, false, true, IfErr, IfOk, None, OnErr, OnOk, Some};
 ghost use Rattle.ob_arena.specs.Slots.{is_vacant_at};
 ghost use Rattle.ob_body.specs.Body as spec;
 ghost use Rattle.ob_name.specs.Listing.{find_name};
@@ -41,8 +41,8 @@ impl<K: PinKeeper> Store<K> {
     /// and answers the value.
     ///
     /// Refused with 8 for want of memory.
+    #[tactic(auto, using(crate::proofs::PlacedLaws::live_tabled))]
     pub fn add_nameless(&mut self, process: u32, slot: u32, new: Creation) -> Result<u32, Fault>
-        requires process { process < length self.old.state.tables }
         requires live { IsLive self.old.state.processes process }
         requires room { is_full self.old.state process ≡ false }
         requires vacant { is_vacant_at (vacancy self.old.state) slot ≡ true }
@@ -77,6 +77,7 @@ impl<K: PinKeeper> Store<K> {
     }
 
     /// Makes a new object with a name that no object has, as [`add_nameless`](Store::add_nameless) makes one without.
+    #[tactic(auto, using(crate::proofs::PlacedLaws::live_tabled))]
     pub fn add_named(
         &mut self,
         process: u32,
@@ -84,7 +85,6 @@ impl<K: PinKeeper> Store<K> {
         new: Creation,
         name: &NameRef<'_>,
     ) -> Result<u32, Fault>
-        requires process { process < length self.old.state.tables }
         requires live { IsLive self.old.state.processes process }
         requires room { is_full self.old.state process ≡ false }
         requires vacant { is_vacant_at (vacancy self.old.state) slot ≡ true }

@@ -1,4 +1,4 @@
-ghost use Rattle.std.specs.Prelude.{◌≡◌, ◌<◌, ◌↔◌, ◌⊎◌, Err, IfErr, IfOk, IsSome, None, OnErr, OnOk, Some, length};
+ghost use Rattle.std.specs.Prelude.{◌≡◌, ◌<◌, ◌↔◌, ◌⊎◌, Err, IfErr, IfOk, IsSome, None, OnErr, OnOk, Some};
 ghost use Rattle.std.specs.Prelude.{slice_index_or, true};
 ghost use Rattle.ob_rights.specs.declared.fault.Fault.TheVariants.{Limit, Memory};
 ghost use Rattle.ob_tables.specs.Counts.{entries_in, handles_among};
@@ -19,8 +19,8 @@ use pin_words::PinKeeper;
 impl<K: PinKeeper> Store<K> {
     /// Gives a live process a further handle to an object; answers its value.
     #[inline(always)]
+    #[tactic(auto, using(crate::proofs::PlacedLaws::live_tabled))]
     pub fn place_entry(&mut self, process: u32, entry: Entry) -> Result<u32, Fault>
-        requires process { process < length self.old.state.tables }
         requires live { IsLive self.old.state.processes process }
         requires handled { 0 < handles_among entry.id self.old.state.tables }
         ensures value { IfOk result (λ value. value ≡ value_of (free_place (table_of self.old.state.tables process))) }

@@ -1,5 +1,5 @@
-ghost use Rattle.std.specs.Prelude.{ℕ, List, Option, [], ◌≡◌, ◌+◌, ◌++◌, ◌<◌, ◌≤◌, None, Some, IfOk, OnOk, OnErr, is_some, length};
-ghost use Rattle.std.specs.Prelude.{slice_index_or, slice_set};
+ghost use Rattle.std.specs.Prelude.{ℕ, List, Option, [], ◌≡◌, ◌+◌, ◌++◌, ◌<◌, ◌≤◌, None, Some, IfOk, OnOk, OnErr};
+ghost use Rattle.std.specs.Prelude.{is_some, length, slice_index_or, slice_set, true};
 ghost use Rattle.std.specs.List.{list_any};
 ghost use Rattle.least_free.specs.From.{IsLeastFrom};
 ghost use Rattle.ob_codec.specs.Reading.{Gives};
@@ -7,7 +7,7 @@ ghost use Rattle.ob_tables.specs.declared.entry.Entry.{Entry};
 ghost use Rattle.ob_store.specs.declared.limits.Limits.{Limits};
 ghost use Rattle.ob_store.specs.Kept.{ProcessesKept};
 ghost use Rattle.ob_store.specs.Processes.{ProcessesState, is_of, no_processes, with_process, with_thread};
-ghost use Rattle.ob_store.specs.SavedProcesses.{ListsFit, processes_at, processes_text};
+ghost use Rattle.ob_store.specs.SavedProcesses.{ListsFit, are_populated, is_populated, processes_at, processes_text};
 ghost use Rattle.ob_store.specs.ThreadLists.{IsNewest};
 
 use crate::linking_threads::{are_of_live, link_threads};
@@ -63,7 +63,7 @@ impl Processes {
     }
 
     /// Reads processes and threads of at most so many numbers. [`TextFault::Value`] where there are more, where number
-    /// 0 is somebody's, or where a live thread is of a process that isn't live.
+    /// 0 is somebody's, where a live thread is of a process that isn't live, or a live process has no live thread.
     pub(crate) fn read(
         alloc: Global,
         processes: u32,
@@ -79,6 +79,7 @@ impl Processes {
             → limits.processes ≡ processes → limits.threads ≡ threads → length tables ≡ length l.processes
             → ((process : ℕ) → slice_index_or l.processes process None ≡ None → slice_index_or tables process [] ≡ [])
             → ProcessesKept limits l tables) }
+        ensures populated { IfOk result (λ l. are_populated l ≡ true) }
     {
         let sessions = Numbers::read(alloc, processes, from)?;
         let owners = Numbers::read(alloc, threads, from)?;
@@ -86,11 +87,29 @@ impl Processes {
             return Err(ReadFault::Text(TextFault::Value));
         }
         let lists = link_threads(alloc, sessions.next(), owners.places())?;
-        Ok(Processes {
+        let read = Processes {
             processes: sessions,
             threads: owners,
             lists,
-        })
+        };
+        if !read.are_populated() {
+            return Err(ReadFault::Text(TextFault::Value));
+        }
+        Ok(read)
+    }
+
+    /// Whether a number is gone, or its process has a live thread.
+    fn is_populated(&self, process: u32) -> bool
+        ensures { result ≡ is_populated self.now process }
+    {
+        self.session(process).is_none() || self.has_threads(process)
+    }
+
+    /// Whether each live process has a live thread.
+    fn are_populated(&self) -> bool
+        ensures { result ≡ are_populated self.now }
+    {
+        (0..self.next_process()).all(|process| self.is_populated(process))
     }
 
     /// The next process number.

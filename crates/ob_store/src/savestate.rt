@@ -3,6 +3,7 @@ ghost use Rattle.ob_codec.specs.Reading.{Gives};
 ghost use Rattle.ob_store.specs.Kept.{IsKept, ProcessesKept};
 ghost use Rattle.ob_waits.specs.Spelling.{are_within};
 ghost use Rattle.ob_store.specs.Parts.{parts_of, whole_of};
+ghost use Rattle.ob_store.specs.SavedProcesses.{are_populated};
 ghost use Rattle.ob_store.specs.SavedStore.{are_vacated, begun_again, is_vacated, lists_at, moment_at, parts_at};
 ghost use Rattle.ob_store.specs.SavedStore.{store_at, store_text, tables_for};
 
@@ -46,12 +47,7 @@ fn are_vacated(processes: &Processes, tables: &Tables, given: u32) -> bool
     requires { given ≤ length tables.now.tables }
     ensures { result ≡ are_vacated processes.now.processes tables.now.tables given }
 {
-    for process in 0..given {
-        if !is_vacated(processes, tables, process) {
-            return false;
-        }
-    }
-    true
+    (0..given).all(|process| is_vacated(processes, tables, process))
 }
 
 /// Reads handle tables, one for each process number.
@@ -92,6 +88,7 @@ fn read_lists(
     ensures read { Gives (λ lists. (lists.processes, (lists.tables, lists.waits))) result
         (lists_at limits clock from.old) from.new }
     ensures kept { IfOk result (λ lists. ProcessesKept limits lists.processes lists.tables.tables) }
+    ensures populated { IfOk result (λ lists. are_populated lists.processes ≡ true) }
     ensures process_limit { IfOk result (λ lists. lists.tables.process_limit ≡ limits.processes) }
     ensures handle_limit { IfOk result (λ lists. lists.tables.handle_limit ≡ limits.handles) }
     ensures wait_limit { IfOk result (λ lists. lists.waits.limit ≡ limits.waits) }

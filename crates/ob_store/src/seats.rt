@@ -1,4 +1,4 @@
-ghost use Rattle.std.specs.Prelude.{◌≡◌, ◌<◌, ◌≤◌, ◌==◌, ◌&&◌, ℕ, false, true, IfNone, IfOk, IfSome, IsSome, IsTrue};
+ghost use Rattle.std.specs.Prelude.{◌≡◌, ◌<◌, ◌≤◌, ◌&&◌, ℕ, false, true, IfNone, IfOk, IfSome, IsSome, IsTrue};
 ghost use Rattle.std.specs.Prelude.{None, Err, Ok, Some, is_some, length, slice_index_or, slice_set};
 ghost use Rattle.std.specs.Option.{option_map};
 ghost use Rattle.least_free.specs.From.{IsLeastFrom};
@@ -319,12 +319,7 @@ impl Seats {
     pub(crate) fn are_bodied(&self) -> bool
         ensures { result ≡ are_bodied self.now.seen (length self.now.objects) }
     {
-        for slot in 0..self.len() {
-            if !self.is_bodied(slot) {
-                return false;
-            }
-        }
-        true
+        (0..self.len()).all(|slot| self.is_bodied(slot))
     }
 
     /// How many handles name the object in a slot.

@@ -422,6 +422,9 @@ const EDITS_OF_KINDS: &[Edit<'static>] = &[
     (222, &[0], &[1], Some(TextFault::Value)),
     (213, &[1, 1, 0, 0, 0, 1, 0, 0, 0, 0], &[0, 1, 0, 0, 0, 0], Some(TextFault::Value)),
     (213, &[1, 1, 0, 0, 0, 1, 0, 0, 0, 0], &[0, 0, 0, 0, 0, 1], None),
+    // a process without a thread, and the same with one
+    (58, &[0], &[1, 1, 0, 0, 0], Some(TextFault::Value)),
+    (58, &[0, 3, 0, 0, 0, 0, 1, 1, 0, 0, 0, 0], &[1, 1, 0, 0, 0, 3, 0, 0, 0, 0, 1, 1, 0, 0, 0, 1, 2, 0, 0, 0], None),
     // a handle of the process that is gone, and a place that has none
     (133, &[0, 0, 0, 0], &[1, 0, 0, 0, 1, 0, 0, 0, 0, 1, 0, 0, 0, 3, 0, 31, 0, 0, 0, 0, 0], Some(TextFault::Value)),
     (133, &[0, 0, 0, 0], &[1, 0, 0, 0, 0], Some(TextFault::Value)),

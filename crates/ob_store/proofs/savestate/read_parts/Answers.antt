@@ -1,3 +1,4 @@
+use Rattle.ob_store.proofs.PopulatedLaws.{populated_from}
 use Rattle.ob_store.proofs.savestate.read_parts.Goals as goal
 
 pub returns-clause-kept : goal.returns-clause-kept
@@ -20,5 +21,6 @@ returns-clause-kept c =
         room = o.quiet.room;
         listing = o.listing;
       };
+      populated = populated_from c.in_ok-lists.lists.processes l.populated;
       settled = o.quiet.settled;
     }

@@ -14,7 +14,7 @@ returns-clause-kept g c =
     let s = c.args.self.now in
     let e = c.settle_after.ensures in
     way_kept (parts_of s) c.settle_after.new.bodies c.settle_after.new.self c.requires.sound e.value e.limit e.clock
-    e.rest (e.room s.limits.max_recursion c.requires.sound.room) e.settled
+    e.rest c.requires.populated (e.room s.limits.max_recursion c.requires.sound.room) e.settled
 
 pub returns-clause-state : goal.returns-clause-state
 returns-clause-state g c =

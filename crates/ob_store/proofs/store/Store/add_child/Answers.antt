@@ -1,4 +1,4 @@
-use Rattle.std.proofs.Common.{◌≡◌, ◌∙◌, ap, length}
+use Rattle.std.proofs.Common.{◌≡◌, ◌∙◌, ap}
 use Rattle.ob_tables.specs.Inheritance.{inherited}
 use Rattle.ob_tables.specs.Tables.{table_of}
 use Rattle.ob_store.specs.Objects.{with_handles_of}

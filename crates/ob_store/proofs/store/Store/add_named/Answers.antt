@@ -1,4 +1,4 @@
-use Rattle.std.proofs.Common.{◌≡◌, ◌<◌, ◌∙◌, ℕ, ap, sym, subst, refl, true, Some, None, length}
+use Rattle.std.proofs.Common.{◌≡◌, ◌∙◌, ℕ, ap, sym, subst, refl, true, Some, None}
 use Rattle.ob_arena.specs.Slots.{is_vacant_at}
 use Rattle.ob_body.specs.Body.{owner_of}
 use Rattle.ob_name.specs.Listing.{find_name}
@@ -32,7 +32,6 @@ invariant_of-self-in-Ok g c =
     )
     (kept_name (parts_of s) c.self.invariant c.kept.ensures c.args.process c.args.slot new.rights new.flags head
     new.body
-    (subst (λ (w : Whole). c.args.process < length w.state.tables) (sym c.self.view_is) c.requires.process)
     (subst (λ (w : Whole). IsLive w.state.processes c.args.process) (sym c.self.view_is) c.requires.live)
     (subst (λ (w : Whole). is_vacant_at (vacancy w.state) c.args.slot ≡ true) (sym c.self.view_is) c.requires.vacant)
     c.requires.formed

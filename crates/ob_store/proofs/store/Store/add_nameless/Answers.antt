@@ -1,4 +1,4 @@
-use Rattle.std.proofs.Common.{◌≡◌, ◌<◌, ◌∙◌, ℕ, ap, sym, subst, refl, true, Some, None, length}
+use Rattle.std.proofs.Common.{◌≡◌, ◌∙◌, ℕ, ap, sym, subst, refl, true, Some, None}
 use Rattle.ob_arena.specs.Slots.{is_vacant_at}
 use Rattle.ob_body.specs.Body.{owner_of}
 use Rattle.ob_store.specs.Kept.{IsLive}
@@ -17,7 +17,6 @@ invariant_of-self g c =
     rw (c.in-Ok.ensures.ok, c.id_at.ensures, c.add.ensures.added)
     (kept_nameless (parts_of s) c.self.invariant c.kept.ensures c.args.process c.args.slot new.rights new.flags head
     new.body
-    (subst (λ (w : Whole). c.args.process < length w.state.tables) (sym c.self.view_is) c.requires.process)
     (subst (λ (w : Whole). IsLive w.state.processes c.args.process) (sym c.self.view_is) c.requires.live)
     (subst (λ (w : Whole). is_vacant_at (vacancy w.state) c.args.slot ≡ true) (sym c.self.view_is) c.requires.vacant)
     c.requires.formed

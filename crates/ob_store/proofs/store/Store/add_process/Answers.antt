@@ -1,4 +1,4 @@
-use Rattle.std.proofs.Common.{◌∙◌, ap, length, refl}
+use Rattle.std.proofs.Common.{◌∙◌, ap, refl}
 use Rattle.ob_store.specs.Parts.{parts_of}
 use Rattle.ob_store.specs.State.{Whole, settled}
 use Rattle.ob_store.specs.State as state

@@ -1,9 +1,11 @@
 use Rattle.std.proofs.Common.{◌≡◌, ◌∙◌, ◌<◌, ap, sym, subst, length, get_or, Some, None}
 use Rattle.ob_store.specs.Ends.{after_thread_end, thread_ended}
+use Rattle.ob_store.specs.Kept.{IsPopulated}
 use Rattle.ob_store.specs.Objects.{opened}
 use Rattle.ob_store.specs.Parts.{parts_of, state_of}
 use Rattle.ob_store.specs.State.{State, Whole, settled}
 use Rattle.ob_store.proofs.PlacedLaws.{thread_tabled}
+use Rattle.ob_store.proofs.PopulatedLaws.{populated_thread_ended}
 use Rattle.ob_store.proofs.UnderWayLaws.{ending_begins}
 use Rattle.ob_store.proofs.store.Store.end_thread.Goals as goal
 
@@ -30,7 +32,15 @@ settle-requires g c =
     let begun = c.end_one.ensures.carries s.objects.keeper before
     (ending_begins (parts_of s) c.clear.new.self c.self.invariant c.kept.ensures) in
     let ending = c.leave_process.ensures.carries s.objects.keeper (thread_ended before c.args.thread) begun in
-    record { sound = ending.under_way.sound; enough = ending.enough }
+    let live : get_or s.processes.threads c.args.thread None ≡ Some c.args.process =
+    subst (λ (w : Whole). get_or w.state.threads c.args.thread None ≡ Some c.args.process)
+    (sym c.self.view_is) c.requires.live in
+    record {
+      sound = ending.under_way.sound;
+      populated = subst (λ (x : State). IsPopulated x.processes x.threads) (sym ending.under_way.rest)
+          (populated_thread_ended before c.args.process c.args.thread live c.self.invariant.populated);
+      enough = ending.enough;
+    }
 
 pub returns : goal.returns
 returns g c =

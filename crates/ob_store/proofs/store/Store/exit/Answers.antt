@@ -1,11 +1,12 @@
 use Rattle.std.proofs.Common.{◌∙◌, ap, arith, length, subst, sym}
 use Rattle.ob_store.specs.Ends.{exited, threads_ended}
-use Rattle.ob_store.specs.Kept.{IsLive}
+use Rattle.ob_store.specs.Kept.{IsLive, IsPopulated}
 use Rattle.ob_store.specs.Objects.{opened}
 use Rattle.ob_store.specs.Parts.{parts_of, state_of}
 use Rattle.ob_store.specs.State.{State, Whole, settled}
 use Rattle.ob_store.proofs.PassedLaws.{threads_tables}
 use Rattle.ob_store.proofs.PlacedLaws.{live_within}
+use Rattle.ob_store.proofs.PopulatedLaws.{populated_exited}
 use Rattle.ob_store.proofs.UnderWayLaws.{ending_begins}
 use Rattle.ob_store.proofs.store.Store.exit.Goals as goal
 
@@ -34,7 +35,12 @@ settle-requires g c =
     (ending_begins (parts_of s) c.clear.new.self c.self.invariant c.kept.ensures) in
     let ending = c.end_process.ensures.carries s.objects.keeper
     (threads_ended before c.args.process (length s.processes.threads)) begun in
-    record { sound = ending.under_way.sound; enough = ending.enough }
+    record {
+      sound = ending.under_way.sound;
+      populated = subst (λ (x : State). IsPopulated x.processes x.threads) (sym ending.under_way.rest)
+          (populated_exited before c.args.process c.self.invariant.populated);
+      enough = ending.enough;
+    }
 
 pub returns : goal.returns
 returns g c =

@@ -14,6 +14,7 @@ invariant_of-self g c =
     rw c.expire.ensures (record {
       sound = (way_expired p q c.args.wait WAIT_TIMEOUT c.in-Some.ids.now c.self.invariant c.leave_all.ensures.rest
           c.in-Some.ensures.ids c.leave_all.ensures.objects c.kept-2.ensures).sound;
+      populated = c.self.invariant.populated;
       settled = settled_expired p q c.args.wait WAIT_TIMEOUT c.in-Some.ids.now c.self.invariant c.leave_all.ensures.rest
           c.in-Some.ensures.ids c.leave_all.ensures.objects;
     })

@@ -14,6 +14,7 @@ settle-requires g c =
     record {
       sound = (way_fired p c.fire_all.new.objects c.fire_all.new.signaled c.args.now c.self.invariant c.kept.ensures
           c.fire_all.ensures.seen c.fire_all.ensures.rest).sound;
+      populated = c.self.invariant.populated;
       enough = c.fire_all.ensures.enough p.waits.waits
           (enough_settled c.clear.new.self p.objects.seen.bodies p.waits.waits c.self.invariant.settled);
     }

@@ -1,4 +1,4 @@
-use Rattle.std.proofs.Common.{◌<◌, ◌∙◌, ap, refl, sym, subst, length}
+use Rattle.std.proofs.Common.{◌<◌, ◌∙◌, ap, refl, sym, subst}
 use Rattle.ob_tables.specs.Counts.{handles_among}
 use Rattle.ob_store.specs.Kept.{IsLive}
 use Rattle.ob_store.specs.Parts.{parts_of}
@@ -20,7 +20,6 @@ pub invariant_of-self : goal.invariant_of-self
 invariant_of-self g c =
     rw (c.in-Ok.ensures.ok, c.handle_came.ensures)
     (kept_placed (parts_of c.self.inside.parts) c.args.process c.args.entry c.self.invariant
-    (subst (λ (w : Whole). c.args.process < length w.state.tables) (sym c.self.view_is) c.requires.process)
     (subst (λ (w : Whole). IsLive w.state.processes c.args.process) (sym c.self.view_is) c.requires.live)
     (subst (λ (w : Whole). 0 < handles_among c.args.entry.id w.state.tables) (sym c.self.view_is) c.requires.handled))
 

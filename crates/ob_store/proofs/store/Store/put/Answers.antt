@@ -13,6 +13,7 @@ settle_after-requires g c =
       sound = (way_put (parts_of s) c.put.new.self c.args.id c.args.old c.args.new c.self.invariant _
           c.self.view_is c.requires.bodied c.requires.yields c.put.ensures.objects c.put.ensures.rest
           c.kept-2.ensures).sound;
+      populated = c.self.invariant.populated;
       ready = ready (parts_of s) c.put.new.self c.args.id c.args.old c.args.new c.self.invariant _
           c.self.view_is c.requires.bodied c.requires.yields c.put.ensures.objects c.put.ensures.rest;
     }
@@ -36,6 +37,7 @@ invariant_of-self g c =
       sound = (way_put (parts_of s) c.put.new.self c.args.id c.args.old c.args.new c.self.invariant _
           c.self.view_is c.requires.bodied c.requires.yields c.put.ensures.objects c.put.ensures.rest
           c.kept-2.ensures).sound;
+      populated = c.self.invariant.populated;
       settled = settled_unblocked (parts_of s) c.put.new.self c.args.id c.args.old c.args.new c.self.invariant _
           c.self.view_is c.requires.bodied c.requires.yields c.put.ensures.objects c.put.ensures.rest c.kept.ensures
           (sym c.blocks-blocks.ensures ∙ grind (arith, nat_tests, c.if-blocks-eq0.true));

@@ -11,6 +11,7 @@ invariant_of-self g c =
       sound = (way_put (parts_of s) c.put.new.self c.args.id c.args.old c.args.new c.self.invariant _
           c.self.view_is c.requires.bodied c.requires.yields c.put.ensures.objects c.put.ensures.rest
           c.kept-2.ensures).sound;
+      populated = c.self.invariant.populated;
       settled = settled_put_less (parts_of s) c.put.new.self c.args.id c.args.old c.args.new c.self.invariant _
           c.self.view_is c.requires.bodied c.requires.yields c.put.ensures.objects c.put.ensures.rest c.requires.less;
     }

@@ -41,6 +41,7 @@ invariant_of-self g c =
       sound = sound_left (parts_of s) c.args.process c.args.handle c.args.entry c.self.invariant.sound c.kept.ensures
           found c.handle_left-was_last.result c.handle_left-was_last.new.self c.leave_directory.new.names.rows
           c.handle_left-was_last.ensures.value c.handle_left-was_last.ensures.last c.leave_directory.ensures;
+      populated = c.self.invariant.populated;
       settled = settled_less s.objects.seen.bodies c.handle_left-was_last.new.self.seen.bodies s.waits.waits
           (less_gone s.objects.seen.bodies c.handle_left-was_last.new.self.seen.bodies
           (subst (λ (o : ObjectsState). AreLeft s.objects.seen.bodies o.seen.bodies)
