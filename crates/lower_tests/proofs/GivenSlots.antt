@@ -1,5 +1,5 @@
 -- Slots that pins may begin with: each is live at generation 3.
-use Rattle.std.proofs.Common.{◌≡◌, ℕ, ◌<◌, ◌≤◌, false, List, replicate, refl, subst, sym, arith}
+use Rattle.std.proofs.Common.{◌≡◌, ◌≤◌, false, List, replicate, refl, subst, sym, arith}
 use Rattle.std.proofs.lemmas.List.{length-replicate}
 use lib.ListN.{get_or-replicate}
 use Rattle.ob_rights.specs.declared.kind.Kind.TheVariants.{Semaphore}

@@ -1,6 +1,5 @@
 ghost use Rattle.std.specs.Prelude.{◌≡◌, true};
 
-mod codec;
 mod dues;
 mod handles;
 mod names;

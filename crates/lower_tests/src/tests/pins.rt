@@ -176,38 +176,6 @@ fn spin<R: Wait>(rt: &R, reader: &mut Reader, id: Id) -> u32 {
     losses
 }
 
-/// What is done with the first slot by its keeper and two readers.
-#[derive(Clone, Copy)]
-enum Scene {
-    /// It is pinned by both, closed and reclaimed, twice.
-    Kept,
-    /// One reader pins it as often as it can.
-    Sixteen,
-}
-
-/// Plays a scene over so many slots, pins and generations.
-fn play(rt: &impl Abort, alloc: Global, shape: Shape, scene: Scene)
-    requires { IsWithinLimits shape }
-{
-    let Ok((pins, opening)) = Pins::new(alloc, shape) else {
-        panic!(rt; "no memory")
-    };
-    let Ok((mut keeper, mut a)) = opening.start(&pins) else {
-        panic!(rt; "no memory")
-    };
-    holds(rt, is_fresh(&keeper, shape));
-    let Some(mut b) = keeper.reader() else {
-        panic!(rt; "no reader")
-    };
-    match scene {
-        Scene::Kept => pin_and_close(rt, &mut keeper, &mut a, &mut b),
-        Scene::Sixteen => pin_as_often(rt, &mut keeper, &mut a),
-    }
-    drop(b);
-    drop(a);
-    drop(keeper);
-}
-
 fn pin_and_close(rt: &impl Abort, keeper: &mut Keeper, a: &mut Reader, b: &mut Reader) {
     holds(rt, publish(keeper, 0));
     holds(rt, a.try_pin(FIRST).is_ok());
@@ -242,63 +210,21 @@ fn pin_the_second(rt: &impl Abort, keeper: &mut Keeper, a: &mut Reader) {
     same(rt, a.try_pin(THIRD), Err(PinFault::Stale));
 }
 
-fn pin_as_often(rt: &impl Abort, keeper: &mut Keeper, reader: &mut Reader) {
-    holds(rt, publish(keeper, 0));
-    for _ in 0..16 {
-        holds(rt, reader.try_pin(FIRST).is_ok());
-    }
-    same(rt, reader.try_pin(FIRST), Err(PinFault::HeldFull));
-    same(rt, reader.try_pin(BESIDE), Err(PinFault::NoSuchSlot));
-}
-
 #[test]
-fn a_pinned_slot_is_kept(rt: HostRuntime) {
+fn a_pinned_slot_is_kept(rt: HostRuntime) -> Result<(), Fail> {
     let Some(shape) = Shape::checked(1, 2, 2) else {
         panic!(rt; "no shape")
     };
-    play(&rt, rt.alloc(), shape, Scene::Kept);
-}
-
-#[test]
-fn a_reader_holds_16_copies(rt: HostRuntime) {
-    let Some(shape) = Shape::checked(1, 1073741823, 9) else {
-        panic!(rt; "no shape")
-    };
-    play(&rt, rt.alloc(), shape, Scene::Sixteen);
-}
-
-#[test]
-fn pins_under_a_lock_are_kept(rt: HostRuntime) {
-    let Some(shape) = Shape::checked(1, 2, 2) else {
-        panic!(rt; "no shape")
-    };
-    let Ok(mut pins) = LockedPins::new(rt.alloc(), shape) else {
+    let (pins, opening) = Pins::new(rt.alloc(), shape)?;
+    let Ok((mut keeper, mut a)) = opening.start(&pins) else {
         panic!(rt; "no memory")
     };
-    holds(&rt, is_fresh(&pins, shape));
-    pin_and_unlock(&rt, &mut pins);
-}
-
-fn pin_and_unlock(rt: &impl Abort, pins: &mut LockedPins) {
-    same(rt, pins.try_pin(FIRST), Err(PinFault::Unborn));
-    holds(rt, publish(pins, 0));
-    holds(rt, pins.try_pin(FIRST).is_ok());
-    holds(rt, pins.try_pin(FIRST).is_ok());
-    same(rt, pins.try_pin(FIRST), Err(PinFault::PinsFull));
-    same(rt, pins.try_pin(BESIDE), Err(PinFault::NoSuchSlot));
-    same(rt, locked_descr(pins, FIRST), Some(SEMAPHORE));
-    holds(rt, close(pins, 0));
-    same(rt, pins.try_pin(FIRST), Err(PinFault::Stale));
-    same(rt, reclaim(pins, 0), Some(Reclaim::Held { pins: 2 }));
-    holds(rt, unlock(pins, FIRST));
-    holds(rt, unlock(pins, FIRST));
-    holds(rt, !unlock(pins, FIRST));
-    same(rt, reclaim(pins, 0), Some(Reclaim::Freed));
-    holds(rt, is_at(pins, 0, 2));
-    holds(rt, publish(pins, 0));
-    holds(rt, close(pins, 0));
-    same(rt, reclaim(pins, 0), Some(Reclaim::Retired));
-    holds(rt, is_at(pins, 0, 2));
+    holds(&rt, is_fresh(&keeper, shape));
+    let Some(mut b) = keeper.reader() else {
+        panic!(rt; "no reader")
+    };
+    pin_and_close(&rt, &mut keeper, &mut a, &mut b);
+    Ok(())
 }
 
 #[test]
@@ -359,6 +285,7 @@ fn pins_of(alloc: Global, shape: Shape) -> Result<(Pins, Opening), Fault>
 /// Pins under a lock. What was given serves a second try.
 fn locked(alloc: Global, shape: Shape) -> Result<LockedPins, Fault>
     requires { IsWithinLimits shape }
+    ensures { IfOk result (λ pins. IsFresh pins shape) }
 {
     match LockedPins::new(alloc, shape) {
         Ok(locked) => Ok(locked),
@@ -522,6 +449,7 @@ fn calls_under_a_lock_take_no_memory(rt: HostRuntime) -> Result<(), Fail> {
     let Ok(mut pins) = locked(rt.alloc(), shape) else {
         panic!(rt; "no memory")
     };
+    holds(&rt, is_fresh(&pins, shape));
     let mark = marked(rt.alloc())?;
     let is_done = lock_all(&mut pins, 10_000);
     drop(mark);
@@ -555,23 +483,12 @@ fn pins_begin_with_given_slots(rt: HostRuntime) -> Result<(), Fail> {
         panic!(rt; "no shape")
     };
     let (pins, opening) = begun(rt.alloc(), shape)?;
-    let Ok((mut keeper, mut reader)) = opening.start(&pins) else {
+    let Ok((keeper, mut reader)) = opening.start(&pins) else {
         panic!(rt; "no memory")
     };
     holds(&rt, is_fresh_with(&keeper, shape));
-    pin_given(&rt, &mut keeper, &mut reader);
+    holds(&rt, reader.try_pin(THIRD).is_ok());
     Ok(())
-}
-
-fn pin_given(rt: &impl Abort, keeper: &mut Keeper, reader: &mut Reader) {
-    same(rt, reader.try_pin(SECOND), Err(PinFault::Stale));
-    holds(rt, reader.try_pin(THIRD).is_ok());
-    same(rt, descr(reader, THIRD), Some(SEMAPHORE));
-    holds(rt, close(keeper, 0));
-    same(rt, reclaim(keeper, 0), Some(Reclaim::Held { pins: 1 }));
-    holds(rt, release(reader, THIRD));
-    same(rt, reclaim(keeper, 0), Some(Reclaim::Freed));
-    holds(rt, is_at(keeper, 0, 4));
 }
 
 #[test]
@@ -582,13 +499,6 @@ fn pins_under_a_lock_begin_with_given_slots(rt: HostRuntime) -> Result<(), Fail>
     let slots = vec![in rt.alloc(); LIVE; shape.slots as usize]?;
     let mut pins = LockedPins::with_slots(shape, slots);
     holds(&rt, is_fresh_with(&pins, shape));
-    lock_given(&rt, &mut pins);
+    holds(&rt, pins.try_pin(THIRD).is_ok());
     Ok(())
-}
-
-fn lock_given(rt: &impl Abort, pins: &mut LockedPins) {
-    same(rt, pins.try_pin(SECOND), Err(PinFault::Stale));
-    holds(rt, pins.try_pin(THIRD).is_ok());
-    holds(rt, close(pins, 0));
-    same(rt, reclaim(pins, 0), Some(Reclaim::Held { pins: 1 }));
 }

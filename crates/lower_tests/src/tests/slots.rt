@@ -1,49 +1,9 @@
-ghost use Rattle.std.specs.Prelude.{◌≡◌, ℕ, ◌<◌, ◌≤◌, length, IfOk, IsSome};
-ghost use Rattle.ob_arena.specs.Slots.{body_at, vacant_slots};
-
 use crate::tests::{holds, same};
 use ob_arena::Arena;
 use std::alloc::{AllocError, Global};
 use std::process::Abort;
 use std::rc::Rc;
 use std::test::Fail;
-
-/// An arena of vacant slots. What was given serves a second try.
-fn vacant<B: Drop>(alloc: Global, slots: u32) -> Result<Arena<B>, AllocError>
-    requires { slots ≤ 65536 }
-    ensures { IfOk result (λ arena. arena ≡ vacant_slots slots) }
-{
-    match Arena::new(alloc, slots) {
-        Ok(arena) => Ok(arena),
-        Err(_) => Arena::new(alloc, slots),
-    }
-}
-
-#[test]
-fn slots_are_given_taken_and_retired(rt: HostRuntime) -> Result<(), Fail> {
-    give_take_and_retire(&rt, &mut vacant(rt.alloc(), 3)?);
-    Ok(())
-}
-
-fn give_take_and_retire(rt: &impl Abort, arena: &mut Arena<u32>)
-    requires { arena.old ≡ vacant_slots 3 }
-{
-    same(rt, arena.least_vacant(), Some(0));
-    holds(rt, arena.is_vacant(0));
-    holds(rt, arena.is_vacant(2));
-    holds(rt, !arena.is_vacant(3));
-    arena.put(0, 70);
-    arena.put(2, 72);
-    same(rt, arena.least_vacant(), Some(1));
-    holds(rt, arena.is_vacant(1));
-    arena.retire(1);
-    holds(rt, arena.least_vacant().is_none());
-    holds(rt, !arena.is_vacant(1));
-    same(rt, *arena.get(2), 72);
-    *arena.get_mut(0) += 1;
-    same(rt, arena.take(0), 71);
-    same(rt, arena.least_vacant(), Some(0));
-}
 
 #[test]
 fn a_drop_drops_each_body_once(rt: HostRuntime) -> Result<(), Fail> {
@@ -69,49 +29,17 @@ fn put_two(rt: &impl Abort, body: &Rc<u32>, arena: &mut Arena<Rc<u32>>) -> Resul
     Ok(())
 }
 
-/// Fills the slots of an arena whose slots are all vacant.
-#[tactic(auto, using(ob_arena::proofs::SlotLemmas::vacant_least))]
-fn fill(rt: &impl Abort, arena: &mut Arena<u32>, slots: u32)
-    requires { length arena.old.bodies ≡ slots }
-    ensures len { length arena.new.bodies ≡ slots }
-    ensures filled { (slot : ℕ) → slot < slots → IsSome (body_at arena.new slot) }
-{
-    for slot in 0..slots {
-        holds(rt, arena.least_vacant() == Some(slot));
-        arena.put(slot, slot);
+/// An arena of as many slots as there may be. What was given serves a second try.
+fn largest(alloc: Global) -> Result<Arena<u64>, AllocError> {
+    match Arena::new(alloc, 65_536) {
+        Ok(arena) => Ok(arena),
+        Err(_) => Arena::new(alloc, 65_536),
     }
-    holds(rt, arena.least_vacant().is_none());
-}
-
-/// Empties an arena whose slots all have bodies, from the last slot on.
-fn empty(rt: &impl Abort, arena: &mut Arena<u32>, slots: u32)
-    requires len { length arena.old.bodies ≡ slots }
-    requires filled { (slot : ℕ) → slot < slots → IsSome (body_at arena.old slot) }
-    ensures { length arena.new.bodies ≡ slots }
-{
-    for slot in (0..slots).rev() {
-        same(rt, arena.take(slot), slot);
-        same(rt, arena.least_vacant(), Some(slot));
-    }
-}
-
-#[test]
-fn all_slots_are_filled_emptied_and_filled_again(rt: HostRuntime) -> Result<(), Fail> {
-    fill_twice(&rt, &mut vacant(rt.alloc(), 65536)?, 65536);
-    Ok(())
-}
-
-fn fill_twice(rt: &impl Abort, arena: &mut Arena<u32>, slots: u32)
-    requires { length arena.old.bodies ≡ slots }
-{
-    fill(rt, arena, slots);
-    empty(rt, arena, slots);
-    fill(rt, arena, slots);
 }
 
 #[test]
 fn an_arena_is_made_after_want_of_memory(rt: HostRuntime) -> Result<(), Fail> {
-    let arena: Arena<u64> = vacant(rt.alloc(), 65536)?;
+    let arena = largest(rt.alloc())?;
     same(&rt, arena.least_vacant(), Some(0));
     Ok(())
 }
