@@ -16,23 +16,6 @@ pub const PLAIN: Make<'static> = Make {
     grant: None,
 };
 
-/// Whether a call that has this reply may take memory.
-pub fn takes_memory(ask: &Ask<'_>, reply: Reply) -> bool {
-    match ask {
-        Ask::Spawn { .. }
-        | Ask::Child { .. }
-        | Ask::StartThread { .. }
-        | Ask::MakeEvent { .. }
-        | Ask::MakeMutex { .. }
-        | Ask::MakeSemaphore { .. }
-        | Ask::MakeTimer { .. }
-        | Ask::OpenNamed { .. } => true,
-        Ask::Duplicate { target, .. } => target.is_some(),
-        Ask::WaitFor { .. } => matches!(reply, Reply::Pending { .. }),
-        _ => false,
-    }
-}
-
 /// The call, with a name or handles of its own. It is tried twice, and refused where memory was wanting both times.
 pub fn to_call(ask: &Ask<'_>, alloc: Global) -> Result<Call, AllocError>
     ensures { IfOk result (λ call. call ≡ with_parts making_of (λ text. text.now) (λ handles. handles.now) ask.now) }

@@ -4,14 +4,14 @@ use ob_manager::{Call, Manager, Reply};
 use ob_rights::Fault;
 use pin_words::PinKeeper;
 
-/// The reply to a call of a manager. A call that may take memory is made once more where memory was wanting, since it
-/// changed nothing. No call changes which words are the keeper's.
+/// The reply to a call of a manager. It is made once more where memory was wanting, since it changed nothing. No call
+/// changes which words are the keeper's.
 #[tactic(auto, using(ob_manager::proofs::TableLaws::step_same_table))]
-pub fn asked<K: PinKeeper>(manager: &mut Manager<K>, call: &Call, takes_memory: bool) -> Reply
+pub fn asked<K: PinKeeper>(manager: &mut Manager<K>, call: &Call) -> Reply
     ensures { manager.new.keeper.table ≡ manager.old.keeper.table }
 {
     let reply = manager.apply(call);
-    if takes_memory && reply == Reply::Refused(Fault::Memory) {
+    if reply == Reply::Refused(Fault::Memory) {
         return manager.apply(call);
     }
     reply

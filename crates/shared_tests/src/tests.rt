@@ -1,7 +1,6 @@
 ghost use Rattle.std.specs.Prelude.{◌≡◌, true};
 
 mod blocking;
-mod books;
 mod closing;
 mod crowd;
 mod holding;

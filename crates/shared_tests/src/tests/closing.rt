@@ -17,7 +17,6 @@ use std::alloc::Global;
 use std::process::Abort;
 use std::sync::Wait;
 use std::test::Fail;
-use std::thread::Threads;
 
 /// Which lanes are handed in.
 #[derive(Clone, Copy)]
@@ -158,42 +157,15 @@ pub(super) fn plays_a_case<R: Abort + Wait>(
     }
 }
 
-fn over_case<R: Abort + Wait + Threads + Sync>(
-    rt: &R,
-    alloc: Global,
-    case: Case,
-) -> Result<(), Fault> {
-    over_shared(rt, alloc, Limits::default(), 1, Scene::Closes(case))
-}
+#[rattlefmt::skip]
+const CASES: &[Case] = &[
+    Case::Whole, Case::LeftOut, Case::Twice, Case::Alone, Case::CallOfStranger, Case::Stranger, Case::AnotherLane,
+];
 
 #[test]
-fn it_closes_with_its_lanes(rt: HostRuntime) -> Result<(), Fail> {
-    over_case(&rt, rt.alloc(), Case::Whole)?;
-    Ok(())
-}
-
-#[test]
-fn what_was_refused_closes_with_the_lane_that_was_left_out(rt: HostRuntime) -> Result<(), Fail> {
-    over_case(&rt, rt.alloc(), Case::LeftOut)?;
-    Ok(())
-}
-
-#[test]
-fn a_lane_twice_is_refused(rt: HostRuntime) -> Result<(), Fail> {
-    over_case(&rt, rt.alloc(), Case::Twice)?;
-    Ok(())
-}
-
-#[test]
-fn a_lane_that_is_missing_is_refused(rt: HostRuntime) -> Result<(), Fail> {
-    over_case(&rt, rt.alloc(), Case::Alone)?;
-    over_case(&rt, rt.alloc(), Case::CallOfStranger)?;
-    Ok(())
-}
-
-#[test]
-fn a_lane_of_another_is_refused(rt: HostRuntime) -> Result<(), Fail> {
-    over_case(&rt, rt.alloc(), Case::Stranger)?;
-    over_case(&rt, rt.alloc(), Case::AnotherLane)?;
+fn it_closes_with_its_lanes_alone(rt: HostRuntime) -> Result<(), Fail> {
+    for case in CASES {
+        over_shared(&rt, rt.alloc(), Limits::default(), 1, Scene::Closes(*case))?;
+    }
     Ok(())
 }

@@ -1,19 +1,17 @@
-//! Sixty-four members at once, and another manager that makes their calls one after another.
+//! Sixty-four members at once.
 use super::members::{Deed, Script};
 use super::opening::{Scene, over_shared};
 use super::playing::answers_one;
-use super::{holds, same};
-use call_tables::{PLAIN, asked, locked_manager};
+use call_tables::PLAIN;
 use ob_manager::CallOf::{
     CloseHandle, Counts, Duplicate, MakeEvent, MakeMutex, MakeSemaphore, Reap, ReleaseMutex,
     ReleaseSemaphore, ResetEvent, SetEvent, Spawn, StartThread, WaitFor,
 };
 use ob_manager::Reply::{Made, Spawned, Started};
-use ob_manager::{Call, Limits, Make, Manager, Mode, Reply, Timeout};
+use ob_manager::{Limits, Make, Mode, Reply, Timeout};
 use ob_rights::{Fault, Rights};
-use ob_shared::{Entry, Lane, Member, Seen, Shared};
+use ob_shared::{Lane, Member, Seen, Shared};
 use pin_core::Id;
-use pin_words::{Keeper, LockedPins};
 use std::alloc::Global;
 use std::process::Abort;
 use std::sync::Wait;
@@ -169,76 +167,6 @@ pub(super) fn is_done(member: &Member) -> bool {
         .filter(|answer| matches!(**answer, Seen::Pinned(Ok(_))))
         .count();
     waits == 46 && pins > 0
-}
-
-/// Whether another manager gives the same replies to the calls of a journal.
-fn replays(manager: &mut Manager<LockedPins>, journal: &[Entry]) -> bool {
-    for entry in journal {
-        if asked(manager, &entry.call, true) != entry.reply {
-            return false;
-        }
-    }
-    true
-}
-
-/// Whether two managers count the same of each object that was made.
-fn counts_are(
-    first: &mut Manager<Keeper>,
-    second: &mut Manager<LockedPins>,
-    journal: &[Entry],
-) -> bool {
-    for entry in journal {
-        if let Reply::Made { id, .. } = entry.reply {
-            let counts = Call::Counts { id };
-            if asked(first, &counts, false) != asked(second, &counts, false) {
-                return false;
-            }
-        }
-    }
-    true
-}
-
-/// Whether two managers have the same names.
-fn names_are(first: &Manager<Keeper>, second: &Manager<LockedPins>) -> bool {
-    for at in 0..first.directory_len() {
-        let is_same = match (first.directory_at(at), second.directory_at(at)) {
-            (Some((name, id)), Some((other, same))) => {
-                name.space == other.space && name.base == other.base && id == same
-            }
-            _ => false,
-        };
-        if !is_same {
-            return false;
-        }
-    }
-    first.directory_len() == second.directory_len()
-}
-
-/// Another manager, which was made a moment ago, gives the same replies, and ends with the same counts and names.
-fn agrees(
-    rt: &impl Abort,
-    closed: &mut Manager<Keeper>,
-    fresh: &mut Manager<LockedPins>,
-    journal: &[Entry],
-) {
-    holds(rt, replays(fresh, journal));
-    holds(rt, counts_are(closed, fresh, journal));
-    same(rt, closed.directory_len(), 3);
-    holds(rt, names_are(closed, fresh));
-}
-
-/// Another manager gives the same replies, and ends with the same counts and names.
-pub(super) fn agrees_with_a_fresh_one(
-    rt: &impl Abort,
-    alloc: Global,
-    limits: Limits,
-    closed: &mut Manager<Keeper>,
-    journal: &[Entry],
-) -> Result<(), Fault> {
-    let mut fresh = locked_manager(alloc, limits)?;
-    agrees(rt, closed, &mut fresh, journal);
-    drop(fresh);
-    Ok(())
 }
 
 #[test]

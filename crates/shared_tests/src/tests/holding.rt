@@ -1,18 +1,15 @@
 //! Readers that hold an object.
-ghost use Rattle.std.specs.Prelude.{◌≡◌, Some};
-ghost use Rattle.ob_store.specs.State.{shape_of};
-
 use super::opening::{Scene, over_shared};
 use super::playing::{answers, one_lane};
-use super::{FIRST, SECOND, holds, same};
-use call_tables::{Line, PLAIN, asked, manager_over, pins_for, started, takes_memory, to_call};
+use super::{FIRST, SECOND, holds};
+use call_tables::{Line, PLAIN};
 use ob_manager::CallOf::{CloseHandle, MakeEvent, Reap, Spawn};
 use ob_manager::Reply::{Closed, Made, Reaped, Refused, Spawned};
-use ob_manager::{Card, Limits, Manager};
+use ob_manager::{Card, Limits};
 use ob_rights::{Fault, Kind, Rights};
 use ob_shared::{Lane, Shared};
 use pin_core::{Descr, Id};
-use pin_words::{Keeper, Opening, Pins, Reader, Reclaim};
+use pin_words::{Reader, Reclaim};
 use std::alloc::Global;
 use std::process::Abort;
 use std::sync::Wait;
@@ -206,75 +203,5 @@ const DROPPED: &[Move<'static>] = &[
 fn a_dropped_reader_leaves_its_slot_out_of_use(rt: HostRuntime) -> Result<(), Fail> {
     let limits = Limits::checked(2, 4, 4, 8, 4, 4, 8, 4)?;
     over_shared(&rt, rt.alloc(), limits, 1, Scene::Holds(DROPPED))?;
-    Ok(())
-}
-
-/// Makes the calls of a table without a lock.
-fn answers_alone(
-    rt: &impl Abort,
-    alloc: Global,
-    manager: &mut Manager<Keeper>,
-    table: &[Line<'_>],
-) -> Result<(), Fault>
-    ensures { manager.new.keeper.table ≡ manager.old.keeper.table }
-{
-    for (ask, due) in table {
-        let call = to_call(ask, alloc)?;
-        let reply = asked(manager, &call, takes_memory(ask, *due));
-        drop(call);
-        same(rt, reply, *due);
-    }
-    Ok(())
-}
-
-/// A held object without a lock.
-fn holds_alone<R: Abort + Wait>(
-    rt: &R,
-    alloc: Global,
-    manager: &mut Manager<Keeper>,
-    reader: &mut Reader,
-) -> Result<(), Fault>
-    requires { manager.old.keeper.table ≡ Some reader.old.table }
-{
-    answers_alone(rt, alloc, manager, MADE)?;
-    holds(rt, reader.pin(rt, FIRST).is_ok());
-    answers_alone(rt, alloc, manager, CLOSED)?;
-    holds(rt, reader.holds(FIRST));
-    same(rt, manager.inspect(reader, FIRST), CARD);
-    answers_alone(rt, alloc, manager, IS_HELD)?;
-    holds(rt, unpins(reader, FIRST));
-    answers_alone(rt, alloc, manager, IS_FREED)
-}
-
-fn plays_alone<R: Abort + Wait>(
-    rt: &R,
-    alloc: Global,
-    limits: Limits,
-    pins: &Pins,
-    opening: Opening,
-) -> Result<(), Fault>
-    requires opens { opening ≡ pins.now }
-    requires shape { pins.now.shape ≡ shape_of limits }
-{
-    let (keeper, mut reader) = started(opening, pins)?;
-    match manager_over(alloc, limits, keeper) {
-        Ok(mut manager) => {
-            let done = holds_alone(rt, alloc, &mut manager, &mut reader);
-            drop(manager);
-            drop(reader);
-            done
-        }
-        Err(fault) => {
-            drop(reader);
-            Err(fault)
-        }
-    }
-}
-
-#[test]
-fn a_manager_inspects_a_held_object(rt: HostRuntime) -> Result<(), Fail> {
-    let limits = Limits::default();
-    let (pins, opening) = pins_for(rt.alloc(), limits)?;
-    plays_alone(&rt, rt.alloc(), limits, &pins, opening)?;
     Ok(())
 }

@@ -3,17 +3,16 @@ ghost use Rattle.std.specs.Prelude.{◌≡◌};
 ghost use Rattle.ob_store.specs.State.{shape_of};
 
 use super::closing::{Case, closes_again, plays_a_case};
-use super::crowd::agrees_with_a_fresh_one;
 use super::holding::{Move, plays_moves};
 use super::members::{Script, plays_members};
 use super::replaying::replays;
 use super::turns::is_in_turn;
 use super::{blocking, holds, lanes, playing, racing, same};
-use call_tables::{Step, manager_over, pins_for, started};
-use ob_manager::{Limits, Manager};
+use call_tables::{Line, manager_over, pins_for, started};
+use ob_manager::Limits;
 use ob_rights::Fault;
-use ob_shared::{CloseCause, Closed, Entry, Lane, Shared};
-use pin_words::{Keeper, Opening, Pins, Reader};
+use ob_shared::{CloseCause, Entry, Lane, Shared};
+use pin_words::{Opening, Pins, Reader};
 use std::alloc::Global;
 use std::process::Abort;
 use std::sync::Wait;
@@ -22,11 +21,9 @@ use std::thread::Threads;
 /// What is played over a manager behind its lock, which is closed afterwards.
 #[derive(Clone, Copy)]
 pub(super) enum Scene<'a> {
-    /// Steps of tables, in two lanes by turns.
-    ByTurns(&'a [Step<'a>]),
-    /// As many lanes as there may be, of which none is handed in.
-    ManyLanes,
-    /// The same, of which all are handed in, and many calls of the last.
+    /// A table, in two lanes by turns.
+    ByTurns(&'a [Line<'a>]),
+    /// As many lanes as there may be, and many calls of the last.
     AllLanes,
     /// What a lane and a reader do.
     Holds(&'a [Move<'a>]),
@@ -45,7 +42,6 @@ impl Scene<'_> {
     fn cause(&self) -> Option<CloseCause> {
         match *self {
             Scene::Closes(case) => case.cause(),
-            Scene::ManyLanes => Some(CloseCause::LaneMissing),
             _ => None,
         }
     }
@@ -100,8 +96,7 @@ fn plays<R: Abort + Wait + Threads + Sync>(
     scene: Scene<'_>,
 ) -> Result<Vec<Lane>, Fault> {
     match scene {
-        Scene::ByTurns(steps) => playing::plays_by_turns(rt, alloc, shared, steps),
-        Scene::ManyLanes => Ok(lanes::plays_many_lanes(rt, alloc, shared)),
+        Scene::ByTurns(table) => playing::plays_by_turns(rt, alloc, shared, table),
         Scene::AllLanes => lanes::plays_all_lanes(rt, alloc, shared),
         Scene::Holds(moves) => plays_moves(rt, alloc, shared, readers, moves),
         Scene::Block => blocking::plays_a_block(rt, alloc, shared),
@@ -120,7 +115,7 @@ fn closes(
     shared: Shared,
     mut lanes: Vec<Lane>,
     scene: Scene<'_>,
-) -> Result<(), Fault> {
+) {
     let left_out = if scene.leaves_out() {
         lanes.pop()
     } else {
@@ -132,42 +127,24 @@ fn closes(
         Ok(closed) => {
             holds(rt, due.is_none());
             drop(left_out);
-            let Closed {
-                mut manager,
-                journal,
-            } = closed;
-            let shown = shows(rt, alloc, limits, &mut manager, journal.as_slice(), scene);
-            drop(manager);
-            drop(journal);
-            shown
+            shows(rt, alloc, limits, closed.journal.as_slice(), scene);
+            drop(closed);
         }
         Err(refused) => {
             same(rt, due, Some(refused.cause));
             same(rt, refused.lanes.len(), handed);
             same(rt, closes_again(refused, left_out), scene.is_mended());
-            Ok(())
         }
     }
 }
 
 /// What a journal shows: a run of its script prints the same, whatever the scene.
-fn shows(
-    rt: &impl Abort,
-    alloc: Global,
-    limits: Limits,
-    manager: &mut Manager<Keeper>,
-    journal: &[Entry],
-    scene: Scene<'_>,
-) -> Result<(), Fault> {
+fn shows(rt: &impl Abort, alloc: Global, limits: Limits, journal: &[Entry], scene: Scene<'_>) {
     replays(rt, alloc, limits, journal);
     match scene {
         Scene::Members(Script::InTurn) => holds(rt, is_in_turn(journal)),
-        Scene::Members(Script::Crowd) => {
-            agrees_with_a_fresh_one(rt, alloc, limits, manager, journal)?;
-        }
         _ => holds(rt, journal.len() >= 3),
     }
-    Ok(())
 }
 
 fn over_pins<R: Abort + Wait + Threads + Sync>(
@@ -185,9 +162,9 @@ fn over_pins<R: Abort + Wait + Threads + Sync>(
     let (mut shared, mut readers) = shared_with(alloc, limits, opening, pins, count)?;
     match plays(rt, alloc, &mut shared, &mut readers, scene) {
         Ok(lanes) => {
-            let closed = closes(rt, alloc, limits, shared, lanes, scene);
+            closes(rt, alloc, limits, shared, lanes, scene);
             drop(readers);
-            closed
+            Ok(())
         }
         Err(fault) => {
             drop(shared);

@@ -1,10 +1,7 @@
 //! Tables of calls, played in the lanes of a manager behind its lock.
 use super::opening::{Scene, over_shared};
 use super::{holds, same};
-use call_tables::{
-    GRANTS_ACROSS_PROCESSES, INHERITANCE, KEPT_BY_A_WAIT, Line, NAMED_EVENT_WAITS,
-    RIGHTS_OF_DUPLICATES, Step, WAIT_FOR_ALL, to_call,
-};
+use call_tables::{EACH, Line, to_call};
 use ob_manager::{Ask, Call, Limits, Reply};
 use ob_rights::Fault;
 use ob_shared::{Lane, Shared};
@@ -12,7 +9,6 @@ use std::alloc::Global;
 use std::process::Abort;
 use std::sync::Wait;
 use std::test::Fail;
-use std::thread::Threads;
 
 /// The reply to a call of a lane.
 fn asked_once<R: Wait>(
@@ -100,7 +96,7 @@ pub(super) fn answers<R: Abort + Wait>(
     Ok(())
 }
 
-/// The same, each call in the other lane.
+/// The same in two lanes by turns.
 fn answers_by_turns<R: Abort + Wait>(
     rt: &R,
     alloc: Global,
@@ -116,23 +112,6 @@ fn answers_by_turns<R: Abort + Wait>(
             is_answered(rt, alloc, shared, second, *line)?
         };
         holds_at(rt, is_good, place);
-    }
-    Ok(())
-}
-
-/// Takes the steps that are calls.
-fn plays_steps<R: Abort + Wait>(
-    rt: &R,
-    alloc: Global,
-    shared: &Shared,
-    first: &mut Lane,
-    second: &mut Lane,
-    steps: &[Step<'_>],
-) -> Result<(), Fault> {
-    for step in steps {
-        if let Step::Calls(table) = *step {
-            answers_by_turns(rt, alloc, shared, first, second, table)?;
-        }
     }
     Ok(())
 }
@@ -161,18 +140,18 @@ pub(super) fn two_lanes(alloc: Global, first: Lane, second: Lane) -> Result<Vec<
     Ok(lanes)
 }
 
-/// Plays steps in two new lanes by turns.
+/// Makes the calls of a table in two new lanes by turns.
 pub(super) fn plays_by_turns<R: Abort + Wait>(
     rt: &R,
     alloc: Global,
     shared: &mut Shared,
-    steps: &[Step<'_>],
+    table: &[Line<'_>],
 ) -> Result<Vec<Lane>, Fault> {
     let mut first = shared.lane()?;
     let mut second = shared.lane()?;
     same(rt, first.number(), 0);
     same(rt, second.number(), 1);
-    match plays_steps(rt, alloc, shared, &mut first, &mut second, steps) {
+    match answers_by_turns(rt, alloc, shared, &mut first, &mut second, table) {
         Ok(()) => two_lanes(alloc, first, second),
         Err(fault) => {
             drop(first);
@@ -182,47 +161,9 @@ pub(super) fn plays_by_turns<R: Abort + Wait>(
     }
 }
 
-/// Plays a table over a new manager, in two lanes by turns.
-fn over_lanes<R: Abort + Wait + Threads + Sync>(
-    rt: &R,
-    alloc: Global,
-    steps: &[Step<'_>],
-) -> Result<(), Fault> {
-    over_shared(rt, alloc, Limits::default(), 1, Scene::ByTurns(steps))
-}
-
 #[test]
-fn named_event_waits_in_two_lanes(rt: HostRuntime) -> Result<(), Fail> {
-    over_lanes(&rt, rt.alloc(), &[Step::Calls(NAMED_EVENT_WAITS)])?;
-    Ok(())
-}
-
-#[test]
-fn rights_of_duplicates_in_two_lanes(rt: HostRuntime) -> Result<(), Fail> {
-    over_lanes(&rt, rt.alloc(), &[Step::Calls(RIGHTS_OF_DUPLICATES)])?;
-    Ok(())
-}
-
-#[test]
-fn inheritance_in_two_lanes(rt: HostRuntime) -> Result<(), Fail> {
-    over_lanes(&rt, rt.alloc(), &[Step::Calls(INHERITANCE)])?;
-    Ok(())
-}
-
-#[test]
-fn a_wait_keeps_its_object_in_two_lanes(rt: HostRuntime) -> Result<(), Fail> {
-    over_lanes(&rt, rt.alloc(), KEPT_BY_A_WAIT)?;
-    Ok(())
-}
-
-#[test]
-fn a_wait_for_all_in_two_lanes(rt: HostRuntime) -> Result<(), Fail> {
-    over_lanes(&rt, rt.alloc(), &[Step::Calls(WAIT_FOR_ALL)])?;
-    Ok(())
-}
-
-#[test]
-fn grants_across_processes_in_two_lanes(rt: HostRuntime) -> Result<(), Fail> {
-    over_lanes(&rt, rt.alloc(), &[Step::Calls(GRANTS_ACROSS_PROCESSES)])?;
+fn each_call_that_takes_memory_is_answered_in_two_lanes(rt: HostRuntime) -> Result<(), Fail> {
+    let limits = Limits::default();
+    over_shared(&rt, rt.alloc(), limits, 1, Scene::ByTurns(EACH))?;
     Ok(())
 }
