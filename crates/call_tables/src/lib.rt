@@ -1,5 +1,5 @@
-//! The calls of a manager that take memory, each with its reply, for tests of what answers calls: a manager, or one
-//! behind its lock.
+//! Rows of calls with their replies, among them each call that takes memory, for tests of what answers calls: a
+//! manager, or one behind its lock.
 //!
 //! A [`Line`] is a call, with its name or its handles borrowed, and the reply that is due, so that a table is a
 //! constant: plain data, which costs a proof next to nothing however long it is. [`to_call`] makes the call that is
@@ -11,10 +11,10 @@
 
 mod ask;
 mod asking;
-mod each;
 mod opening;
+mod rows;
 
 pub use ask::{Line, PLAIN, to_call};
 pub use asking::asked;
-pub use each::EACH;
 pub use opening::{locked_manager, manager_over, pins_for, started};
+pub use rows::ROWS;

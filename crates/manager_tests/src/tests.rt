@@ -2,6 +2,7 @@ ghost use Rattle.std.specs.Prelude.{◌≡◌, true};
 
 mod answers;
 mod filling;
+mod pinning;
 mod playing;
 mod saved;
 mod store;

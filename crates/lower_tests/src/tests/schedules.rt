@@ -1,6 +1,6 @@
 use crate::tests::{holds, same};
 use ob_rights::Kind;
-use pin_core::{Descr, Event, Id, Phase, Shape, Word, World, replay, step};
+use pin_core::{Descr, Event, Id, Phase, Reason, ReplayFault, Shape, Word, World, replay, step};
 use std::alloc::Global;
 use std::process::Abort;
 use std::test::Fail;
@@ -53,33 +53,133 @@ fn descriptors_have_their_bits(rt: HostRuntime) {
     }
 }
 
+const AUTO_EVENT: Descr = Descr {
+    kind: Kind::Event,
+    manual: false,
+    max: 0,
+};
+
+const FIRST: Id = Id {
+    slot: 0,
+    generation: 1,
+};
+
+const STORE: Event = Event::StoreDescr {
+    slot: 0,
+    descr: AUTO_EVENT,
+};
+
+const PUBLISH: Event = Event::Publish { slot: 0 };
+
+const CLOSE: Event = Event::CloseSlot { slot: 0 };
+
+const RECLAIM: Event = Event::Reclaim { slot: 0 };
+
+const LOAD: Event = Event::Load { reader: 1, slot: 0 };
+
+const RELEASE: Event = Event::Release {
+    reader: 1,
+    id: FIRST,
+};
+
+/// Pins over a word of the first generation.
+#[rattlefmt::skip]
+const PIN: Event = Event::Pin { reader: 1, slot: 0, expected: Word { generation: 1, phase: Phase::Live, pins: 0 } };
+
+#[rattlefmt::skip]
+const PIN_AGAIN: Event = Event::Pin { reader: 1, slot: 0, expected: Word { generation: 1, phase: Phase::Live, pins: 1 } };
+
+#[rattlefmt::skip]
+const PIN_CLOSING: Event = Event::Pin { reader: 1, slot: 0, expected: Word { generation: 1, phase: Phase::Closing, pins: 0 } };
+
+#[rattlefmt::skip]
+const READ: Event = Event::ReadDescr { reader: 1, id: FIRST, descr: AUTO_EVENT };
+
+#[rattlefmt::skip]
+const READ_MUTEX: Event = Event::ReadDescr { reader: 1, id: FIRST, descr: Descr { kind: Kind::Mutex, manual: false, max: 0 } };
+
+/// Events of one slot of so many pins and generations, with the first one that is refused, and why.
+#[rattlefmt::skip]
+const REFUSED: &[(u32, u32, &[Event], u64, Reason)] = &[
+    (4, 5, &[STORE, PUBLISH, LOAD, CLOSE, RECLAIM, PUBLISH, PIN], 7, Reason::WordDiffers),
+    (4, 5, &[STORE, PUBLISH, LOAD, PIN, CLOSE, RECLAIM], 6, Reason::Pinned),
+    (4, 5, &[PUBLISH, CLOSE, PIN_CLOSING], 3, Reason::WrongPhase),
+    (1, 5, &[PUBLISH, PIN, PIN_AGAIN], 3, Reason::PinsFull),
+    (4, 1, &[PUBLISH, CLOSE, RECLAIM, PUBLISH], 4, Reason::WrongPhase),
+    (4, 5, &[PUBLISH, READ], 2, Reason::NotHeld),
+    (4, 5, &[PUBLISH, PIN, READ_MUTEX], 3, Reason::DescrDiffers),
+    (4, 5, &[Event::Publish { slot: 1 }], 1, Reason::NoSlot),
+];
+
+/// The same of events of which none is refused, with the generation, the phase and the pins that the slot has then, and
+/// with the objects that were published.
+#[rattlefmt::skip]
+const TAKEN: &[(&[Event], u32, Phase, usize, &[(Id, Descr)])] = &[
+    (&[], 1, Phase::Free, 0, &[]),
+    (&[STORE, PUBLISH, LOAD, PIN, CLOSE, RELEASE, RECLAIM], 2, Phase::Free, 0, &[(FIRST, AUTO_EVENT)]),
+    (&[STORE, PUBLISH, LOAD, CLOSE, RECLAIM, PUBLISH], 2, Phase::Live, 0,
+        &[(FIRST, AUTO_EVENT), (Id { slot: 0, generation: 2 }, AUTO_EVENT)]),
+    (&[PUBLISH, PIN, READ, CLOSE], 1, Phase::Closing, 1, &[(FIRST, AUTO_EVENT)]),
+];
+
+fn fault(alloc: Global, shape: Shape, events: &[Event]) -> Option<ReplayFault> {
+    replay(alloc, shape, events).err()
+}
+
+#[test]
+fn the_first_impossible_event_is_named(rt: HostRuntime) {
+    for (max_pins, max_gen, events, event, reason) in REFUSED {
+        let shape = Shape {
+            slots: 1,
+            max_pins: *max_pins,
+            max_gen: *max_gen,
+        };
+        let due = ReplayFault::Refused {
+            event: *event,
+            reason: *reason,
+        };
+        same(&rt, fault(rt.alloc(), shape, events), Some(due));
+    }
+}
+
 const SHAPE: Shape = Shape {
     slots: 1,
     max_pins: 4,
     max_gen: 5,
 };
 
-/// The events of a slot that is closed while a reader holds it.
-#[rattlefmt::skip]
-const EVENTS: &[Event] = &[
-    Event::StoreDescr { slot: 0, descr: Descr { kind: Kind::Event, manual: false, max: 0 } },
-    Event::Publish { slot: 0 },
-    Event::Load { reader: 1, slot: 0 },
-    Event::Pin { reader: 1, slot: 0, expected: Word { generation: 1, phase: Phase::Live, pins: 0 } },
-    Event::CloseSlot { slot: 0 },
-];
-
-/// The world after the first two events. What was given serves a second try.
-fn begun(alloc: Global) -> Option<World> {
-    match replay(alloc, SHAPE, &EVENTS[..2]) {
+/// The world behind some events. What was given serves a second try.
+fn world_behind(alloc: Global, events: &[Event]) -> Option<World> {
+    match replay(alloc, SHAPE, events) {
         Ok(world) => Some(world),
-        Err(_) => replay(alloc, SHAPE, &EVENTS[..2]).ok(),
+        Err(_) => replay(alloc, SHAPE, events).ok(),
     }
 }
 
-/// The other events, each once more where memory was wanting.
-fn goes_on(rt: &impl Abort, world: &mut World) {
-    for event in &EVENTS[2..] {
+/// Whether the one slot is as it should be.
+fn is_at(world: &World, generation: u32, phase: Phase, pins: usize) -> bool {
+    world.exists(0)
+        && world.slot(0).generation == generation
+        && world.slot(0).phase == phase
+        && world.pins(0) == pins
+        && world.copies(1, FIRST) == pins
+}
+
+#[test]
+fn events_are_replayed(rt: HostRuntime) -> Result<(), Fail> {
+    for (events, generation, phase, pins, published) in TAKEN {
+        let Some(world) = world_behind(rt.alloc(), events) else {
+            panic!(rt; "no memory")
+        };
+        holds(&rt, is_at(&world, *generation, *phase, *pins));
+        holds(&rt, world.published() == *published);
+    }
+    Ok(())
+}
+
+/// Makes events, each once more where memory was wanting.
+fn goes_on(rt: &impl Abort, world: &mut World, events: &[Event]) {
+    for event in events {
         if step(world, event).is_err() {
             holds(rt, step(world, event).is_ok());
         }
@@ -88,14 +188,10 @@ fn goes_on(rt: &impl Abort, world: &mut World) {
 
 #[test]
 fn a_step_is_made_after_want_of_memory(rt: HostRuntime) -> Result<(), Fail> {
-    let Some(mut world) = begun(rt.alloc()) else {
+    let Some(mut world) = world_behind(rt.alloc(), &[STORE, PUBLISH]) else {
         panic!(rt; "no memory")
     };
-    goes_on(&rt, &mut world);
-    let first = Id {
-        slot: 0,
-        generation: 1,
-    };
-    holds(&rt, world.exists(0) && world.copies(1, first) == 1);
+    goes_on(&rt, &mut world, &[LOAD, PIN, CLOSE]);
+    holds(&rt, is_at(&world, 1, Phase::Closing, 1));
     Ok(())
 }

@@ -4,7 +4,7 @@ ghost use Rattle.ob_store.specs.State.{shape_of};
 
 use super::{FIRST, same_at};
 use call_tables::{
-    EACH, Line, PLAIN, asked, locked_manager, manager_over, pins_for, started, to_call,
+    Line, PLAIN, ROWS, asked, locked_manager, manager_over, pins_for, started, to_call,
 };
 use ob_manager::CallOf::{CloseHandle, Counts, MakeEvent, MakeMutex, Reap, Spawn};
 use ob_manager::Reply::{Closed, CountsAre, Made, Reaped, Refused, Spawned};
@@ -77,14 +77,18 @@ fn over_words(
 }
 
 #[test]
-fn each_call_that_takes_memory_is_answered_over_a_lock(rt: HostRuntime) -> Result<(), Fail> {
-    over_locked(&rt, rt.alloc(), Limits::default(), EACH)?;
+fn rows_are_answered_over_a_lock(rt: HostRuntime) -> Result<(), Fail> {
+    for row in ROWS {
+        over_locked(&rt, rt.alloc(), Limits::default(), row)?;
+    }
     Ok(())
 }
 
 #[test]
-fn each_call_that_takes_memory_is_answered_over_words(rt: HostRuntime) -> Result<(), Fail> {
-    over_words(&rt, rt.alloc(), Limits::default(), EACH)?;
+fn rows_are_answered_over_words(rt: HostRuntime) -> Result<(), Fail> {
+    for row in ROWS {
+        over_words(&rt, rt.alloc(), Limits::default(), row)?;
+    }
     Ok(())
 }
 
