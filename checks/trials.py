@@ -83,9 +83,9 @@ def refusing(folder):
     return {"PATH": os.environ["PATH"], "LD_PRELOAD": str(made)}
 
 
-def refusals(environment, run):
-    """How a run ends with the first request for memory refused, then with the second, and so on to the last or the 400th."""
-    for number in range(1, REFUSALS_MOST + 1):
+def refusals(environment, run, most=REFUSALS_MOST):
+    """How a run ends with the first request for memory refused, then with the second, and so on to the last or so many."""
+    for number in range(1, most + 1):
         status, printed, said = run({**environment, "REFUSE": str(number)})
         if b"refused\n" not in said:
             return

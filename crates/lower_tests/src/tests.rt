@@ -27,7 +27,7 @@ fn holds(rt: &impl Abort, condition: bool)
     assert!(rt; condition);
 }
 
-/// A list of so many bytes as no other has: while it lives no memory is asked for, which `checks/run` sees.
+/// A list of so many bytes as no other has: while it lives no memory is asked for, which `checks/memory` sees.
 fn marked(alloc: Global) -> Result<Vec<u8>, AllocError> {
     Vec::with_capacity(alloc, 30_011)
 }
