@@ -1,2 +1,3 @@
+pub mod AtPlace
 pub mod Loop
 pub mod SealLaws
