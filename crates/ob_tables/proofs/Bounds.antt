@@ -1,5 +1,6 @@
 -- Tables within their limits pass the tests of what is read.
-use Rattle.std.proofs.Common.{◌≡◌, ℕ, suc, ◌≤◌, true, eqb, eq-eqb, leb, List, [], ◌∷◌, length, Option, refl}
+use Rattle.std.proofs.Common.{arith}
+use Rattle.std.proofs.Common.{◌≡◌, ℕ, suc, ◌≤◌, true, leb, List, [], ◌∷◌, length, Option, refl}
 use Rattle.std.proofs.lemmas.Bool.{and_from, le-leb}
 use Rattle.std.specs.List.{list_all}
 use Rattle.ob_tables.specs.declared.entry.Entry.{Entry}
@@ -15,6 +16,4 @@ all-short handles (table ∷ tables) short =
 
 pub bounded : (processes handles : ℕ) (tables : List (List (Option Entry))) → IsBounded processes handles tables
     → are_bounded (length tables) handles tables ≡ true
-bounded processes handles tables is =
-    and_from (eqb (length tables) (length tables)) (list_all (is_short handles) tables)
-    (eq-eqb (length tables) (length tables) refl) (all-short handles tables is.short)
+bounded processes handles tables is = search (arith, all-short)

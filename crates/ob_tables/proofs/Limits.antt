@@ -1,7 +1,6 @@
 -- When a table is full, and that no table outgrows its limit.
-use Rattle.std.proofs.Common.{◌≡◌, ℕ, zero, suc, ◌<◌, ◌≤◌, List, [], ◌∷◌, ◌++◌, length, Option, Some, None, refl, ap, arith, get_or, set, ⊎_elim, cond, true, leb, ◌↔◌}
+use Rattle.std.proofs.Common.{◌≡◌, ℕ, zero, suc, ◌<◌, ◌≤◌, List, [], ◌∷◌, ◌++◌, length, Option, Some, None, refl, arith, get_or, set, true, leb, ◌↔◌}
 use Rattle.std.specs.Prelude.{is_some}
-use Rattle.std.proofs.lemmas.Bool.{cases_lt, le-leb, leb-true}
 use Rattle.std.proofs.lemmas.List.{get_or_read, length-append, length-set}
 use Rattle.std.proofs.lemmas.List.Sums.{count_by-le-length, sum_by-cons}
 use Rattle.ob_tables.specs.declared.entry.Entry.{Entry}
@@ -11,10 +10,10 @@ use Rattle.ob_tables.specs.Tables.{table_of}
 use Rattle.ob_tables.proofs.Places.{with_entry_at, with_entry_end}
 
 pub entries_in-some : (x : Entry) (t : List (Option Entry)) → entries_in (Some x ∷ t) ≡ suc (entries_in t)
-entries_in-some x t = omega (arith, sum_by-cons (λ y. cond (is_some y) 1 0) (Some x) t)
+entries_in-some x t = search (arith, sum_by-cons)
 
 pub entries_in-none : (t : List (Option Entry)) → entries_in (None ∷ t) ≡ entries_in t
-entries_in-none t = omega (arith, sum_by-cons (λ y. cond (is_some y) 1 0) None t)
+entries_in-none t = search arith
 
 -- there are as many entries as places, or fewer
 pub entries_in-le : (t : List (Option Entry)) → entries_in t ≤ length t
@@ -44,54 +43,37 @@ pub record AreShort (ts : List (List (Option Entry))) (m : ℕ) : Type 0 where
 -- a table whose least free place is at the limit is full, and one with a lower one has room
 pub is_full : (ts : List (List (Option Entry))) (p m : ℕ) → AreShort ts m → m ≤ free_place (table_of ts p)
     → entries_in (table_of ts p) ≡ m
-is_full ts p m short at = let e = short.each p in let f = free_place-le (table_of ts p) in
-    omega (arith, full_entries (table_of ts p) (omega arith))
+is_full ts p m short at = search (arith, full_entries, free_place-le)
 
 pub has_room : (ts : List (List (Option Entry))) (p m : ℕ) → AreShort ts m → free_place (table_of ts p) < m
     → entries_in (table_of ts p) < m
-has_room ts p m short below = let e = short.each p in ⊎_elim
-    (λ (lt : free_place (table_of ts p) < length (table_of ts p)). omega (arith, short_entries (table_of ts p) lt))
-    (λ (ge : length (table_of ts p) ≤ free_place (table_of ts p)). omega (
-      arith,
-      full_entries (table_of ts p) ge,
-      free_place-le (table_of ts p),
-    ))
-    (cases_lt (free_place (table_of ts p)) (length (table_of ts p)))
+has_room ts p m short below = search (arith, full_entries, short_entries)
 
 -- the test of the least free place tells whether a table is full
 pub full_test : (ts : List (List (Option Entry))) (p m : ℕ) → AreShort ts m
     → (leb m (free_place (table_of ts p)) ≡ true) ↔ (entries_in (table_of ts p) ≡ m)
-full_test ts p m short = (
-  λ tells. is_full ts p m short (leb-true m (free_place (table_of ts p)) tells),
-  λ full. ⊎_elim
-      (λ (below : free_place (table_of ts p) < m). absurd (let room = has_room ts p m short below in omega arith))
-      (λ (at : m ≤ free_place (table_of ts p)). le-leb m (free_place (table_of ts p)) at)
-      (cases_lt (free_place (table_of ts p)) m),
-)
+full_test ts p m short = search (arith, is_full, has_room)
 
 -- the same where `t` was read at `p`, and `n` is its least free place
 pub full_at : (ts : List (List (Option Entry))) (p m : ℕ) (t : List (Option Entry)) (n : ℕ) → AreShort ts m
     → p < length ts → t ≡ get_or ts p t → n ≡ free_place t → m ≤ n → entries_in (table_of ts p) ≡ m
-full_at ts p m t n short lt read is at = let same = ap free_place (get_or_read ts p t lt read []) in
-    is_full ts p m short (omega (arith, same))
+full_at ts p m t n short lt read is at = search (arith, is_full, get_or_read)
 
 pub room_at : (ts : List (List (Option Entry))) (p m : ℕ) (t : List (Option Entry)) (n : ℕ) → AreShort ts m
     → p < length ts → t ≡ get_or ts p t → n ≡ free_place t → n < m → entries_in (table_of ts p) < m
-room_at ts p m t n short lt read is below = let same = ap free_place (get_or_read ts p t lt read []) in
-    has_room ts p m short (omega (arith, same))
+room_at ts p m t n short lt read is below = search (arith, has_room, get_or_read)
 
 -- an entry below the limit keeps a table within it
 pub length-with_entry : (t : List (Option Entry)) (e : Entry) (m : ℕ) → length t ≤ m → free_place t < m
     → length (with_entry t e) ≤ m
-length-with_entry t e m short below = ⊎_elim
-    (λ (lt : free_place t < length t). omega (
-      arith,
-      ap length (with_entry_at t e lt),
-      length-set t (free_place t) (Some e),
-    ))
-    (λ (ge : length t ≤ free_place t). let end : free_place t ≡ length t = omega (arith, free_place-le t) in
-    omega (arith, ap length (with_entry_end t e end), length-append t (Some e ∷ [])))
-    (cases_lt (free_place t) (length t))
+length-with_entry t e m short below = search (
+  arith,
+  free_place-le,
+  length-append,
+  length-set,
+  with_entry_at,
+  with_entry_end,
+)
 
 -- a table comes, or changes
 pub short_pushed : (ts : List (List (Option Entry))) (t : List (Option Entry)) (m : ℕ)

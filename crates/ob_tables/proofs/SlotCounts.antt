@@ -1,5 +1,6 @@
 -- How the handles of the object in a slot change with each change of the tables.
-use Rattle.std.proofs.Common.{◌≡◌, ◌≢◌, ℕ, ◌+◌, ◌*◌, ◌<◌, ◌≤◌, List, [], ◌∷◌, length, Option, Some, None, refl, ap, ◌∙◌, sym, arith, zero, suc, Bool, true, false, cond, eqb}
+use Rattle.std.proofs.lemmas.Grind.{common_steps}
+use Rattle.std.proofs.Common.{◌≡◌, ◌≢◌, ℕ, ◌+◌, ◌*◌, ◌<◌, ◌≤◌, List, [], ◌∷◌, length, Option, Some, None, refl, ap, ◌∙◌, arith, zero, suc, Bool, true, false, cond, eqb}
 use Rattle.std.proofs.lemmas.Bool.Decides.{nat_tests}
 use Rattle.std.proofs.lemmas.List.Sums.{sum_by-le, sum_by-cons, sum_by-le-sum_by, count_by-le-length}
 use Rattle.std.proofs.lemmas.List.Elements.{All-from_get_or}
@@ -11,23 +12,17 @@ use Rattle.ob_tables.specs.Table.{at, entry_at}
 use Rattle.ob_tables.specs.Inheritance.{inherited}
 use Rattle.ob_tables.specs.Counts.{names, names_slot, handles_in, handles_among, slot_handles_in, slot_handles}
 use Rattle.ob_tables.specs.Tables.{table_of, with_process, with_child, with_entry_of, without_entry_of, with_flags_of, without_entries, IsBounded}
-use Rattle.ob_tables.proofs.Counting.{counted-with_child, counted-with_entry, counted-with_flags, counted-with_process, counted-without_entries, counted-without_entry, same_id-same}
+use Rattle.ob_tables.proofs.Counting.{counted-with_child, counted-with_entry, counted-with_flags, counted-with_process, counted-without_entries, same_id-same}
 
 -- 1 for an entry of the object in the slot, and else 0
 abbrev pub one_in : ℕ → Entry → ℕ
 one_in slot e = cond (eqb e.id.slot slot) 1 0
 
 pub one_in-same : (e : Entry) → one_in e.id.slot e ≡ 1
-one_in-same e = let same : eqb e.id.slot e.id.slot ≡ true = grind (arith, nat_tests) in
-    ap {B = ℕ} (λ b. cond b 1 0) same
+one_in-same e = search arith
 
 pub one_in-other : (e : Entry) (slot : ℕ) → slot ≢ e.id.slot → one_in slot e ≡ 0
-one_in-other e slot other = let apart : eqb e.id.slot slot ≡ false = by (eqb e.id.slot slot) refl in
-    ap {B = ℕ} (λ b. cond b 1 0) apart
-  where
-    by : (b : Bool) → eqb e.id.slot slot ≡ b → eqb e.id.slot slot ≡ false
-    by true is = absurd (let same : e.id.slot ≡ slot = grind (arith, nat_tests, is) in other (sym same))
-    by false is = is
+one_in-other e slot other = search arith
 
 pub slot_handles-with_entry : (slot : ℕ) (ts : List (List (Option Entry))) (p : ℕ) (e : Entry) → p < length ts
     → slot_handles slot (with_entry_of ts p e) ≡ slot_handles slot ts + one_in slot e
@@ -36,12 +31,12 @@ slot_handles-with_entry slot = counted-with_entry (names_slot slot) refl
 pub slot_handles-without_entry : (slot : ℕ) (ts : List (List (Option Entry))) (p value : ℕ) (e : Entry)
     → entry_at (table_of ts p) value ≡ Some e → slot_handles slot (without_entry_of ts p value) + one_in slot e
     ≡ slot_handles slot ts
-slot_handles-without_entry slot = counted-without_entry (names_slot slot) refl
+slot_handles-without_entry slot = grind (arith, common_steps)
 
 pub slot_handles-with_flags : (slot : ℕ) (ts : List (List (Option Entry))) (p value : ℕ) (e : Entry)
     (flags : HandleFlags) → entry_at (table_of ts p) value ≡ Some e
     → slot_handles slot (with_flags_of ts p value flags) ≡ slot_handles slot ts
-slot_handles-with_flags slot = counted-with_flags (names_slot slot) refl (λ _ _. refl)
+slot_handles-with_flags slot = search (arith, counted-with_flags)
 
 pub slot_handles-with_process : (slot : ℕ) (ts : List (List (Option Entry)))
     → slot_handles slot (with_process ts) ≡ slot_handles slot ts
@@ -65,19 +60,8 @@ slot_handles-few slot processes handles ts b =
     let f = b.few_handles in omega (arith, s, f, count_by-le-length (names_slot slot) (table_of ts i)))) in
     let w = b.within in let f = b.few_processes in omega (arith, each, w, f)
 
--- an entry that names an object names its slot
-names_le : (id : Id) (x : Option Entry) → cond (names id x) 1 0 ≤ cond (names_slot id.slot x) 1 0
-names_le id None = omega arith
-names_le id (Some e) = by (same_id e.id id) (eqb e.id.slot id.slot) refl refl
-  where
-    by : (a b : Bool) → same_id e.id id ≡ a → eqb e.id.slot id.slot ≡ b → cond a 1 0 ≤ cond b 1 0
-    by true true p q = omega arith
-    by true false p q = absurd (grind (arith, nat_tests, p, q))
-    by false b p q = omega arith
-
 pub slot_handles-le : (id : Id) (ts : List (List (Option Entry))) → handles_among id ts ≤ slot_handles id.slot ts
-slot_handles-le id ts = sum_by-le-sum_by (handles_in id) (slot_handles_in id.slot) ts
-    (λ t. sum_by-le-sum_by (λ x. cond (names id x) 1 0) (λ x. cond (names_slot id.slot x) 1 0) t (names_le id))
+slot_handles-le id ts = search (arith, sum_by-le-sum_by)
 
 -- each entry of the Id's slot has the Id
 abbrev pub AreOne : Id → List (List (Option Entry)) → Type 0

@@ -1,4 +1,6 @@
-use Rattle.std.proofs.Common.{arith, ◌≡◌, ◌<◌, ◌∙◌, sym, ap, ℕ, suc, add-one, ◌+◌, ◌-◌, List, [], ◌∷◌, ◌++◌, Option, true, map, take, length, length-set, replicate, set, length-take-le}
+use Rattle.std.proofs.lemmas.Bool.Decides.{nat_tests}
+use Rattle.ob_codec.proofs.AtPlace.{at_place}
+use Rattle.std.proofs.Common.{arith, ◌≡◌, ◌<◌, ◌∙◌, sym, ap, ◌+◌, ◌-◌, List, [], ◌∷◌, ◌++◌, Option, true, map, take, length, length-set, replicate, set, length-take-le}
 use Rattle.std.specs.Prelude.{is_some}
 use Rattle.std.proofs.Math.Seq.{take-suc-set}
 use Rattle.ob_tables.specs.declared.entry.Entry.{Entry}
@@ -23,11 +25,10 @@ loop-i-preserved c =
     let new = c.inherit_at.new.copies.items in
     let base = take len c.args.places.now in
     let copy = inheritable (at old i) in
-    let long : length base ≡ len = length-take-le len c.args.places.now (omega arith) in
-    let within : i < length old = omega (arith, c.loop-i.invariant.length_is) in
+    let long : length base ≡ len = grind (arith, nat_tests, at_place) in
+    let within : i < length old = search arith in
     let taken : take (i + 1) new ≡ take i old ++ copy ∷ [] =
-    ap (λ (n : ℕ). take n new) (add-one i) ∙ ap (take (suc i)) c.inherit_at.ensures.entry
-    ∙ take-suc-set old i copy within in
+    search (arith, take-suc-set, c.inherit_at.ensures.entry) in
     record {
       length_is = ap length c.inherit_at.ensures.entry ∙ length-set old i copy ∙ c.loop-i.invariant.length_is;
       so_far = c.inherit_at.ensures.entry ∙ ap (λ (s : List (Option Entry)). set s i (inheritable (at s i)))
@@ -38,5 +39,4 @@ loop-i-preserved c =
     }
 
 pub returns : goal.returns
-returns c = c.loop-i.invariant.so_far ∙ copied_all c.args.places.now c.loop-i.i c.inherited_len-len.result
-    (sym c.inherited_len-len.ensures.value) (omega arith)
+returns c = search (arith, copied_all, c.args.places.now, c.inherited_len-len.ensures.value, c.inherited_len-len.result, c.loop-i.i, c.loop-i.invariant.so_far)

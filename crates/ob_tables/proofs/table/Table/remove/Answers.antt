@@ -1,14 +1,11 @@
-use Rattle.std.proofs.Common.{◌∙◌, sym, ap, List, Option}
-use Rattle.ob_tables.specs.declared.entry.Entry.{Entry}
-use Rattle.ob_tables.specs.Table.{entry_at}
+use Rattle.std.proofs.Common.{arith}
+use Rattle.std.proofs.lemmas.Bool.Decides.{nat_tests}
+use Rattle.ob_codec.proofs.AtPlace.{at_place}
 use Rattle.ob_tables.proofs.Places.{kept_set, held_number}
 use Rattle.ob_tables.proofs.table.Table.remove.Goals as goal
 
 pub give_back-requires : goal.give_back-requires
-give_back-requires c = rw c.place_of-place.ensures (
-    held_number c.self.inside.free c.self.inside.places.items c.args.value c.in_ok-entry.entry c.self.invariant
-    (ap (λ (t : List (Option Entry)). entry_at t c.args.value) c.self.view_is ∙ sym c.entry.ensures
-    ∙ c.in_ok-entry.was))
+give_back-requires c = grind (arith, nat_tests, at_place, held_number)
 
 pub invariant_of-self : goal.invariant_of-self
 invariant_of-self c = kept_set c.self.inside.free c.give_back.new.self c.self.inside.places.items
