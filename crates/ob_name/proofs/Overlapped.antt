@@ -1,13 +1,12 @@
 -- Texts that are compared in parts, of which two may overlap.
-use Rattle.std.proofs.Common.{◌≡◌, ℕ, ◌+◌, ◌-◌, ◌≤◌, ◌&&◌, Bool, true, false, List, [], drop, length, refl, ap, sym, ◌∙◌, arith}
+use Rattle.std.proofs.Common.{◌≡◌, ℕ, ◌+◌, ◌-◌, ◌≤◌, ◌&&◌, Bool, true, false, List, drop, length, refl, ap, sym, ◌∙◌, arith}
 use Rattle.std.specs.Str.{bytes_eq}
-use Rattle.std.proofs.lemmas.Bool.{both_ways}
 use Rattle.std.proofs.lemmas.List.{drop-drop, drop_all}
 use Rattle.std.proofs.lemmas.Slice.Eq.{bytes_eq-Decides}
 
 -- what is left of two texts that are the same is
 left_same : (k : ℕ) (x y : List ℕ) → bytes_eq x y ≡ true → bytes_eq (drop k x) (drop k y) ≡ true
-left_same k x y is = (bytes_eq-Decides (drop k x) (drop k y)).1 (ap (drop k) ((bytes_eq-Decides x y).0 is))
+left_same k x y is = search (arith, bytes_eq-Decides)
 
 -- where the parts before a place are the same, a part from that place or before it up to the end decides
 pub last_decides : (x y : List ℕ) (m n : ℕ) (l : Bool) → length x ≡ length y → n ≤ m → n + 8 ≡ length x
@@ -16,16 +15,15 @@ pub last_decides : (x y : List ℕ) (m n : ℕ) (l : Bool) → length x ≡ leng
 last_decides x y m n l same low all whole last = by l last
   where
     ends : bytes_eq (drop (n + 8) x) (drop (n + 8) y) ≡ true
-    ends = ap (λ (z : List ℕ). bytes_eq z (drop (n + 8) y)) (drop_all (n + 8) x (omega (arith, all)))
-        ∙ ap (λ (z : List ℕ). bytes_eq [] z) (drop_all (n + 8) y (omega (arith, all, same)))
+    ends = search (arith, drop_all)
 
     other : (b : Bool) → bytes_eq x y ≡ b → bytes_eq (drop n x) (drop n y) ≡ false → false ≡ b
-    other true is fails = absurd (both_ways (bytes_eq (drop n x) (drop n y)) fails (left_same n x y is))
+    other true is fails = search (arith, bytes_eq-Decides)
     other false is fails = refl
 
     by : (l : Bool) → bytes_eq (drop n x) (drop n y) ≡ (l && bytes_eq (drop (n + 8) x) (drop (n + 8) y))
         → l ≡ bytes_eq x y
-    by true is = sym (whole ∙ ap (λ (k : ℕ). bytes_eq (drop k x) (drop k y)) (omega (arith, low)) ∙ rest)
+    by true is = sym (whole ∙ ap (λ (k : ℕ). bytes_eq (drop k x) (drop k y)) (omega arith) ∙ rest)
       where
         rest : bytes_eq (drop (n + (m - n)) x) (drop (n + (m - n)) y) ≡ true
         rest = ap (λ (z : List ℕ). bytes_eq z (drop (n + (m - n)) y)) (sym (drop-drop (m - n) n x))
