@@ -1,4 +1,5 @@
-"""What the checks share: where it lies what was built, the scripts with their answers, how a program ended, and how trials are counted."""
+"""What the checks share: where it lies what was built, the scripts with their answers, how a program ended, and how trials are counted.
+The last line of each check is 'N passed, M failed'; a tool that it lacks it names, with what it leaves out."""
 
 import os
 import pathlib
@@ -46,7 +47,7 @@ class Script:
         return None if "--lanes" in said else list((LIMITS | said).values())
 
 
-def scripts(*folders):
+def scripts_in(*folders):
     return [Script(path) for folder in folders for path in sorted(folder.glob("*.script"))]
 
 
@@ -141,3 +142,12 @@ class Trials:
         """Ends the check; its last line is 'N passed, M failed'."""
         print(f"{self.passed} passed, {self.failed} failed")
         sys.exit(self.failed > 0)
+
+
+def check(trial):
+    """Runs a check: a function of its name, which counts trials. Where another check reads the file, nothing is run."""
+    if trial.__module__ == "__main__":
+        trials = Trials(trial.__name__)
+        trial(trials)
+        trials.end()
+    return trial
