@@ -1,45 +1,37 @@
-/* Refuses one request for memory of the program that it is loaded into: the one whose number REFUSE has, counted from 1
- * over malloc and realloc. It tells so by a line on standard error.
+/* Counts the requests for memory of what it stands beside, and the blocks that it holds, and refuses the request of one number.
  *
- * Without REFUSE it refuses none, and watches what a test marks: from a request for just MARK bytes, told as 'marked', until that
- * block is given back each request is told as 'asked'. */
+ * Linked with the library, by -Bsymbolic, it does so for a host that looks at the counts and sets the number. Loaded into a program it
+ * refuses the request whose number REFUSE has, over malloc and realloc from 1, and tells so by a line on standard error. Without REFUSE
+ * it watches what a test marks: from a request for just MARK bytes, told as 'marked', until that block is given back each request is
+ * told as 'asked'. */
 typedef __SIZE_TYPE__ size_t;
 enum { MARK = 30011 };
 extern void *__libc_malloc(size_t size);
 extern void *__libc_realloc(void *block, size_t size);
 extern void __libc_free(void *block);
 extern long write(int file, const void *bytes, size_t size);
-extern char **environ;
+extern char *getenv(const char *name);
+extern long atol(const char *text);
 
-static long left = -1;
+long requests, refused_at, blocks;
 static void *mark;
 
 static void say(const char *words, size_t length) { write(2, words, length); }
 
-static long number(void) {
-    for (char **variable = environ; *variable; variable++) {
-        const char *name = "REFUSE=", *text = *variable;
-        while (*name && *name == *text) name++, text++;
-        if (*name) continue;
-        long value = 0;
-        while (*text >= '0' && *text <= '9') value = value * 10 + (*text++ - '0');
-        return value;
-    }
-    return 0;
-}
-
 static int is_refused(void) {
-    if (left < 0) left = number();
-    if (left == 0 || --left > 0) return 0;
-    say("refused\n", 8);
+    const char *number = getenv("REFUSE");
+    if (number) refused_at = atol(number);
+    if (mark) say("asked\n", 6);
+    if (++requests != refused_at) return 0;
+    if (number) say("refused\n", 8);
     return 1;
 }
 
 void *malloc(size_t size) {
-    if (is_refused()) return 0;
-    if (mark) say("asked\n", 6);
-    void *block = __libc_malloc(size);
-    if (size == MARK && !mark) {
+    int is_mark = size == MARK && !mark;
+    void *block = is_refused() ? 0 : __libc_malloc(size);
+    blocks += block != 0;
+    if (block && is_mark) {
         mark = block;
         say("marked\n", 7);
     }
@@ -47,12 +39,13 @@ void *malloc(size_t size) {
 }
 
 void *realloc(void *block, size_t size) {
-    if (is_refused()) return 0;
-    if (mark) say("asked\n", 6);
-    return __libc_realloc(block, size);
+    void *moved = is_refused() ? 0 : __libc_realloc(block, size);
+    blocks += block == 0 && moved != 0;
+    return moved;
 }
 
 void free(void *block) {
     if (block && block == mark) mark = 0;
+    blocks -= block != 0;
     __libc_free(block);
 }

@@ -10,9 +10,14 @@
 #include <string_view>
 #endif
 
-static void must(bool holds, const char *what) {
+// Ends the program where a condition doesn't hold, which is told.
+#define MUST(...) must(static_cast<bool>(__VA_ARGS__), __LINE__, #__VA_ARGS__)
+
+using numbers = std::vector<std::uint32_t>;
+
+static void must(bool holds, int line, const char *what) {
     if (!holds) {
-        std::fprintf(stderr, "plus: %s\n", what);
+        std::fprintf(stderr, "plus.cc:%d: not so: %s\n", line, what);
         std::exit(1);
     }
 }
@@ -44,47 +49,38 @@ static void ends(std::uint32_t count, std::uint32_t one_in) {
     }
     std::uint32_t next = 0;
     obman::reaped told = m.ended(), all = std::move(told);
-    must(told.begin() == told.end(), "what was moved away");
+    MUST(told.begin() == told.end());
     for (const om_reaping &r : all) {
-        must(r.object.slot == next && r.object.generation == 1, "an end twice, or none, or out of order");
-        must(r.outcome == (next % one_in == 0 ? OM_HELD : OM_FREED), "another outcome");
+        MUST(r.object.slot == next && r.object.generation == 1 && r.outcome == (next % one_in == 0 ? OM_HELD : OM_FREED));
         next++;
     }
-    must(next == count, "not all that ended");
-    must(m.ended().size() == pins, "not those that are pinned");
+    MUST(next == count && m.ended().size() == pins);
     readers.clear();
-    must(m.ended().size() == pins && m.ended().size() == 0, "ends that stay");
-}
-
-static std::vector<std::uint32_t> listed(std::uint32_t one, std::uint32_t other) {
-    std::vector<std::uint32_t> both;
-    both.push_back(one);
-    both.push_back(other);
-    return both;
+    MUST(m.ended().size() == pins && m.ended().size() == 0);
 }
 
 // Lists of handles, each for the second of two events, which is set.
 static void waits() {
     obman::manager m;
     std::uint32_t thread = m.spawn(1).value().thread;
-    const std::uint32_t a = m.create_event(thread, {}, {}, true, false).value().handle, b = m.create_event(thread, {}, "b", true, true).value().handle;
+    const std::uint32_t a = m.create_event(thread, {}, {}, true, false)->handle, b = m.create_event(thread, {}, "b", true, true)->handle;
     const std::uint32_t list[] = {a, b};
-    std::vector<std::uint32_t> vector = listed(a, b);
+    numbers vector = {a, b};
     std::array<std::uint32_t, 2> array = {{a, b}};
     auto braces = {a, b};
     const obman::result<std::uint32_t> all[] = {
-        m.wait(thread, false, 0, {a, b}),          m.wait(thread, false, 0, {{a, b}}), m.wait(thread, false, 0, list),
-        m.wait(thread, false, 0, listed(a, b)),    m.wait(thread, false, 0, vector),   m.wait(thread, false, 0, array),
-        m.wait(thread, false, 0, {list, 2}),       m.wait(thread, false, 0, braces),   m.wait(thread, false, 0, std::array<std::uint32_t, 2>{{a, b}}),
+        m.wait(thread, false, 0, {a, b}),       m.wait(thread, false, 0, {{a, b}}), m.wait(thread, false, 0, list),
+        m.wait(thread, false, 0, numbers{a, b}), m.wait(thread, false, 0, vector),   m.wait(thread, false, 0, array),
+        m.wait(thread, false, 0, {list, 2}),    m.wait(thread, false, 0, braces),   m.wait(thread, false, 0, std::array<std::uint32_t, 2>{{a, b}}),
         m.wait(thread, false, 0, {vector.data(), vector.size()}),
     };
     for (const obman::result<std::uint32_t> &one : all) {
-        must(one.value() == OM_WAIT_OBJECT_0 + 1, "another wait");
+        MUST(one.value() == OM_WAIT_OBJECT_0 + 1);
     }
-    must(m.wait(thread, b, 0).value() == OM_WAIT_OBJECT_0 && m.wait(thread, false, 0, {b}).value() == OM_WAIT_OBJECT_0, "a wait for one");
-    must(m.wait(thread, false, 0, {0, 4}).status() == OM_ERROR_INVALID_HANDLE, "a handle 0");
-    must(m.wait(thread, false, 0, {}).status() == OM_ERROR_INVALID_PARAMETER, "a wait for nothing");
-    must(m.wait(thread, false, 0, std::vector<std::uint32_t>()).status() == OM_ERROR_INVALID_PARAMETER, "a wait for nothing");
+    MUST(m.wait(thread, b, 0).value() == OM_WAIT_OBJECT_0 && m.wait(thread, false, 0, {b}).value() == OM_WAIT_OBJECT_0);
+    MUST(m.wait(thread, false, 0, {0, 4}).status() == OM_ERROR_INVALID_HANDLE);
+    MUST(m.wait(thread, false, 0, {}).status() == OM_ERROR_INVALID_PARAMETER);
+    MUST(m.wait(thread, false, 0, numbers()).status() == OM_ERROR_INVALID_PARAMETER);
 }
 
 // What a manager that is const says.
@@ -102,44 +98,42 @@ static void looks() {
     const obman::reader &pins = r;
     auto processes = c.processes();
     auto threads = c.threads(a.process);
-    must(std::vector<std::uint32_t>(processes.begin(), processes.end()) == listed(a.process, b.process), "processes");
-    must(std::vector<std::uint32_t>(threads.begin(), threads.end()) == listed(a.thread, second), "threads");
+    MUST(numbers(processes.begin(), processes.end()) == numbers{a.process, b.process});
+    MUST(numbers(threads.begin(), threads.end()) == numbers{a.thread, second});
     std::string names;
     for (const obman::named &n : c.names()) {
-        must(n.session == 3 && n.str().size() == n.length, "a row");
+        MUST(n.session == 3 && n.str().size() == n.length);
         names += n.str();
     }
-    must(names == "onetwo" && c.directory_len() == 2, "names");
-    std::vector<om_object> objects;
+    MUST(names == "onetwo" && c.directory_len() == 2);
+    std::uint32_t slots = 0, before = 0;
     for (om_object o : c.objects()) {
-        must(o.slot == objects.size() && c.counts(o)->handles == 1, "an object");
-        objects.push_back(o);
+        MUST(o.slot == slots++ && c.counts(o)->handles == 1);
     }
-    must(objects.size() == 3 && c.next_object(3).status() == OM_ERROR_NO_MORE_ITEMS, "objects");
-    std::uint32_t before = 0;
+    MUST(slots == 3 && c.next_object(3).status() == OM_ERROR_NO_MORE_ITEMS);
     for (const om_entry &e : c.handles(a.process)) {
-        must(e.handle > before && c.handle(a.process, e.handle)->access == e.access, "a handle");
+        MUST(e.handle > before && c.handle(a.process, e.handle)->access == e.access);
         before = e.handle;
     }
-    must(before == none.handle && c.handles(b.process).begin() == c.handles(b.process).end(), "handles");
-    must(c.handle(a.process, event.handle)->access == OM_SYNCHRONIZE && c.handle_flags(a.thread, event.handle).value() == OM_HANDLE_FLAG_INHERIT, "rights");
-    must(c.card(mutex.object)->grant == OM_SYNCHRONIZE && c.inspect(pins, mutex.object)->kind == OM_MUTEX, "a card");
-    must(pins.holds(mutex.object) && pins.describe(mutex.object)->kind == OM_MUTEX && !pins.holds(event.object), "a pin");
-    must(c.state(mutex.object)->owner == a.thread && c.resolve(a.process, none.handle)->slot == none.object.slot, "a state");
-    must(c.limits().slots == 64 && c.limits().max_recursion == 2147483647, "limits");
-    must(c.now() == 0 && c.next_due().value() == 50000 && c.is_pending(wait) && c.wait_of(second) == wait, "a wait");
-    must(c.objects_waited_for(wait)->size() == 1 && c.process_of(second) == a.process && c.session_of(b.process).value() == 3, "a wait's object");
+    MUST(before == none.handle && c.handles(b.process).begin() == c.handles(b.process).end());
+    MUST(c.handle(a.process, event.handle)->access == OM_SYNCHRONIZE && c.handle_flags(a.thread, event.handle).value() == OM_HANDLE_FLAG_INHERIT);
+    MUST(c.card(mutex.object)->grant == OM_SYNCHRONIZE && c.inspect(pins, mutex.object)->kind == OM_MUTEX);
+    MUST(pins.holds(mutex.object) && pins.describe(mutex.object)->kind == OM_MUTEX && !pins.holds(event.object));
+    MUST(c.state(mutex.object)->owner == a.thread && c.resolve(a.process, none.handle)->slot == none.object.slot);
+    MUST(c.limits().slots == 64 && c.limits().max_recursion == 2147483647);
+    MUST(c.now() == 0 && c.next_due().value() == 50000 && c.is_pending(wait) && c.wait_of(second) == wait);
+    MUST(c.objects_waited_for(wait)->size() == 1 && c.process_of(second) == a.process && c.session_of(b.process).value() == 3);
     std::vector<unsigned char> bytes(*c.save(std::vector<unsigned char>()));
-    must(c.save(bytes).value() == bytes.size(), "a savestate");
+    MUST(c.save(bytes).value() == bytes.size());
     const obman::manager again = obman::manager::load(bytes);
-    must(again.wait_of(second) == wait && again.next_process(a.process) == b.process, "what was loaded");
+    MUST(again.wait_of(second) == wait && again.next_process(a.process) == b.process);
 
     m.tick(50000).value();
     for (const om_answer &answer : m.answers()) {
-        must(answer.wait == wait && answer.code == OM_WAIT_TIMEOUT, "an answer");
+        MUST(answer.wait == wait && answer.code == OM_WAIT_TIMEOUT);
         wait = 0;
     }
-    must(wait == 0 && m.answers().begin() == m.answers().end(), "answers");
+    MUST(wait == 0 && m.answers().begin() == m.answers().end());
 }
 
 // Names: a literal, its first bytes, a string, and what has no bytes. A name alone says that it is one.
@@ -147,43 +141,41 @@ static void names() {
     obman::manager m;
     std::uint32_t thread = m.spawn(1).value().thread;
     m.create_event(thread, {}, "ready", false, false).value();
-    must(m.open_event(thread, OM_SYNCHRONIZE, false, {"ready or not", 5}).has_value(), "the first bytes of a name");
-    must(m.open_event(thread, OM_SYNCHRONIZE, false, std::string("ready")).has_value(), "a string");
+    MUST(m.open_event(thread, OM_SYNCHRONIZE, false, {"ready or not", 5}).has_value());
+    MUST(m.open_event(thread, OM_SYNCHRONIZE, false, std::string("ready")).has_value());
 #if __cplusplus >= 201703L
-    must(m.open_event(thread, OM_SYNCHRONIZE, false, std::string_view("ready or not").substr(0, 5)).has_value(), "a string_view");
+    MUST(m.open_event(thread, OM_SYNCHRONIZE, false, std::string_view("ready or not").substr(0, 5)).has_value());
 #endif
-    must(m.create_event(thread, om_named(), "", false, false).status() == OM_ERROR_INVALID_PARAMETER, "the empty name");
-    must(m.create_event(thread, {}, std::string(), false, false).status() == OM_SUCCESS, "no name");
+    MUST(m.create_event(thread, om_named(), "", false, false).status() == OM_ERROR_INVALID_PARAMETER);
+    MUST(m.create_event(thread, {}, std::string(), false, false).status() == OM_SUCCESS);
     char answers[16];
-    must(obman::manager::script(m.default_limits, "spawn 1\n", answers).value() == 6, "a script");
+    MUST(obman::manager::script(m.default_limits, "spawn 1\n", answers).value() == 6);
 }
 
-// What is refused, where exceptions are thrown.
-static void refusals() {
 #ifdef __cpp_exceptions
-    obman::manager m;
-    std::uint32_t refused = 0;
+// The status of what a call throws, or 0.
+template <class Call> static std::uint32_t thrown(Call call) {
     try {
-        m.thread(1).value();
+        call();
     } catch (const obman::error &e) {
-        refused = e.status();
+        return e.status();
     }
-    must(refused == OM_ERROR_INVALID_PARAMETER, "a refusal that isn't thrown");
-    try {
-        obman::manager::load(std::vector<unsigned char>());
-    } catch (const obman::error &e) {
-        refused = e.status();
-    }
-    must(refused == OM_ERROR_INVALID_DATA, "no savestate");
-#endif
+    return OM_SUCCESS;
 }
+
+static void refusals() {
+    MUST(thrown([] { obman::manager().thread(1).value(); }) == OM_ERROR_INVALID_PARAMETER);
+    MUST(thrown([] { obman::manager::load(std::vector<unsigned char>()); }) == OM_ERROR_INVALID_DATA);
+}
+#else
+static void refusals() {}
+#endif
 
 int main() {
     om_manager raw;
     const om_limits limits = limits_of(1);
-    must(om_new(&limits, &raw) == OM_SUCCESS && obman::manager(raw).spawn(1)->process == 1, "a manager that om_new made");
-    const std::uint32_t counts[] = {1, 31, 32, 33, 64, 95, 96, 97, 1000, 5000};
-    for (std::uint32_t count : counts) {
+    MUST(om_new(&limits, &raw) == OM_SUCCESS && obman::manager(raw).spawn(1)->process == 1);
+    for (std::uint32_t count : {1u, 31u, 32u, 33u, 64u, 95u, 96u, 97u, 1000u, 5000u}) {
         ends(count, 1);
         ends(count, 2);
         ends(count, count);
