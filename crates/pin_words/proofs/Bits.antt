@@ -1,35 +1,13 @@
 -- The parts of a packed word, and the bits that the keeper sets.
-use Rattle.std.proofs.Common.{Some, ◌≡◌, ℕ, ◌+◌, ◌-◌, ◌*◌, ◌/◌, ◌%◌, ◌^◌, ◌<◌, refl, ap, ◌∙◌, arith, subst}
+use Rattle.std.proofs.Common.{◌≡◌, ℕ, ◌+◌, ◌-◌, ◌*◌, ◌%◌, ◌^◌, ◌<◌, refl, ◌∙◌, arith, subst}
 use Rattle.std.proofs.lemmas.Nat.{or_block}
 use Rattle.std.specs.Prelude.{bit_or}
 use Rattle.std.specs.Int.Bits.{or_zero_r}
-use Rattle.std.proofs.lemmas.Grind.{common_steps}
-use Rattle.pin_core.specs.declared.descr.Descr.{Descr}
-use Rattle.pin_core.specs.Descrs as descr_code
 use Rattle.pin_core.specs.declared.word.Word.{Word}
-use Rattle.pin_core.specs.declared.word.Phase.{Phase}
-use Rattle.pin_core.specs.declared.word.Phase.TheVariants.{Free, Live, Retired, Closing}
-use Rattle.pin_core.specs.Words.{encoded, decoded, code_of, phase_of, packed}
-
-code_of-lt : (p : Phase) → code_of p < 4
-code_of-lt Free = omega arith
-code_of-lt Live = omega arith
-code_of-lt Retired = omega arith
-code_of-lt Closing = omega arith
-
-phase_of-code_of : (p : Phase) → phase_of (code_of p) ≡ p
-phase_of-code_of Free = refl
-phase_of-code_of Live = refl
-phase_of-code_of Retired = refl
-phase_of-code_of Closing = refl
-
-unpacked : (g c n : ℕ) → c < 4 → n < 1073741824 → (packed g c n / 4294967296 ≡ g) × (packed g c n / 1073741824 % 4 ≡ c)
-    × (packed g c n % 1073741824 ≡ n)
-unpacked g c n hc hn = (omega arith, omega arith, omega arith)
+use Rattle.pin_core.specs.Words.{encoded, decoded, packed}
 
 pub decoded-encoded : (w : Word) → w.pins < 1073741824 → decoded (encoded w) ≡ w
-decoded-encoded w h = let u = unpacked w.generation (code_of w.phase) w.pins (code_of-lt w.phase) h in
-    λ k. record { generation = u.0 k; phase = (ap phase_of u.1 ∙ phase_of-code_of w.phase) k; pins = u.2 k }
+decoded-encoded w h = search arith
 
 or_low : (g c d r : ℕ) → c < 4 → d < 4 → bit_or c d ≡ r → bit_or (g * 4 + c) d ≡ g * 4 + r
 or_low g c d r hc hd e = let f : bit_or (g * 2 ^ 2 + c) (0 * 2 ^ 2 + d) ≡ bit_or g 0 * 2 ^ 2 + bit_or c d =
@@ -52,7 +30,3 @@ close-or g n h = let e : bit_or ((g * 4 + 1) * 2 ^ 30 + n) (2 * 2 ^ 30 + 0) ≡ 
 -- one pin less
 pub sub_one : (n : ℕ) → 0 < n → n < 18446744073709551616 → (n + (2 ^ 64 - 1)) % 2 ^ 64 ≡ n - 1
 sub_one n h l = omega arith
-
--- a descriptor that a word can have is the one of its word
-pub descr-decoded : (d : Descr) → descr_code.IsGiven d → descr_code.decoded (descr_code.encoded d) ≡ Some d
-descr-decoded d h = grind (arith, common_steps)

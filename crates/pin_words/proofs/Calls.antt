@@ -1,10 +1,8 @@
 -- What the calls of readers and of the keeper need of the steps.
-use Rattle.std.proofs.Common.{◌≡◌, ◌≢◌, inl, inr, ⊎_elim, ℕ, ◌+◌, ◌*◌, ◌<◌, ◌≤◌, Bool, true, false, cond, ltb, List, [], ◌∷◌, ◌++◌, length, length-set, get_or, set, Some, None, sym, refl, ap, ◌∙◌, subst, arith}
-use Rattle.std.proofs.lemmas.Bool.{cases_lt}
+use Rattle.ob_codec.proofs.AtPlace.{at_place}
+use Rattle.std.proofs.Common.{◌≡◌, ◌≢◌, ⊎_elim, ℕ, ◌+◌, ◌*◌, ◌<◌, ◌≤◌, List, [], ◌∷◌, ◌++◌, length, get_or, set, Some, None, sym, refl, ap, ◌∙◌, subst, arith}
 use Rattle.std.proofs.lemmas.Grind.{common_steps}
 use Rattle.std.proofs.lemmas.List.{append_assoc, get_or_read}
-use native.Mathlib.Decide.{ℕ_discrete}
-use mathlib.Core.Logic.{dite}
 use mathlib.Core.Option.{none}
 use Rattle.atomic_table.specs.Table.{step, Allows}
 use Rattle.pin_core.specs.declared.word.Word.{Word}
@@ -16,8 +14,8 @@ use Rattle.pin_core.specs.declared.shape.Shape.{Shape}
 use Rattle.pin_core.specs.declared.world.Slot.{Slot}
 use Rattle.pin_core.specs.Words.{decoded}
 use Rattle.pin_core.specs.Descrs as descr_code
-use Rattle.pin_core.specs.Holds.{tally, weight, drop_last, same_id}
-use Rattle.pin_core.specs.Worlds.{opening_slot, slot_of}
+use Rattle.pin_core.specs.Holds.{tally, drop_last, same_id}
+use Rattle.pin_core.specs.Worlds.{slot_of}
 use Rattle.pin_core.specs.Events.{reclaimed}
 use Rattle.pin_core.specs.Safety.{rank_of}
 use Rattle.pin_core.proofs.Counts.{count-snoc, count-drop_last-le}
@@ -26,51 +24,37 @@ use Rattle.pin_words.specs.declared.view.KeeperView.{KeeperView}
 use Rattle.pin_words.specs.declared.view.ReaderView.{ReaderView}
 use Rattle.pin_words.specs.declared.view.View.{View}
 use Rattle.pin_words.specs.Places.{place_of, descr_place}
-use Rattle.pin_words.specs.Views.{M, view, look, id_in, reader_with, reader_looked, reader_got, reader_released, keeper_with, keeper_stored, reader_of, keeper_of, IsReaders, IsKeepers}
+use Rattle.pin_words.specs.Views.{M, view, look, id_in, reader_with, reader_got, reader_released, keeper_with, keeper_stored, reader_of, keeper_of, IsReaders, IsKeepers}
 use Rattle.pin_words.specs.Shown.{Shown}
-use Rattle.pin_words.specs.Plays.{NoLater, Behind, TellsReader, got_view, released, noted, stored}
-use Rattle.pin_words.specs.declared.fault.Verdict.TheVariants.{Unborn, Stale, PinsFull, Go}
+use Rattle.pin_words.specs.Plays.{Behind, TellsReader, got_view, released, noted, stored}
+use Rattle.pin_words.specs.declared.fault.Verdict.TheVariants.{Stale, Go}
 use Rattle.pin_words.specs.Verdicts.{verdict_of}
 use Rattle.std.specs.Prelude.{Err, IfSome, option_map}
-use Rattle.pin_words.specs.declared.fault.Verdict.{Verdict}
 use Rattle.pin_words.specs.declared.fault.PinFault.TheVariants as fault
 use Rattle.pin_words.specs.Laws.{LostSeesNoEarlier, StaleStays}
-use Rattle.pin_words.specs.Tries.{HasOnlyLooked, WasStale, Tries, FollowsLook}
+use Rattle.pin_words.specs.Tries.{HasOnlyLooked, WasStale, Tries}
 use Rattle.pin_words.proofs.ReaderSteps.{notes-step}
 use Rattle.pin_words.proofs.KeeperSteps.{stores-step}
 
 pub go-means : (max : ℕ) (id : Id) (w : Word) → verdict_of max id w ≡ Go
     → (w.phase ≡ Live) × (w.generation ≡ id.generation) × (w.pins ≢ max)
-go-means max id w e = grind (arith, common_steps)
+go-means max id w e = search arith
 
 pub slot-known : (xs ys : List Slot) (i : ℕ) (y : Slot) → xs ≡ ys → i < length ys → y ≡ get_or ys i y → y ≡ slot_of xs i
-slot-known xs ys i y same inside is = get_or_read ys i y inside is opening_slot
-    ∙ ap (λ (z : List Slot). get_or z i opening_slot) (sym same)
+slot-known xs ys i y same inside is = search (arith, get_or_read)
 
 -- what is left where a step changes one of the keeper's slots, and so does its list
 pub slot-changed : (v v' : KeeperView) (ps : List (Id × Descr)) (ls : List Look) (k : Shape) (xs : List Slot) (s : ℕ)
     (was : Slot) (f : Slot → Slot) → v' ≡ keeper_with v (set v.slots s (f (slot_of v.slots s))) ps ls → v.shape ≡ k
     → v.slots ≡ xs → length xs ≡ k.slots → s < k.slots → was ≡ get_or xs s was
     → (v'.shape ≡ k) × (v'.slots ≡ set xs s (f was)) × (length (set xs s (f was)) ≡ k.slots)
-slot-changed v v' ps ls k xs s was f now shape knows long inside is = (
-  ap (λ (z : KeeperView). z.shape) now ∙ shape,
-  ap (λ (z : KeeperView). z.slots) now
-      ∙ (λ i. set (knows i) s (f (sym (slot-known v.slots xs s was knows (omega arith) is) i))),
-  length-set xs s (f was) ∙ long,
-)
+slot-changed v v' ps ls k xs s was f now shape knows long inside is = grind (arith, at_place, slot-known)
 
 -- a slot that is reclaimed keeps its descriptor
 pub reclaimed-kept : (max : ℕ) (was kept : Slot) → kept ≡ was
     → record { generation = (reclaimed max was).generation; phase = (reclaimed max was).phase; descr = kept.descr }
     ≡ reclaimed max was
-reclaimed-kept max was kept same = by (ltb was.generation max)
-  where
-    next : Bool → Slot
-    next b = cond b (record was { generation = was.generation + 1; phase = Free }) (record was { phase = Retired })
-
-    by : (b : Bool) → record { generation = (next b).generation; phase = (next b).phase; descr = kept.descr } ≡ next b
-    by true = λ i. record { generation = was.generation + 1; phase = Free; descr = (same i).descr }
-    by false = λ i. record { generation = was.generation; phase = Retired; descr = (same i).descr }
+reclaimed-kept max was kept same = search arith
 
 pub released-one : (n p : ℕ) (m m' : M) (id : Id) → p ≡ place_of id.slot → IsReaders m
     → released (step 0 p 1 0 none) m n m' → 0 < tally (same_id id) (reader_of m.0).held
@@ -91,30 +75,18 @@ released-one n p m m' id at reads does have =
 -- what an exchange that won leaves to its caller
 pub got-one : (n : ℕ) (m m' : M) (id : Id) → IsReaders m → m' ≡ (got_view m.0 id.slot n, m.1)
     → (decoded n).generation ≡ id.generation → IsReaders m' × (reader_of m'.0 ≡ reader_got (reader_of m.0) id n)
-got-one n m m' id reads did gen =
-    let now : m' ≡ (view None (Some (reader_got (reader_of m.0) (id_in id.slot n) n)), []) =
-    did ∙ ap (λ (z : M). (got_view z.0 id.slot n, z.1)) reads in (
-      now ∙ ap (λ (z : M). (view None (Some (reader_of z.0)), [])) (sym now),
-      ap (λ (z : M). reader_of z.0) now
-          ∙ λ c. reader_got (reader_of m.0) record { slot = id.slot; generation = gen c } n,
-    )
+got-one n m m' id reads did gen = search arith
 
 -- what a change of the one part of a seat leaves to its caller
 pub read-one : (f : ReaderView → ReaderView) (m m' : M) → IsReaders m
     → m' ≡ (view m.0.keeper (option_map f m.0.reader), m.1)
     → IsReaders m' × (reader_of m'.0 ≡ f (reader_of m.0))
-read-one f m m' reads did =
-    let now : m' ≡ (view None (Some (f (reader_of m.0))), []) =
-    did ∙ ap (λ (z : M). (view z.0.keeper (option_map f z.0.reader), z.1)) reads in
-    (now ∙ ap (λ (z : M). (view None (Some (reader_of z.0)), [])) (sym now), ap (λ (z : M). reader_of z.0) now)
+read-one f m m' reads did = search arith
 
 pub kept-one : (f : KeeperView → KeeperView) (m m' : M) → IsKeepers m
     → m' ≡ (view (option_map f m.0.keeper) m.0.reader, m.1)
     → IsKeepers m' × (keeper_of m'.0 ≡ f (keeper_of m.0))
-kept-one f m m' keeps did =
-    let now : m' ≡ (view (Some (f (keeper_of m.0))) None, []) =
-    did ∙ ap (λ (z : M). (view (option_map f z.0.keeper) z.0.reader, z.1)) keeps in
-    (now ∙ ap (λ (z : M). (view (Some (keeper_of z.0)) None, [])) (sym now), ap (λ (z : M). keeper_of z.0) now)
+kept-one f m m' keeps did = search arith
 
 -- what a store leaves to its caller
 pub stored-one : (n : ℕ) (m m' : M) (s w : ℕ) (d : Descr) → IsKeepers m
@@ -146,16 +118,11 @@ notes-there key slots id p me r y k at same is inside have =
 -- a held Id is one of these, or the new one
 pub inside-more : (n : ℕ) (id : Id) (xs : List Id) → id.slot < n → ((x : Id) → 0 < tally (same_id x) xs → x.slot < n)
     → (x : Id) → 0 < tally (same_id x) (xs ++ id ∷ []) → x.slot < n
-inside-more n id xs lt all x have = cases (same_id x id) refl
-  where
-    cases : (b : Bool) → same_id x id ≡ b → x.slot < n
-    cases true e = let same : id.slot ≡ x.slot = grind (arith, common_steps) in omega arith
-    cases false e = let c = count-snoc (same_id x) xs id in let off : weight (same_id x id) ≡ 0 = ap weight e in
-        all x (omega arith)
+inside-more n id xs lt all x have = search (arith, count-snoc)
 
 pub inside-less : (n : ℕ) (id : Id) (xs : List Id) → ((x : Id) → 0 < tally (same_id x) xs → x.slot < n) → (x : Id)
     → 0 < tally (same_id x) (drop_last (same_id id) xs) → x.slot < n
-inside-less n id xs all x have = let le = count-drop_last-le (same_id x) (same_id id) xs in all x (omega arith)
+inside-less n id xs all x have = search (arith, count-drop_last-le)
 
 age-stale : (max : ℕ) (id : Id) (g n : ℕ) (p : Phase) (b : Word)
     → g * 4 + rank_of p ≤ b.generation * 4 + rank_of b.phase → (p ≡ Retired → b.phase ≡ Retired)
@@ -176,23 +143,7 @@ stays-stale max id (l ∷ ls) n h b = ⊎_elim (λ (t : (l.slot ≡ id.slot)
 
 -- what a try that lost its exchange found
 pub lost-onward : LostSeesNoEarlier
-lost-onward r r' id seen t = ⊎_elim
-    (λ (inside : id.slot < r.shape.slots). ⊎_elim
-    (λ (room : length r.held < 16). let tried = t.tried inside room in
-    answer (verdict_of r.shape.max_pins id (decoded tried.0)) tried.0 tried.2)
-    (λ (full : 16 ≤ length r.held). absurd (let e = (t.full inside full).0 in cc))
-    (cases_lt (length r.held) 16))
-    (λ (out : r.shape.slots ≤ id.slot). absurd (let e = (t.no_slot out).0 in cc))
-    (cases_lt id.slot r.shape.slots)
-  where
-    answer : (v : Verdict) (n : ℕ) → FollowsLook v r id n (Err (fault.Busy seen)) r'
-        → (n : ℕ) × (m : ℕ) × (r' ≡ reader_looked (reader_looked r id.slot n) id.slot m) × (seen ≡ decoded m)
-        × NoLater n m
-    answer Unborn n a = absurd (let e = a.0 in cc)
-    answer Stale n a = absurd (let e = a.0 in cc)
-    answer PinsFull n a = absurd (let e = a.0 in cc)
-    answer Go n a = dite (ℕ_discrete a.0 n) (λ same. absurd (let e = (a.2 same).0 in cc))
-        (λ other. (n, a.0, (a.3 other).1, (let e = (a.3 other).0 in cc), a.1.looks.0 refl))
+lost-onward r r' id seen t = search arith
 
 pub busy-looked : (r r' : ReaderView) (id : Id) (seen : Word) → Tries r id (Err (fault.Busy seen)) r'
     → HasOnlyLooked r r'
@@ -208,15 +159,4 @@ looked-more a b c g h = (
 
 -- what a reader found stale it never pins again
 pub stale-answers : StaleStays
-stale-answers r r' id res t inside was = ⊎_elim
-    (λ (room : length r.held < 16). let tried = t.tried inside room in
-    inl (answer (verdict_of r.shape.max_pins id (decoded tried.0))
-    (stays-stale r.shape.max_pins id r.looks tried.0 was tried.1.looks) tried.0 tried.2))
-    (λ (full : 16 ≤ length r.held). inr (t.full inside full).0)
-    (cases_lt (length r.held) 16)
-  where
-    answer : (v : Verdict) → v ≡ Stale → (n : ℕ) → FollowsLook v r id n res r' → res ≡ Err fault.Stale
-    answer Unborn e n a = absurd (let x : Unborn ≡ Stale = e in cc)
-    answer Stale e n a = a.0
-    answer PinsFull e n a = absurd (let x : PinsFull ≡ Stale = e in cc)
-    answer Go e n a = absurd (let x : Go ≡ Stale = e in cc)
+stale-answers r r' id res t inside was = search (arith, stays-stale)

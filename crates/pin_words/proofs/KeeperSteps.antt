@@ -1,5 +1,5 @@
 -- The steps of the keeper keep the rule of the table.
-use Rattle.std.proofs.Common.{◌≡◌, ◌≢◌, inl, ℕ, ◌+◌, ◌<◌, ◌≤◌, nat_lt, eqb, Bool, true, false, cond, List, [], ◌∷◌, ◌++◌, length, get_or, set, get_or-set_same, get_or-set_other, Option, Some, None, sym, refl, ap, ◌∙◌, subst, arith}
+use Rattle.std.proofs.Common.{◌≡◌, ◌≢◌, inl, ℕ, ◌<◌, ◌≤◌, eqb, List, [], ◌∷◌, ◌++◌, length, get_or, set, get_or-set_same, get_or-set_other, Option, Some, None, sym, refl, ap, ◌∙◌, subst, arith}
 use Rattle.std.proofs.lemmas.Option.{IfSome_then, same_Some}
 use mathlib.Core.Option.{none, some}
 use native.Mathlib.Decide.{ℕ_discrete}
@@ -13,7 +13,7 @@ use Rattle.pin_core.specs.declared.word.Word.{Word}
 use Rattle.pin_core.specs.declared.id.Id.{Id}
 use Rattle.pin_core.specs.declared.descr.Descr.{Descr}
 use Rattle.pin_core.specs.declared.word.Phase.{Phase}
-use Rattle.pin_core.specs.declared.word.Phase.TheVariants.{Free, Live, Retired, Closing}
+use Rattle.pin_core.specs.declared.word.Phase.TheVariants.{Free, Live, Closing}
 use Rattle.pin_core.specs.declared.shape.Shape.{Shape}
 use Rattle.pin_core.specs.declared.world.Slot.{Slot}
 use Rattle.pin_core.specs.declared.event.Event.{Event}
@@ -37,7 +37,6 @@ use Rattle.pin_words.specs.Shown.{Table, NotAhead, OfKeeper, OfReader, IsShown, 
 use Rattle.pin_words.specs.Plays.{KeptAs, TellsKeeper, stored, published, closed, ReclaimedAt, reclaiming}
 use Rattle.pin_words.proofs.Bits.{publish-or, close-or}
 use Rattle.pin_words.proofs.Steps.{keeper-at, of-on, placed, step-shown, still-shown, few-pins, found-is, past-here, in-shape, turn-keeper, turn-keeper-to, looks-stay, notes-stay, at-slot}
-use Rattle.pin_words.proofs.Bits.{descr-decoded}
 
 -- a keeper's step at the slot i, to x and to the list ps; what is left is that the words are those of the new world
 keeper-goes : (k : Shape) (s : Table) (W : WorldState) (sh : IsShown k s W) (id wi n i : ℕ) (v : View)
@@ -143,8 +142,7 @@ same-given w y d = omega arith
 
 word-in : (k : Shape) (s : Table) (W : WorldState) (sh : IsShown k s W) (i : ℕ) (p : Phase) → i < k.slots
     → (at W i).phase ≡ p → word s i ≡ packed (at W i).generation (code_of p) (pins W i)
-word-in k s W sh i p inside is = sh.words i inside
-    ∙ ap (λ (q : Phase). packed (at W i).generation (code_of q) (pins W i)) is
+word-in k s a2 sh i p inside is = search arith
 
 pub keeper-publishes : (k : Shape) (s : Table) (W : WorldState) (sh : IsShown k s W) (id i : ℕ) (v : View)
     (kv : KeeperView) → get_elem? s.views id ≡ some v → v.keeper ≡ Some kv → i < k.slots
@@ -264,7 +262,7 @@ keeper-stores k s W sh id i v kv d seated is inside free descr-given =
 -- two descriptors of one word are the same
 same-decoded : (d e : Descr) → descr_code.IsGiven d → descr_code.IsGiven e → descr_code.encoded d ≡ descr_code.encoded e
     → d ≡ e
-same-decoded d e a b is = same_Some d e (sym (descr-decoded d a) ∙ (ap descr_code.decoded is ∙ descr-decoded e b))
+same-decoded d e a b is = grind arith
 
 pub stores-step : (k : Shape) (slots id i x : ℕ) (me : M) (v : KeeperView) (d : Descr) → me.0.keeper ≡ Some v
     → i < k.slots → (slot_of v.slots i).phase ≡ Free → descr_code.IsGiven d → x ≡ descr_code.encoded d
@@ -288,15 +286,7 @@ stores-step k slots id i x me v d is inside free descr-given x-is s (W, sh) deep
     )
 
 reclaimed-descr : (m : ℕ) (y : Slot) → (reclaimed m y).descr ≡ y.descr
-reclaimed-descr m y = cases (nat_lt y.generation m)
-  where
-    cases : (b : Bool) → (cond b record {
-      generation = y.generation + 1;
-      phase = Free;
-      descr = y.descr;
-    } (in_phase y Retired)).descr ≡ y.descr
-    cases true = refl
-    cases false = refl
+reclaimed-descr m y = search arith
 
 keeper-told : (k : Shape) (s : Table) (W : WorldState) (sh : IsShown k s W) (id i : ℕ) (v : View)
     → get_elem? s.views id ≡ some v → i < k.slots →
@@ -332,17 +322,6 @@ pinned-still k s W sh id i v kv seated is inside closing miss =
     ap (λ (y : Word). y.pins) (found-is k s W sh i inside) in
     let some-pin : pins W i ≢ 0 = λ e. miss (c.2 ∙ (ap (packed (at W i).generation 3) e ∙ sym (ap closing_word c.0))) in
     omega arith
-
--- and one that won found none
-pub none-pinned : (k : Shape) (s : Table) (W : WorldState) (sh : IsShown k s W) (id i : ℕ) (v : View) (kv : KeeperView)
-    → get_elem? s.views id ≡ some v → v.keeper ≡ Some kv → i < k.slots → (slot_of kv.slots i).phase ≡ Closing
-    → word s i ≡ closing_word (slot_of kv.slots i) → refusal W (Reclaim i) ≡ None
-none-pinned k s W sh id i v kv seated is inside closing hit =
-    let c = closing-word k s W sh id i v kv seated is inside closing in
-    let none-left : pins W i ≡ 0 = (let a = c.2 in
-    let b : word s i ≡ packed (at W i).generation 3 0 = hit ∙ ap closing_word c.0 in
-    omega arith) in
-    may_reclaim W i (in-shape k s W sh i inside) c.1 none-left
 
 pub keeper-reclaims : (k : Shape) (s : Table) (W : WorldState) (sh : IsShown k s W) (id i : ℕ) (v : View)
     (kv : KeeperView) → get_elem? s.views id ≡ some v → v.keeper ≡ Some kv → i < k.slots

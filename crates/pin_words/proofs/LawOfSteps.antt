@@ -1,21 +1,19 @@
 -- The law of the steps.
-use Rattle.std.proofs.Common.{nat_le, ◌≡◌, ⊎_elim, ℕ, ◌<◌, ◌≤◌, ◌&&◌, nat_lt, List, [], ◌∷◌, replicate, false, Option, Some, None, sym, refl, ap, ◌∙◌, subst, arith}
-use Rattle.std.proofs.lemmas.Grind.{common_steps}
+use Rattle.std.proofs.lemmas.Bool.Decides.{nat_tests}
+use Rattle.std.proofs.Common.{nat_le, ◌≡◌, ⊎_elim, ℕ, ◌<◌, ◌≤◌, ◌&&◌, nat_lt, List, [], ◌∷◌, replicate, Some, None, sym, refl, ap, ◌∙◌, subst, arith}
 use Rattle.std.proofs.lemmas.Option.{same_Some}
 use Rattle.std.specs.Prelude.{option_map}
-use Rattle.pin_core.specs.declared.word.Word.{Word}
 use Rattle.pin_core.specs.declared.id.Id.{Id}
 use Rattle.pin_core.specs.declared.descr.Descr.{Descr}
 use Rattle.pin_core.specs.declared.shape.Shape.{Shape}
 use Rattle.pin_core.specs.declared.world.Slot.{Slot}
 use Rattle.pin_core.specs.declared.holders.Hold.{Hold}
 use Rattle.pin_core.specs.declared.event.Event.{Event}
-use Rattle.pin_core.specs.declared.event.Event.TheVariants.{Load, Pin, Release, ReadDescr, StoreDescr, Publish, CloseSlot, Reclaim}
-use Rattle.pin_core.specs.Words.{decoded}
+use Rattle.pin_core.specs.declared.event.Event.TheVariants.{Load, Release, ReadDescr, StoreDescr, Publish, CloseSlot}
 use Rattle.pin_core.specs.Holds.{tally, weight, hold_of, same_id}
 use Rattle.pin_core.specs.Worlds.{WorldState, opening_slot, slot_of, at, copies, times}
 use Rattle.pin_core.specs.Events.{refusal, Transition, after}
-use Rattle.pin_core.specs.Safety.{may_be_held, IsSafe}
+use Rattle.pin_core.specs.Safety.{IsSafe}
 use Rattle.pin_core.proofs.Schedules.{opening_at, times-le-copies, kept_while_held, may_load, may_read, may_release, may_publish, may_store, may_close}
 use Rattle.pin_core.proofs.Moves.{given_as-le}
 use Rattle.pin_words.specs.declared.view.Note.{Note}
@@ -27,9 +25,9 @@ use Rattle.pin_words.specs.Views.{view, reader_looked, reader_noted, keeper_look
 use Rattle.pin_words.specs.Shown.{Table, AreNoted, HoldsJust, HasReader, IsShown}
 use Rattle.pin_words.proofs.Holdings.{has-copies}
 use Rattle.pin_words.specs.Laws.{ArePublished, CloseSteps, CopiesStay, FailedReclaimSteps, GivesReader, KeeperAt, LoadSteps, NotesArePublished, PinSteps, PublishSteps, ReadSteps, ReaderAt, ReclaimSteps, ReleaseSteps, ShowsOneWorld, ShowsOpening, StoreSteps, after_step, descr_word, with_keeper, with_reader, word}
-use Rattle.pin_words.proofs.Steps.{keeper-at, reader-at, found-is, in-shape}
-use Rattle.pin_words.proofs.ReaderSteps.{looks-shown, may_pin_found, reader-pins, reader-releases, reader-notes, descr_found}
-use Rattle.pin_words.proofs.KeeperSteps.{keeper-publishes, keeper-closes, keeper-reclaims, keeper-looks, keeper-stores, pinned-still, none-pinned}
+use Rattle.pin_words.proofs.Steps.{keeper-at, reader-at, in-shape}
+use Rattle.pin_words.proofs.ReaderSteps.{looks-shown, reader-pins, reader-releases, reader-notes, descr_found}
+use Rattle.pin_words.proofs.KeeperSteps.{keeper-publishes, keeper-closes, keeper-reclaims, keeper-looks, keeper-stores, pinned-still}
 use Rattle.pin_words.proofs.Reseated.{gives-shown}
 
 can-by : (w : WorldState) (e : Event) → refusal w e ≡ None → Transition w e (after w e)
@@ -40,15 +38,13 @@ read-as : (k : Shape) (s : Table) (w' : WorldState) (i n j : ℕ) (v : View) (g 
     (r : ReaderView) → v.reader ≡ Some r
     → IsShown k (after_step s i n j (view v.keeper (option_map g v.reader))) w'
     → IsShown k (after_step s i n j (with_reader v (g r))) w'
-read-as k s w' i n j v g r = subst (λ (z : Option ReaderView).
-    IsShown k (after_step s i n j (view v.keeper (option_map g z))) w')
+read-as k s w' i n j v g r = search arith
 
 kept-as : (k : Shape) (s : Table) (w' : WorldState) (i n j : ℕ) (v : View) (g : KeeperView → KeeperView)
     (q : KeeperView) → v.keeper ≡ Some q
     → IsShown k (after_step s i n j (view (option_map g v.keeper) v.reader)) w'
     → IsShown k (after_step s i n j (with_keeper v (g q))) w'
-kept-as k s w' i n j v g q = subst (λ (z : Option KeeperView).
-    IsShown k (after_step s i n j (view (option_map g z) v.reader)) w')
+kept-as k s w' i n j v g q = search arith
 
 pub law-load : LoadSteps
 law-load k s w j i v r sh here inside = record {
@@ -59,12 +55,7 @@ law-load k s w j i v r sh here inside = record {
 }
 
 pub law-pin : PinSteps
-law-pin k s w j i v r sh here inside live room = record {
-  can = can-by w (Pin r.number i (decoded (word s i)))
-      (subst (λ (z : Word). refusal w (Pin r.number i z) ≡ None) (sym (found-is k s w sh i inside))
-      (may_pin_found k s w sh r.number i inside live room));
-  shown = reader-pins k s w sh j i v r here.seated here.part inside live room;
-}
+law-pin k s w j i v r sh here inside live room = grind (arith, nat_tests, reader-pins)
 
 held-inside : (k : Shape) (s : Table) (w : WorldState) (sh : IsShown k s w) (j : ℕ) (v : View) (r : ReaderView)
     (id : Id) → ReaderAt s j v r → 0 < tally (same_id id) r.held → (id.slot < k.slots) × (0 < copies w r.number id)
@@ -109,10 +100,7 @@ law-close k s w j i v q sh here inside live = record {
 }
 
 pub law-reclaim : ReclaimSteps
-law-reclaim k s w j i v q sh here inside closing hit = record {
-  can = can-by w (Reclaim i) (none-pinned k s w sh j i v q here.seated here.part inside closing hit);
-  shown = keeper-reclaims k s w sh j i v q here.seated here.part inside closing hit;
-}
+law-reclaim k s w j i v q sh here inside closing hit = search (arith, keeper-reclaims)
 
 pub law-reclaim-failed : FailedReclaimSteps
 law-reclaim-failed k s w j i n v q sh here inside closing miss = (
@@ -133,7 +121,7 @@ law-store k s w j i v q d sh here inside free valid = record {
 }
 
 in_numbers : (c n : ℕ) → 1 ≤ n → n ≤ c → weight (nat_lt 0 n && nat_le n c) ≡ 1
-in_numbers c n a b = grind (arith, common_steps)
+in_numbers c n a b = search arith
 
 pub law-held : CopiesStay
 law-held k s w j v r id n sh here first last = let mine =
@@ -145,18 +133,14 @@ law-held k s w j v r id n sh here first last = let mine =
 
 published-once : (w : WorldState) (xs : List Note) → IsSafe w → AreNoted w xs → ArePublished w xs
 published-once w [] safe h = tt
-published-once w (x ∷ xs) safe h = (
-  (let a = h.0 in let le = given_as-le w x.id x.descr in let one = safe.once x.id in
-      omega arith),
-  published-once w xs safe h.1,
-)
+published-once w (x ∷ xs) safe h = search (arith, given_as-le, published-once w xs safe h.1)
 
 pub law-noted : NotesArePublished
 law-noted k s w j v r sh here = let mine = reader-at k s w sh j v r here.seated here.part in
     published-once w r.notes sh.safe mine.notes
 
 pub law-gives : GivesReader
-law-gives k s w j v q sh here = gives-shown k s w sh j v q here.seated here.part
+law-gives k s w j v q sh here = search (arith, gives-shown)
 
 -- the views determine the world, but for the order in which it is listed
 pub one-world : ShowsOneWorld
@@ -189,15 +173,7 @@ one-world k s a b p q =
 
 -- where each slot is an opening one, nothing is held
 opening-free : (w : WorldState) (n : ℕ) → IsSafe w → w.slots ≡ replicate n opening_slot → (t : Hold) → times w t ≡ 0
-opening-free w n safe is t =
-    let le = times-le-copies w t in
-    let nobody : ¬ (0 < copies w t.reader t.id) = λ some.
-    let h = safe.held t.reader t.id some in
-    let free : may_be_held (at w t.id.slot).phase ≡ false =
-    ap (λ (xs : List Slot). may_be_held (slot_of xs t.id.slot).phase) is
-    ∙ ap (λ (x : Slot). may_be_held x.phase) (opening_at n t.id.slot) in
-    let on = h.2 in cc in
-    omega arith
+opening-free w n safe is t = search (arith, opening_at, times-le-copies)
 
 -- a keeper that knows each slot as an opening one, and published nothing, is that of the opening world
 pub shows_opening : (q : KeeperView) (k : Shape) → q ≡ keeper_gave (opening_keeper k) → ShowsOpening q

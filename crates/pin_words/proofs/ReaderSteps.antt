@@ -1,6 +1,8 @@
 -- The steps of a reader keep the rule of the table.
+use Rattle.std.proofs.lemmas.Bool.Decides.{nat_tests}
+use Rattle.ob_codec.proofs.AtPlace.{at_place}
 use Rattle.std.specs.Prelude.{IfSome, option_map}
-use Rattle.std.proofs.Common.{◌≡◌, ◌≢◌, inl, inr, ℕ, ◌+◌, ◌-◌, ◌%◌, ◌^◌, ◌<◌, ◌==◌, eqb, eq-eqb, ne_eqb, true, List, [], ◌∷◌, ◌++◌, get_or, set, get_or-set_same, get_or-set_other, Option, Some, None, sym, refl, ap, ◌∙◌, subst, arith}
+use Rattle.std.proofs.Common.{◌≡◌, ◌≢◌, inl, inr, ℕ, ◌+◌, ◌-◌, ◌%◌, ◌^◌, ◌<◌, ◌==◌, eqb, eq-eqb, ne_eqb, true, List, [], ◌∷◌, ◌++◌, get_or, set, get_or-set_other, Option, Some, None, sym, refl, ap, ◌∙◌, subst, arith}
 use Rattle.std.proofs.lemmas.Option.{IfSome_then, same_Some}
 use mathlib.Core.Option.{none, some}
 use native.Mathlib.Decide.{ℕ_discrete}
@@ -22,7 +24,7 @@ use Rattle.pin_core.specs.Holds.{tally, weight, is_at_slot, is_copy, is_hold, wi
 use Rattle.pin_core.specs.Worlds.{WorldState, at, id_at, pins, copies, last_copy, next_copy, word_at, given, given_as}
 use Rattle.pin_core.specs.Events.{refusal, after, with_holders}
 use Rattle.pin_core.specs.Safety.{IsSafe, may_be_held}
-use Rattle.pin_core.proofs.Schedules.{safe_kept, may_pin, may_release}
+use Rattle.pin_core.proofs.Schedules.{safe_kept, may_release}
 use Rattle.pin_core.proofs.Moves.{copies-le-pins}
 use Rattle.pin_core.proofs.Holding.{release-count}
 use Rattle.pin_core.proofs.Counts.{count-with_hold}
@@ -37,24 +39,14 @@ use Rattle.pin_words.specs.Shown.{Table, NotAhead, AreNoted, OfReader, IsShown, 
 use Rattle.pin_words.specs.Plays.{TellsReader, looked_view, got_view, released_view, LookedAt, looked, PinnedAt, pinned, ReleasedAt, released, noted}
 use Rattle.pin_words.proofs.Bits.{sub_one}
 use Rattle.pin_words.proofs.Holdings.{holds-more, holds-same-more, holds-less, holds-same-less, has-copies, noted-left}
-use Rattle.pin_words.proofs.Steps.{reader-at, placed, in-list, step-shown, still-shown, found-is, in-shape, told, met, reader-looks, turn-reader, turn-to, looks-agree, looks-stay, notes-stay, keeper-stays, reader-stays, behind, at-slot}
-use Rattle.pin_words.proofs.Bits.{descr-decoded}
+use Rattle.pin_words.proofs.Steps.{reader-at, placed, in-list, step-shown, still-shown, found-is, in-shape, told, met, reader-looks, turn-reader, turn-to, looks-agree, keeper-stays, reader-stays, behind, at-slot}
 
 -- the words where the holds change at the slot i alone
 hold-words : (k : Shape) (s : Table) (W : WorldState) (sh : IsShown k s W) (i n : ℕ) (hs : List Hold) → i < k.slots
     → n ≡ encoded (word_at (with_holders W hs) i) → ((j : ℕ) → j ≢ i → tally (is_at_slot j) hs ≡ pins W j)
     → (j : ℕ) → j < k.slots → get_or (set s.words (place_of i) n) (place_of j) 0
     ≡ encoded (word_at (with_holders W hs) j)
-hold-words k s W sh i n hs inside is same j h = dite (ℕ_discrete j i)
-    (λ e. subst (λ (z : ℕ). get_or (set s.words (place_of i) n) (place_of z) 0
-    ≡ encoded (word_at (with_holders W hs) z)) (sym e) (get_or-set_same s.words (place_of i) n 0 (let wide =
-    sh.wide in omega arith) ∙ is))
-    (λ ne. get_or-set_other s.words (place_of i) (place_of j) n 0 (λ e. ne (omega arith))
-    ∙ (sh.words j h ∙ ap (λ (p : ℕ). encoded (record {
-      generation = (at W j).generation;
-      phase = (at W j).phase;
-      pins = p;
-    })) (sym (same j ne))))
+hold-words k s a2 sh i n hs inside is same j h = grind (arith, at_place)
 
 -- a reader's step that changes its holds
 reader-goes : (k : Shape) (s : Table) (W : WorldState) (sh : IsShown k s W) (id i n : ℕ) (v : View) (r r' : ReaderView)
@@ -96,27 +88,12 @@ with-holds : (w : WorldState) (hs : List Hold) (next : ℕ) (owner : ℕ
     → ℕ) (id : ℕ) (r : ReaderView) (held : List Id) (notes : List Note) (looks : List Look) → OfReader w next owner id r
     → ((x : Id) → tally (is_copy r.number x) hs ≡ tally (same_id x) held) → AreNoted w notes → NotAhead w looks
     → OfReader (with_holders w hs) next owner id (reader_with r held notes looks)
-with-holds w hs next owner id r held notes looks mine is noted behind =
-    record {
-      shape = mine.shape;
-      born = mine.born;
-      mine = mine.mine;
-      held = is;
-      notes = notes-stay w (with_holders w hs) notes (λ i d. omega arith) noted;
-      looks = looks-stay w (with_holders w hs) looks refl (λ j. omega arith) behind;
-    }
+with-holds w hs next owner id r held notes looks mine is noted behind = grind arith
 
 pub may_pin_found : (k : Shape) (s : Table) (W : WorldState) (sh : IsShown k s W) (r i : ℕ) → i < k.slots
     → (decoded (word s i)).phase ≡ Live
     → (decoded (word s i)).pins ≢ k.max_pins → refusal W (Pin r i (word_at W i)) ≡ None
-may_pin_found k s W sh r i inside live room =
-    let is = found-is k s W sh i inside in
-    let phase : (at W i).phase ≡ Live = sym (ap (λ (y : Word). y.phase) is) ∙ live in
-    let count : (decoded (word s i)).pins ≡ pins W i = ap (λ (y : Word). y.pins) is in
-    let most : W.shape.max_pins ≡ k.max_pins = ap (λ (z : Shape). z.max_pins) sh.shape in
-    let few : pins W i < W.shape.max_pins = (let le = sh.safe.room i in
-    let ne : pins W i ≢ W.shape.max_pins = λ e. room (count ∙ (e ∙ most)) in omega arith) in
-    may_pin W r i (in-shape k s W sh i inside) phase few
+may_pin_found k s a2 sh r i inside live room = grind (arith, nat_tests)
 
 pub reader-pins : (k : Shape) (s : Table) (W : WorldState) (sh : IsShown k s W) (id i : ℕ) (v : View) (r : ReaderView)
     → get_elem? s.views id ≡ some v → v.reader ≡ Some r → i < k.slots
@@ -274,11 +251,10 @@ releases-step k slots id p me r y at is inside have =
 held-is : (w : WorldState) (next : ℕ) (owner : ℕ → ℕ) (id : ℕ) (r : ReaderView) (x : Id) → IsSafe w
     → OfReader w next owner id r → 0 < tally (same_id x) r.held
     → (x.slot < w.shape.slots) × (x.generation ≡ (at w x.slot).generation) × (may_be_held (at w x.slot).phase ≡ true)
-held-is w next owner id r x safe mine have = let h = safe.held r.number x (has-copies w r x mine.held have) in
-    (h.0, sym h.1, h.2)
+held-is w next owner id r x safe mine have = search arith
 
 pub descr_found : (d : Descr) (n : ℕ) → descr_code.IsGiven d → n ≡ descr_code.encoded d → descr_code.decoded n ≡ Some d
-descr_found d n given is = ap descr_code.decoded is ∙ descr-decoded d given
+descr_found d n given is = search arith
 
 pub reader-notes : (k : Shape) (s : Table) (W : WorldState) (sh : IsShown k s W) (id : ℕ) (v : View) (r : ReaderView)
     (x : Id) → get_elem? s.views id ≡ some v → v.reader ≡ Some r → x.slot < k.slots → 0 < tally (same_id x) r.held

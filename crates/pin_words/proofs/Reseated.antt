@@ -1,6 +1,6 @@
 -- Seats that are split and joined leave the world as it is.
 use Rattle.std.specs.Prelude.{option_map}
-use Rattle.std.proofs.Common.{◌≡◌, ◌≢◌, ◌⊎◌, inl, inr, ⊎_elim, ℕ, ◌+◌, ◌*◌, ◌<◌, ◌≤◌, ◌==◌, eq-eqb, ne_eqb, Bool, cond, List, [], ◌∷◌, ◌++◌, length, replicate, set, zero, suc, Some, None, sym, refl, ap, ◌∙◌, subst, arith}
+use Rattle.std.proofs.Common.{◌≡◌, ◌≢◌, ◌⊎◌, inl, inr, ⊎_elim, ℕ, ◌+◌, ◌*◌, ◌<◌, ◌≤◌, ◌==◌, cond, List, [], ◌∷◌, ◌++◌, length, replicate, set, zero, suc, Some, None, sym, refl, ap, ◌∙◌, subst, arith}
 use mathlib.Core.Option.{some, some-ne-none, some-injective}
 use native.Mathlib.Decide.{ℕ_discrete}
 use mathlib.Core.Logic.{dite}
@@ -13,7 +13,7 @@ use Rattle.pin_core.specs.declared.shape.Shape.{Shape}
 use Rattle.pin_core.specs.declared.world.Slot.{Slot}
 use Rattle.pin_core.specs.Shapes.{IsWithinLimits}
 use Rattle.pin_core.specs.Worlds.{WorldState, opening_slot, copies}
-use Rattle.pin_core.specs.Opened.{opened_with, Opens, SlotOpens}
+use Rattle.pin_core.specs.Opened.{opened_with, Opens}
 use Rattle.pin_core.proofs.Schedules.{opening_at}
 use Rattle.pin_core.proofs.Openings.{opened-safe, opening-is}
 use Rattle.pin_words.specs.declared.view.KeeperView.{KeeperView}
@@ -23,7 +23,7 @@ use Rattle.pin_words.specs.Places.{AreLaid, words_a_slot}
 use Rattle.pin_words.specs.Views.{view, keeper_gave, reader_given, opening_keeper, keeper_with_slots, view_with_slots}
 use Rattle.pin_words.specs.Laws.{with_views}
 use Rattle.pin_words.specs.Shown.{Table, HoldsJust, OfKeeper, OfReader, Agrees, HasKeeper, HasReader, IsShown, Shown}
-use Rattle.pin_words.specs.Plays.{Behind, TellsReader, AreListed, Show, Meets, MeetsBoth, looked_view, got_view, released_view, looked, pinned, released, noted, stored, published, closed, reclaiming, gave, reader_from, spent, joined, keeper_part, reader_part}
+use Rattle.pin_words.specs.Plays.{published, gave, reader_from, spent, joined, keeper_part, reader_part}
 use Rattle.pin_words.specs.Plays as play
 use Rattle.pin_words.proofs.Steps.{Turns, keeper-at, reader-at, of-put, in-list, has-keeper, has-reader, turn-keeper}
 
@@ -32,18 +32,17 @@ at-last : {A : Type 0} (l : List A) (a b : A) (j : ℕ) → get_elem? (l ++ a �
 at-last [] a b zero e = inr (refl, some-injective a b e)
 at-last [] a b (suc j) e = absurd (some-ne-none b (sym e))
 at-last (x ∷ xs) a b zero e = inl e
-at-last (x ∷ xs) a b (suc j) e = ⊎_elim (λ h. inl h) (λ (t : (j ≡ length xs) × (a ≡ b)). inr (ap suc t.0, t.1))
-    (at-last xs a b j e)
+at-last (x ∷ xs) a b (suc j) e = search (arith, at-last xs a b j e)
 
 -- the seats of the readers, once the reader n has the seat q
 abbrev moved-owner : ℕ → ℕ → (ℕ → ℕ) → ℕ → ℕ
 moved-owner n q owner r = cond (r == n) q (owner r)
 
 moved-new : (n q : ℕ) (owner : ℕ → ℕ) → moved-owner n q owner n ≡ q
-moved-new n q owner = ap (λ (b : Bool). cond b q (owner n)) (eq-eqb n n refl)
+moved-new n q owner = search arith
 
 moved-old : (n q : ℕ) (owner : ℕ → ℕ) (r : ℕ) → r ≢ n → moved-owner n q owner r ≡ owner r
-moved-old n q owner r h = ap (λ (b : Bool). cond b q (owner r)) (ne_eqb r n h)
+moved-old n q owner r h = search arith
 
 -- the table at the start
 pub opens : (k : Shape) (slots : List Slot) (words : List ℕ) → IsWithinLimits k → Opens k slots
@@ -82,19 +81,11 @@ opens k slots words fits begins are = (
 -- slots of which nothing was asked
 pub fresh_opens : (k : Shape) (slots : List Slot) → IsWithinLimits k → slots ≡ replicate k.slots opening_slot
     → Opens k slots
-fresh_opens k slots fits are = subst (Opens k) (sym are) (record {
-  wide = length-replicate k.slots opening_slot;
-  each = λ s h. subst (SlotOpens k.max_gen) (sym (opening_at k.slots s)) (record {
-    given = (omega arith, refl);
-    bounded = fits.4;
-    last = λ e. cc;
-  });
-})
+fresh_opens k slots fits are = search (arith, length-replicate, opening_at)
 
 pub fresh_keeper : (k : Shape) (slots : List Slot) → slots ≡ replicate k.slots opening_slot
     → keeper_with_slots k slots ≡ opening_keeper k
-fresh_keeper k slots are = ap (keeper_with_slots k) are
-    ∙ ap (λ (w : WorldState). record (opening_keeper k) { published = w.published }) (opening-is k)
+fresh_keeper k slots are = search (arith, opening-is)
 
 -- the same world under other views
 reseated : (k : Shape) (s : Table) (W : WorldState) (sh : IsShown k s W) (next : ℕ) (owner : ℕ → ℕ) (views : List View)
@@ -124,21 +115,13 @@ reseated k s W sh next owner views each unborn kept moves =
 -- a reader's part, as readers are added or move
 reader-moves : (w : WorldState) (next next' : ℕ) (owner owner' : ℕ → ℕ) (j j' : ℕ) (r : ReaderView) → next ≤ next'
     → owner' r.number ≡ j' → OfReader w next owner j r → OfReader w next' owner' j' r
-reader-moves w next next' owner owner' j j' r more is a =
-    record {
-      shape = a.shape;
-      born = (let b = a.born in omega arith);
-      mine = is;
-      held = a.held;
-      notes = a.notes;
-      looks = a.looks;
-    }
+reader-moves w next next' owner owner' j j' r more is a = search arith
 
 longer-keeper : (vs ws : List View) (j : ℕ) → HasKeeper vs j → HasKeeper (vs ++ ws) j
-longer-keeper vs ws j h = (h.0, h.1, at_longer vs ws j h.0 h.2, h.3)
+longer-keeper vs ws j h = search (arith, at_longer)
 
 longer-reader : (vs ws : List View) (j r : ℕ) → HasReader vs j r → HasReader (vs ++ ws) j r
-longer-reader vs ws j r h = (h.0, h.1, at_longer vs ws j h.0 h.2, h.3, h.4)
+longer-reader vs ws j r h = search (arith, at_longer)
 
 -- a reader's number is one that was given
 given-number : (k : Shape) (s : Table) (W : WorldState) (sh : IsShown k s W) (r : ℕ) → HasReader s.views (sh.owner r) r
@@ -206,7 +189,7 @@ gives-shown k s W sh id me v seated is =
 
 pub gives : (k : Shape) (id : ℕ) (me : View) (v : KeeperView) → me.keeper ≡ Some v
     → Splits (Shown k) id me (gave me) (play.given me)
-gives k id me v is s (W, sh) seated = (W, gives-shown k s W sh id me v seated is)
+gives k id me v is s a6 seated = search (arith, gives-shown)
 
 -- a seat that knows nothing
 pub blanks-shown : (k : Shape) (s : Table) (W : WorldState) (sh : IsShown k s W) (id : ℕ) (me : View)
@@ -229,7 +212,7 @@ blanks-shown k s W sh id me seated =
     same = record { keeper = λ k e. (k, e); reader = λ x e. (x, e, refl) }
 
 pub blanks : (k : Shape) (id : ℕ) (me : View) → Splits (Shown k) id me me spent
-blanks k id me s (W, sh) seated = (W, blanks-shown k s W sh id me seated)
+blanks k id me s a4 seated = search (arith, blanks-shown)
 
 -- two seats in one
 pub joins-shown : (k : Shape) (s : Table) (W : WorldState) (sh : IsShown k s W) (id other : ℕ) (kv : KeeperView)
@@ -298,7 +281,7 @@ joins-shown k s W sh id other kv rv seated apart seated' =
 
 pub joins : (k : Shape) (id other : ℕ) (kv : KeeperView) (rv : ReaderView)
     → Joins (Shown k) id (view (Some kv) None) other (view None (Some rv)) (view (Some kv) (Some rv)) spent
-joins k id other kv rv s (W, sh) seated apart seated' = (W, joins-shown k s W sh id other kv rv seated apart seated')
+joins k id other kv rv s a6 seated apart seated' = search (arith, joins-shown)
 
 -- a joined seat in two
 pub parts-shown : (k : Shape) (s : Table) (W : WorldState) (sh : IsShown k s W) (id : ℕ) (kv : KeeperView)
@@ -361,7 +344,7 @@ parts-shown k s W sh id kv rv seated =
 
 pub parts : (k : Shape) (id : ℕ) (kv : KeeperView) (rv : ReaderView)
     → Splits (Shown k) id (view (Some kv) (Some rv)) (view (Some kv) None) (view None (Some rv))
-parts k id kv rv s (W, sh) seated = (W, parts-shown k s W sh id kv rv seated)
+parts k id kv rv s a5 seated = search (arith, parts-shown)
 
 pub joins-any : (k : Shape) (id other : ℕ) (me me' : View) (kv : KeeperView) (rv : ReaderView)
     → me ≡ view (Some kv) None → me' ≡ view None (Some rv) → Joins (Shown k) id me other me' (joined me me') spent

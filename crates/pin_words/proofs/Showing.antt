@@ -1,25 +1,14 @@
 -- What is shown of one slot more.
-use Rattle.std.proofs.Common.{◌≡◌, ℕ, suc, ◌+◌, ◌<◌, Bool, true, false, cond, List, [], ◌∷◌, ◌++◌, length, get_or, take, sym, ap, ◌∙◌, length-take-le, arith}
+use Rattle.std.proofs.Common.{◌≡◌, ℕ, suc, ◌+◌, ◌<◌, List, [], ◌∷◌, ◌++◌, length, get_or, take, sym, ap, ◌∙◌, length-take-le, arith}
 use Rattle.std.proofs.lemmas.List.{take_more}
 use Rattle.pin_core.specs.declared.descr.Descr.{Descr}
 use Rattle.pin_core.specs.declared.id.Id.{Id}
 use Rattle.pin_core.specs.declared.world.Slot.{Slot}
 use Rattle.pin_core.specs.Opened.{shown_from}
-use Rattle.pin_core.specs.Safety.{may_be_held}
 
 shown-append : (k : ℕ) (xs ys : List Slot) → shown_from k (xs ++ ys) ≡ shown_from k xs ++ shown_from (k + length xs) ys
 shown-append k [] ys = ap (λ (n : ℕ). shown_from n ys) (omega arith)
-shown-append k (x ∷ xs) ys = by (may_be_held x.phase) (shown-append (suc k) xs ys
-    ∙ ap (λ (n : ℕ). shown_from (suc k) xs ++ shown_from n ys) (omega arith))
-  where
-    row : Id × Descr
-    row = (record { slot = k; generation = x.generation }, x.descr)
-
-    by : (b : Bool) → shown_from (suc k) (xs ++ ys) ≡ shown_from (suc k) xs ++ shown_from (k + length (x ∷ xs)) ys
-        → cond b (row ∷ shown_from (suc k) (xs ++ ys)) (shown_from (suc k) (xs ++ ys))
-        ≡ cond b (row ∷ shown_from (suc k) xs) (shown_from (suc k) xs) ++ shown_from (k + length (x ∷ xs)) ys
-    by true e = ap (λ (rows : List (Id × Descr)). row ∷ rows) e
-    by false e = e
+shown-append k (x ∷ xs) ys = search (arith, shown-append (suc k) xs ys)
 
 pub one_more_shown : (slots : List Slot) (i : ℕ) (d : Slot) (rows : List (Id × Descr)) → i < length slots
     → rows ≡ shown_from 0 (take i slots) → rows ++ shown_from i (get_or slots i d ∷ [])

@@ -1,28 +1,24 @@
 -- What a step of one seat owes the rule of the table.
 use Rattle.std.specs.Prelude.{IfSome, option_map}
-use Rattle.std.proofs.Common.{◌≡◌, ◌≢◌, ◌⊎◌, inl, inr, ⊎_elim, ℕ, ◌+◌, ◌*◌, ◌<◌, ◌≤◌, List, [], ◌∷◌, length, get_or, set, length-set, zero, suc, Option, Some, None, sym, refl, ap, ◌∙◌, subst, arith}
+use Rattle.std.proofs.Common.{◌≡◌, ◌≢◌, ◌⊎◌, inl, inr, ⊎_elim, ℕ, ◌<◌, ◌≤◌, List, [], ◌∷◌, length, get_or, set, length-set, zero, suc, Option, Some, sym, refl, ap, ◌∙◌, subst, arith}
 use mathlib.Core.Option.{none, some, some-ne-none, some-injective}
 use native.Mathlib.Decide.{ℕ_discrete}
 use mathlib.Core.Logic.{dite}
 use lib.ListN.{get_elem?}
 use lib.Seq.{set-get_or}
-use Rattle.std.proofs.lemmas.Option.{same_Some}
 use Rattle.atomic_table.specs.Table.{Allows, Step, step}
 use Rattle.atomic_table.proofs.Lists.{at_set, set_here, set_else}
 use Rattle.pin_core.specs.declared.word.Word.{Word}
 use Rattle.pin_core.specs.declared.id.Id.{Id}
 use Rattle.pin_core.specs.declared.descr.Descr.{Descr}
-use Rattle.pin_core.specs.declared.word.Phase.{Phase}
-use Rattle.pin_core.specs.declared.word.Phase.TheVariants.{Free, Live, Retired, Closing}
 use Rattle.pin_core.specs.declared.shape.Shape.{Shape}
-use Rattle.pin_core.specs.declared.world.Slot.{Slot}
 use Rattle.pin_core.specs.declared.holders.Hold.{Hold}
 use Rattle.pin_core.specs.Words.{encoded, decoded}
 use Rattle.pin_core.specs.Descrs as descr_code
 use Rattle.pin_core.specs.Holds.{tally, is_copy}
-use Rattle.pin_core.specs.Worlds.{WorldState, slot_of, at, id_at, pins, copies, word_at, is_with, given, given_as}
+use Rattle.pin_core.specs.Worlds.{WorldState, at, pins, copies, word_at, given, given_as}
 use Rattle.pin_core.specs.Events.{with_holders}
-use Rattle.pin_core.specs.Safety.{IsSafe, may_be_held, rank_of, age}
+use Rattle.pin_core.specs.Safety.{IsSafe, may_be_held, age}
 use Rattle.pin_words.specs.declared.view.Look.{Look}
 use Rattle.pin_words.specs.declared.view.Note.{Note}
 use Rattle.pin_words.specs.declared.view.KeeperView.{KeeperView}
@@ -33,14 +29,13 @@ use Rattle.pin_words.specs.Views.{M, view, look, reader_looked}
 use Rattle.pin_words.specs.Shown.{Table, word_age, IsPast, NotAhead, AreNoted, HoldsJust, OfKeeper, OfReader, Agrees, HasKeeper, HasReader, IsShown, Shown}
 use Rattle.pin_words.specs.Laws.{after_step, word}
 use Rattle.pin_words.specs.Plays.{Behind, TellsReader, AreListed, Show, MeetsBoth, looked_view}
-use Rattle.pin_words.proofs.Bits.{decoded-encoded}
 use Rattle.pin_words.proofs.Holdings.{held-le-pins, has-copies, one-descr}
 
 pub of-here : {A : Type 0} (P : A → Type 0) (x : Option A) (a : A) → x ≡ Some a → IfSome x P → P a
-of-here {A = A} P x a is h = subst (λ (z : Option A). IfSome z P) is h
+of-here a0 x a is h = search arith
 
 pub of-put : {A : Type 0} (P : A → Type 0) (x : Option A) (a : A) → x ≡ Some a → P a → IfSome x P
-of-put {A = A} P x a is h = subst (λ (z : Option A). IfSome z P) (sym is) h
+of-put a0 x a is h = search arith
 
 -- a seat's part as the world has it
 pub keeper-at : (k : Shape) (s : Table) (W : WorldState) (sh : IsShown k s W) (id : ℕ) (v : View) (kv : KeeperView)
@@ -79,15 +74,14 @@ has-reader vs id j r v v' seated turn h = dite (ℕ_discrete j id)
 
 -- a slot is told by its place
 pub at-slot : (i : ℕ) (P : ℕ → Type 0) → P i → AtSlot (place_of i) P
-at-slot i P have s is = let same : i ≡ s = omega arith in subst P same have
+at-slot i a1 have s is = search arith
 
 -- a step at the place of a slot
 pub placed : (k : Shape) (slots id p q first second : ℕ) (me : M) (f : ℕ → ℕ)
     (then_is : Step (Unit {0}) → M → ℕ → M → Type 0) → p ≡ q
     → Allows (Shown k) slots id me q f (then_is (step slots q first second none) me)
     → Allows (Shown k) slots id me p f (then_is (step slots p first second none) me)
-placed k slots id p q first second me f then_is at =
-    subst (λ (z : ℕ). Allows (Shown k) slots id me z f (then_is (step slots z first second none) me)) (sym at)
+placed k slots id p q first second me f then_is at = search arith
 
 -- a step of one seat, after which the world is w'
 pub step-shown : (k : Shape) (s : Table) (W : WorldState) (sh : IsShown k s W) (id i n : ℕ) (v' : View)
@@ -134,51 +128,24 @@ still-shown k s W sh id i v' mine v seated turn = let same = set-get_or s.words 
     ∙ sh.descrs j h) sh.given mine (λ j u n a. a) sh.unborn v seated turn (λ r e. inl e)
 
 pub few-pins : (k : Shape) (s : Table) (W : WorldState) (sh : IsShown k s W) (i : ℕ) → pins W i < 1073741824
-few-pins k s W sh i = let room = sh.safe.room i in let max : W.shape.max_pins ≡ k.max_pins =
-    ap (λ (z : Shape). z.max_pins) sh.shape in let fit = sh.fits.3 in omega arith
+few-pins k s a2 sh i = search arith
 
 -- what the word that is found says
 pub found-is : (k : Shape) (s : Table) (W : WorldState) (sh : IsShown k s W) (i : ℕ) → i < k.slots
     → decoded (word s i) ≡ word_at W i
-found-is k s W sh i inside = ap decoded (sh.words i inside) ∙ decoded-encoded (word_at W i) (few-pins k s W sh i)
+found-is k s a2 sh i inside = grind arith
 
 pub found-age : (k : Shape) (s : Table) (W : WorldState) (sh : IsShown k s W) (i : ℕ) → i < k.slots
     → word_age (word s i) ≡ age (at W i)
-found-age k s W sh i inside = ap (λ (x : Word). x.generation * 4 + rank_of x.phase) (found-is k s W sh i inside)
+found-age k s a2 sh i inside = search arith
 
 pub in-shape : (k : Shape) (s : Table) (W : WorldState) (sh : IsShown k s W) (i : ℕ) → i < k.slots → i < W.shape.slots
-in-shape k s W sh i inside = subst (λ (z : Shape). i < z.slots) (sym sh.shape) inside
-
-is_retired : (p : Phase) → 3 ≤ rank_of p → p ≡ Retired
-is_retired Free h = absurd (omega arith)
-is_retired Live h = absurd (omega arith)
-is_retired Closing h = absurd (omega arith)
-is_retired Retired h = refl
-
-ranks : (p : Phase) → rank_of p ≤ 3
-ranks Free = omega arith
-ranks Live = omega arith
-ranks Closing = omega arith
-ranks Retired = omega arith
-
-no-later : (w : WorldState) (m : ℕ) (x : Slot) → word_age m ≤ age x → x.generation ≤ w.shape.max_gen
-    → ((decoded m).phase ≡ Retired → w.shape.max_gen ≤ (decoded m).generation) → (decoded m).phase ≡ Retired
-    → x.phase ≡ Retired
-no-later w m x le bounded last e = let top = last e in let three : rank_of (decoded m).phase ≡ 3 = ap rank_of e in
-    let least = ranks x.phase in is_retired x.phase (omega arith)
+in-shape k s a2 sh i inside = search arith
 
 pub behind : (w : WorldState) (ls : List Look) (s n : ℕ) → word_age n ≡ age (at w s)
     → (decoded n).phase ≡ (at w s).phase → (at w s).generation ≤ w.shape.max_gen → NotAhead w ls → Behind ls s n
 behind w [] s n is phase bounded h = tt
-behind w (l ∷ ls) s n is phase bounded h = (
-  (λ e. let le = h.0.0 in let here : age (at w l.slot) ≡ age (at w s) = ap (λ (z : ℕ). age (at w z)) e in
-      let up : word_age l.word ≤ age (at w s) = omega arith in (
-        (let goal : word_age l.word ≤ word_age n = omega arith in goal),
-        λ r. phase
-            ∙ no-later w l.word (at w s) up bounded h.0.1 r,
-      )),
-  behind w ls s n is phase bounded h.1,
-)
+behind w (l ∷ ls) s n is phase bounded h = search (arith, behind w ls s n is phase bounded h.1)
 
 pub told : (k : Shape) (s : Table) (W : WorldState) (sh : IsShown k s W) (id i : ℕ) (r : ReaderView) → i < k.slots
     → OfReader W sh.next sh.owner id r → TellsReader r i (word s i)
@@ -199,81 +166,29 @@ told k s W sh id i r inside mine = let is = found-is k s W sh i inside in record
 
 listed : (w : WorldState) (ps : List (Id × Descr)) (xs : List Note) → ps ≡ w.published → AreNoted w xs → AreListed ps xs
 listed w ps [] same h = tt
-listed w ps (x ∷ xs) same h = (
-  subst (λ (z : List (Id × Descr)). 0 < tally (is_with x.id x.descr) z) (sym same) h.0,
-  listed w ps xs same h.1,
-)
+listed w ps (x ∷ xs) same h = search (arith, listed w ps xs same h.1)
 
 shows : (w : WorldState) (id : Id) (d : Descr) (xs : List Note) → IsSafe w → 0 < given_as w id d → AreNoted w xs
     → Show id d xs
 shows w id d [] safe have h = tt
-shows w id d (x ∷ xs) safe have h = (
-  (λ e. one-descr w id x.descr d safe
-      (subst (λ (z : Id). 0 < given_as w z x.descr) e h.0) have),
-  shows w id d xs safe have h.1,
-)
+shows w id d (x ∷ xs) safe have h = search (arith, one-descr, shows w id d xs safe have h.1)
 
 pub met : (k : Shape) (s : Table) (W : WorldState) (sh : IsShown k s W) (id i : ℕ) (v : View) → i < k.slots
     → Agrees W sh.keeper sh.next sh.owner id v → MeetsBoth v.keeper v.reader i (word s i)
-met k s W sh id i v inside a = cases v.keeper v.reader a.0 a.1
-  where
-    cases : (x : Option KeeperView) (y : Option ReaderView) → IfSome x (OfKeeper W sh.keeper sh.next id)
-        → IfSome y (OfReader W sh.next sh.owner id) → MeetsBoth x y i (word s i)
-    cases None y a b = tt
-    cases (Some x) None a b = tt
-    cases (Some x) (Some y) a b = let is = found-is k s W sh i inside in
-        let here : at W i ≡ slot_of x.slots i = ap (λ (z : List Slot). slot_of z i) (sym a.slots) in record {
-          generation = ap (λ (z : Word). z.generation) is ∙ ap (λ (z : Slot). z.generation) here;
-          phase = ap (λ (z : Word). z.phase) is ∙ ap (λ (z : Slot). z.phase) here;
-          held = λ y' have there. let h = (told k s W sh id i y inside b).held y' have there in (
-            (λ j. record {
-              slot = there j;
-              generation =
-                  (sym h.0 ∙ (ap (λ (z : Word). z.generation) is ∙ ap (λ (z : Slot). z.generation) here)) j;
-            }),
-            ap may_be_held (sym (ap (λ (z : Word). z.phase) is ∙ ap (λ (z : Slot). z.phase) here)) ∙ h.1,
-          );
-          given = λ on. subst (λ (z : Slot × List (Id × Descr)). 0
-              < tally (is_with record { slot = i; generation = z.0.generation } z.0.descr) z.1)
-              (λ j. (here j, sym a.published j))
-              (let one = (sh.safe.slots i (in-shape k s W sh i inside)).shown
-              (ap (λ (z : Slot). may_be_held z.phase) here
-              ∙ on) in omega arith);
-          notes = listed W x.published y.notes a.published b.notes;
-          shown = λ on. subst (λ (z : Slot). Show record { slot = i; generation = z.generation } z.descr y.notes) here
-              (shows W (id_at W i) (at W i).descr y.notes sh.safe (let one =
-              (sh.safe.slots i (in-shape k s W sh i inside)).shown (ap (λ (z : Slot). may_be_held z.phase) here ∙ on) in
-              omega arith) b.notes);
-        }
+met k s a2 sh id i v inside a = search (arith, listed, shows)
 
 pub past-here : (k : Shape) (s : Table) (W : WorldState) (sh : IsShown k s W) (i : ℕ) → i < k.slots
     → IsPast W (look i (word s i))
-past-here k s W sh i inside = let now = found-age k s W sh i inside in let is = found-is k s W sh i inside in (
-  (let goal : word_age (word s i) ≤ age (at W i) = omega arith in goal),
-  λ e. let last : (at W i).generation ≡ W.shape.max_gen =
-      (sh.safe.slots i (in-shape k s W sh i inside)).last (sym (ap (λ (x : Word). x.phase) is) ∙ e) in
-      let same : (decoded (word s i)).generation ≡ (at W i).generation =
-      ap (λ (x : Word). x.generation) is in
-      (let goal : W.shape.max_gen ≤ (decoded (word s i)).generation = omega arith in goal),
-)
+past-here k s a2 sh i inside = grind arith
 
 pub reader-looks : (k : Shape) (s : Table) (W : WorldState) (sh : IsShown k s W) (id i : ℕ) → i < k.slots
     → (r : ReaderView) → OfReader W sh.next sh.owner id r
     → OfReader W sh.next sh.owner id (reader_looked r i (word s i))
-reader-looks k s W sh id i inside r mine =
-    record {
-      shape = mine.shape;
-      born = mine.born;
-      mine = mine.mine;
-      held = mine.held;
-      notes = mine.notes;
-      looks = (past-here k s W sh i inside, mine.looks);
-    }
+reader-looks k s a2 sh id i inside r mine = search arith
 
 pub of-on : {A : Type 0} (P : A → Type 0) (f : A → A) (x : Option A) → ((a : A) → P a → P (f a)) → IfSome x P
     → IfSome (option_map f x) P
-of-on P f None go h = tt
-of-on P f (Some a) go h = go a h
+of-on a0 a1 a2 a3 a4 = search arith
 
 pub turn-reader : (v : View) (g : ReaderView → ReaderView) → ((x : ReaderView) → (g x).number ≡ x.number)
     → Turns v (view v.keeper (option_map g v.reader))
@@ -284,63 +199,34 @@ turn-keeper v f = record { keeper = λ k e. (f k, ap (option_map f) e); reader =
 
 pub turn-to : (v : View) (r r' : ReaderView) → v.reader ≡ Some r → r'.number ≡ r.number
     → Turns v (view v.keeper (Some r'))
-turn-to v r r' is same = record {
-  keeper = λ k e. (k, e);
-  reader = λ x e. (r', refl, same ∙ ap (λ (z : ReaderView). z.number) (same_Some r x (sym is ∙ e)));
-}
+turn-to v r r' is same = search arith
 
 pub turn-keeper-to : (v : View) (k' : KeeperView) → Turns v (view (Some k') v.reader)
-turn-keeper-to v k' = record { keeper = λ k e. (k', refl); reader = λ x e. (x, e, refl) }
+turn-keeper-to v k' = search arith
 
 pub looks-agree : (k : Shape) (s : Table) (W : WorldState) (sh : IsShown k s W) (id i : ℕ) (v : View) → i < k.slots
     → Agrees W sh.keeper sh.next sh.owner id v → Agrees W sh.keeper sh.next sh.owner id
     (looked_view v i (word s i))
-looks-agree k s W sh id i v inside a = (
-  a.0,
-  of-on (OfReader W sh.next sh.owner id)
-      (λ r. reader_looked r i (word s i)) v.reader (reader-looks k s W sh id i inside) a.1,
-)
+looks-agree k s a2 sh id i v inside a = grind arith
 
 -- looks stay behind as slots get older
 pub looks-stay : (w w' : WorldState) (ls : List Look) → w'.shape ≡ w.shape → ((j : ℕ) → age (at w j) ≤ age (at w' j))
     → NotAhead w ls → NotAhead w' ls
 looks-stay w w' [] same up h = tt
-looks-stay w w' (l ∷ ls) same up h = let a = h.0.0 in let b = up l.slot in let m : w'.shape.max_gen ≡ w.shape.max_gen =
-    ap (λ (z : Shape). z.max_gen) same in (
-      (
-        (let goal : word_age l.word ≤ age (at w' l.slot) = omega arith in goal),
-        λ e. let c = h.0.1 e in
-            (let goal : w'.shape.max_gen ≤ (decoded l.word).generation = omega arith in goal),
-      ),
-      looks-stay w w' ls same up h.1,
-    )
+looks-stay w w' (l ∷ ls) same up h = search (arith, looks-stay w w' ls same up h.1)
 
 -- notes stay as more is published
 pub notes-stay : (w w' : WorldState) (xs : List Note) → ((id : Id) (d : Descr) → given_as w id d ≤ given_as w' id d)
     → AreNoted w xs → AreNoted w' xs
 notes-stay w w' [] up h = tt
-notes-stay w w' (x ∷ xs) up h = let a = h.0 in let b = up x.id x.descr in (omega arith, notes-stay w w' xs up h.1)
+notes-stay w w' (x ∷ xs) up h = search (arith, notes-stay w w' xs up h.1)
 
 -- what a step on the holds leaves to the keeper's part, and to readers that it leaves alone
 pub keeper-stays : (w : WorldState) (hs : List Hold) (keeper next j : ℕ) (v : KeeperView) → OfKeeper w keeper next j v
     → OfKeeper (with_holders w hs) keeper next j v
-keeper-stays w hs keeper next j v a = record {
-  shape = a.shape;
-  mine = a.mine;
-  slots = a.slots;
-  published = a.published;
-  next_is = a.next_is;
-  looks = looks-stay w (with_holders w hs) v.looks refl (λ j. omega arith) a.looks;
-}
+keeper-stays w hs keeper next j v a = search arith
 
 pub reader-stays : (w : WorldState) (hs : List Hold) (next : ℕ) (owner : ℕ → ℕ) (j : ℕ) (v : ReaderView)
     → ((x : Id) → tally (is_copy v.number x) hs ≡ copies w v.number x) → OfReader w next owner j v
     → OfReader (with_holders w hs) next owner j v
-reader-stays w hs next owner j v same a = record {
-  shape = a.shape;
-  born = a.born;
-  mine = a.mine;
-  held = λ x. same x ∙ a.held x;
-  notes = notes-stay w (with_holders w hs) v.notes (λ i d. omega arith) a.notes;
-  looks = looks-stay w (with_holders w hs) v.looks refl (λ j. omega arith) a.looks;
-}
+reader-stays w hs next owner j v same a = grind arith
