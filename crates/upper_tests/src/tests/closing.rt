@@ -3,7 +3,7 @@ ghost use Rattle.std.specs.Prelude.{◌≡◌};
 ghost use Rattle.ob_store.specs.State.{shape_of};
 
 use super::FIRST;
-use super::lanes::THREE_CALLS;
+use super::all_lanes::THREE_CALLS;
 use super::opening::{Scene, over_shared, shared_with};
 use super::playing::{answers, plays_by_turns};
 use call_tables::{Line, pins_for};

@@ -1,6 +1,6 @@
 //! Tables of calls, played in the lanes of a manager behind its lock.
 use super::opening::{Scene, over_shared};
-use super::{holds, same};
+use super::{holds, holds_at, same};
 use call_tables::{Line, ROWS, to_call};
 use ob_manager::{Ask, Call, Limits, Reply};
 use ob_rights::Fault;
@@ -75,11 +75,6 @@ pub(super) fn answers_one<R: Abort + Wait>(
 ) -> Result<(), Fault> {
     holds(rt, is_answered(rt, alloc, shared, lane, line)?);
     Ok(())
-}
-
-/// Asserts that the line at a place of a table is answered as is due.
-fn holds_at(rt: &impl Abort, is_good: bool, place: usize) {
-    assert!(rt; is_good, "at place {place} of the table");
 }
 
 /// Makes the calls of a table, one after another, in a lane.

@@ -7,7 +7,7 @@ use super::holding::{Move, plays_moves};
 use super::members::{Script, plays_members};
 use super::replaying::replays;
 use super::turns::is_in_turn;
-use super::{blocking, holds, lanes, playing, racing, same};
+use super::{all_lanes, blocking, holds, playing, racing, same};
 use call_tables::{Line, manager_over, pins_for, started};
 use ob_manager::Limits;
 use ob_rights::Fault;
@@ -97,7 +97,7 @@ fn plays<R: Abort + Wait + Threads + Sync>(
 ) -> Result<Vec<Lane>, Fault> {
     match scene {
         Scene::ByTurns(table) => playing::plays_by_turns(rt, alloc, shared, table),
-        Scene::AllLanes => lanes::plays_all_lanes(rt, alloc, shared),
+        Scene::AllLanes => all_lanes::plays_all_lanes(rt, alloc, shared),
         Scene::Holds(moves) => plays_moves(rt, alloc, shared, readers, moves),
         Scene::Block => blocking::plays_a_block(rt, alloc, shared),
         Scene::Race => racing::plays_a_race(rt, alloc, shared, readers),
