@@ -1,6 +1,5 @@
 ghost use Rattle.std.specs.Prelude.{◌≡◌, true};
 
-mod answers;
 mod dues;
 mod filling;
 mod handles;

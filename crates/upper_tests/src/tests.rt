@@ -1,7 +1,6 @@
 ghost use Rattle.std.specs.Prelude.{◌≡◌, true};
 
 mod all_lanes;
-mod blocking;
 mod closing;
 mod console;
 mod crowd;
@@ -11,7 +10,6 @@ mod members;
 mod opening;
 mod options;
 mod playing;
-mod racing;
 mod recording;
 mod replaying;
 mod turns;

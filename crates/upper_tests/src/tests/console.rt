@@ -54,7 +54,8 @@ fn a_read_fault_leaves_the_complete_lines_answered(rt: HostRuntime) {
     let mut source = Wired::new(Failing {
         text: &SCRIPT[..40],
     });
-    let (fault, due) = (Err(RunFault::Read), b"p1 t1\nh4 new s0.1\n");
+    let fault = Err(RunFault::Read);
+    let due = b"p1 t1\nh4 new s0.1\n";
     ends_within(&rt, rt.alloc(), AMPLE, &mut source, fault, due);
 }
 
@@ -105,7 +106,9 @@ fn fills<R: Abort>(
 
 #[test]
 fn a_writer_that_is_full_is_a_write_fault(rt: HostRuntime) {
-    let (alloc, fault, due) = (rt.alloc(), Err(RunFault::Write), b"p1 t1\nh4 new s0.1\nh8");
+    let alloc = rt.alloc();
+    let fault = Err(RunFault::Write);
+    let due = b"p1 t1\nh4 new s0.1\nh8";
     fills(&rt, alloc, &mut [0; 20], true, fault, due);
     fills(&rt, alloc, &mut [0; 20], false, fault, due);
 }

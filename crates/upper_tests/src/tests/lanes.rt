@@ -115,7 +115,8 @@ fn a_read_fault_leaves_bad_lines_printed_and_makes_no_call(rt: HostRuntime) {
     let mut source = Wired::new(Failing {
         text: b"spawn 1\nx\n@1 spawn 1\ny\nz",
     });
-    let (fault, due) = (Err(LanesFault::Read), b"bad line 2\nbad line 4\n");
+    let fault = Err(LanesFault::Read);
+    let due = b"bad line 2\nbad line 4\n";
     ends(&rt, rt.alloc(), 1, &mut source, fault, due);
 }
 
@@ -129,17 +130,21 @@ fn fills<R: Abort + Wait + Threads + Sync>(
     page: &mut [u8],
     due: &[u8],
 ) {
-    let mut source = Wired::new(script);
-    let mut sink = Wired::new(Page::new(page, false));
-    let ended = run_with(rt, alloc, lanes, &mut source, &mut sink);
-    drop(sink);
+    let ended = run_with(
+        rt,
+        alloc,
+        lanes,
+        &mut Wired::new(script),
+        &mut Wired::new(Page::new(page, false)),
+    );
     same(rt, ended, Err(LanesFault::Write));
     same(rt, &page[..], due);
 }
 
 #[test]
 fn a_full_sink_is_a_write_fault(rt: HostRuntime) {
-    let (alloc, due) = (rt.alloc(), b"lane 0\np1 t1\nlane 1\n");
+    let alloc = rt.alloc();
+    let due = b"lane 0\np1 t1\nlane 1\n";
     fills(&rt, alloc, 1, b"spawn 1\n@1 spawn 2\n", &mut [0; 20], due);
     fills(&rt, alloc, 64, b"x\nspawn 1\n", &mut [0; 4], b"bad ");
 }

@@ -16,8 +16,6 @@ enum Due {
     Bad(Option<(&'static str, u32, u32)>),
 }
 
-use Due::{Bad, Numbers, Paths};
-
 /// The greatest number of generations, and of wait numbers.
 const LAST: u32 = 4_294_967_295;
 
@@ -28,66 +26,66 @@ const TIMES: u32 = 2_147_483_647;
 /// The limits without an argument.
 const USUAL: [u32; 8] = [64, 64, 256, 1_024, 1_000_000, PINS, LAST, TIMES];
 
-const NO_SLOTS: Due = Bad(Some(("slots", 1, 65_536)));
+const NO_SLOTS: Due = Due::Bad(Some(("slots", 1, 65_536)));
 
-const NO_PROCESSES: Due = Bad(Some(("processes", 1, 65_536)));
+const NO_PROCESSES: Due = Due::Bad(Some(("processes", 1, 65_536)));
 
-const NO_THREADS: Due = Bad(Some(("threads", 1, 65_536)));
+const NO_THREADS: Due = Due::Bad(Some(("threads", 1, 65_536)));
 
-const NO_HANDLES: Due = Bad(Some(("handles", 1, 16_384)));
+const NO_HANDLES: Due = Due::Bad(Some(("handles", 1, 16_384)));
 
-const NO_WAITS: Due = Bad(Some(("waits", 1, LAST)));
+const NO_WAITS: Due = Due::Bad(Some(("waits", 1, LAST)));
 
-const NO_PINS: Due = Bad(Some(("max-pins", 1, PINS)));
+const NO_PINS: Due = Due::Bad(Some(("max-pins", 1, PINS)));
 
-const NO_GENERATIONS: Due = Bad(Some(("max-gen", 1, LAST)));
+const NO_GENERATIONS: Due = Due::Bad(Some(("max-gen", 1, LAST)));
 
-const NO_RECURSION: Due = Bad(Some(("max-recursion", 1, TIMES)));
+const NO_RECURSION: Due = Due::Bad(Some(("max-recursion", 1, TIMES)));
 
-const NO_LANES: Due = Bad(Some(("lanes", 0, 64)));
+const NO_LANES: Due = Due::Bad(Some(("lanes", 0, 64)));
 
 /// Command lines, each with what is due to be read of it.
 #[rattlefmt::skip]
 const ROWS: &[(&[&str], Due)] = &[
-    (&[], Numbers(USUAL, 0)),
-    (&["--"], Numbers(USUAL, 0)),
+    (&[], Due::Numbers(USUAL, 0)),
+    (&["--"], Due::Numbers(USUAL, 0)),
     // each option alone, at its ends and past them, in both forms
-    (&["--slots=1"], Numbers([1, 64, 256, 1_024, 1_000_000, PINS, LAST, TIMES], 0)),
-    (&["--slots", "65536"], Numbers([65_536, 64, 256, 1_024, 1_000_000, PINS, LAST, TIMES], 0)),
+    (&["--slots=1"], Due::Numbers([1, 64, 256, 1_024, 1_000_000, PINS, LAST, TIMES], 0)),
+    (&["--slots", "65536"], Due::Numbers([65_536, 64, 256, 1_024, 1_000_000, PINS, LAST, TIMES], 0)),
     (&["--slots", "0"], NO_SLOTS),
     (&["--slots", "65537"], NO_SLOTS),
-    (&["--processes", "1"], Numbers([64, 1, 256, 1_024, 1_000_000, PINS, LAST, TIMES], 0)),
-    (&["--processes=65536"], Numbers([64, 65_536, 256, 1_024, 1_000_000, PINS, LAST, TIMES], 0)),
+    (&["--processes", "1"], Due::Numbers([64, 1, 256, 1_024, 1_000_000, PINS, LAST, TIMES], 0)),
+    (&["--processes=65536"], Due::Numbers([64, 65_536, 256, 1_024, 1_000_000, PINS, LAST, TIMES], 0)),
     (&["--processes", "0"], NO_PROCESSES),
     (&["--processes=65537"], NO_PROCESSES),
-    (&["--threads=1"], Numbers([64, 64, 1, 1_024, 1_000_000, PINS, LAST, TIMES], 0)),
-    (&["--threads", "65536"], Numbers([64, 64, 65_536, 1_024, 1_000_000, PINS, LAST, TIMES], 0)),
+    (&["--threads=1"], Due::Numbers([64, 64, 1, 1_024, 1_000_000, PINS, LAST, TIMES], 0)),
+    (&["--threads", "65536"], Due::Numbers([64, 64, 65_536, 1_024, 1_000_000, PINS, LAST, TIMES], 0)),
     (&["--threads=0"], NO_THREADS),
     (&["--threads", "65537"], NO_THREADS),
-    (&["--handles", "1"], Numbers([64, 64, 256, 1, 1_000_000, PINS, LAST, TIMES], 0)),
-    (&["--handles=16384"], Numbers([64, 64, 256, 16_384, 1_000_000, PINS, LAST, TIMES], 0)),
-    (&["--handles", "2"], Numbers([64, 64, 256, 2, 1_000_000, PINS, LAST, TIMES], 0)),
+    (&["--handles", "1"], Due::Numbers([64, 64, 256, 1, 1_000_000, PINS, LAST, TIMES], 0)),
+    (&["--handles=16384"], Due::Numbers([64, 64, 256, 16_384, 1_000_000, PINS, LAST, TIMES], 0)),
+    (&["--handles", "2"], Due::Numbers([64, 64, 256, 2, 1_000_000, PINS, LAST, TIMES], 0)),
     (&["--handles", "0"], NO_HANDLES),
     (&["--handles=16385"], NO_HANDLES),
-    (&["--waits=1"], Numbers([64, 64, 256, 1_024, 1, PINS, LAST, TIMES], 0)),
-    (&["--waits", "4294967295"], Numbers([64, 64, 256, 1_024, LAST, PINS, LAST, TIMES], 0)),
+    (&["--waits=1"], Due::Numbers([64, 64, 256, 1_024, 1, PINS, LAST, TIMES], 0)),
+    (&["--waits", "4294967295"], Due::Numbers([64, 64, 256, 1_024, LAST, PINS, LAST, TIMES], 0)),
     (&["--waits=0"], NO_WAITS),
     (&["--waits", "4294967296"], NO_WAITS),
-    (&["--max-pins", "1"], Numbers([64, 64, 256, 1_024, 1_000_000, 1, LAST, TIMES], 0)),
-    (&["--max-pins=1073741823"], Numbers(USUAL, 0)),
+    (&["--max-pins", "1"], Due::Numbers([64, 64, 256, 1_024, 1_000_000, 1, LAST, TIMES], 0)),
+    (&["--max-pins=1073741823"], Due::Numbers(USUAL, 0)),
     (&["--max-pins", "0"], NO_PINS),
     (&["--max-pins=1073741824"], NO_PINS),
-    (&["--max-gen=1"], Numbers([64, 64, 256, 1_024, 1_000_000, PINS, 1, TIMES], 0)),
-    (&["--max-gen", "4294967295"], Numbers(USUAL, 0)),
+    (&["--max-gen=1"], Due::Numbers([64, 64, 256, 1_024, 1_000_000, PINS, 1, TIMES], 0)),
+    (&["--max-gen", "4294967295"], Due::Numbers(USUAL, 0)),
     (&["--max-gen=0"], NO_GENERATIONS),
     (&["--max-gen", "4294967296"], NO_GENERATIONS),
-    (&["--max-recursion", "1"], Numbers([64, 64, 256, 1_024, 1_000_000, PINS, LAST, 1], 0)),
-    (&["--max-recursion=2147483647"], Numbers(USUAL, 0)),
+    (&["--max-recursion", "1"], Due::Numbers([64, 64, 256, 1_024, 1_000_000, PINS, LAST, 1], 0)),
+    (&["--max-recursion=2147483647"], Due::Numbers(USUAL, 0)),
     (&["--max-recursion", "0"], NO_RECURSION),
     (&["--max-recursion=2147483648"], NO_RECURSION),
-    (&["--lanes=0"], Numbers(USUAL, 0)),
-    (&["--lanes", "1"], Numbers(USUAL, 1)),
-    (&["--slots=4", "--lanes", "64"], Numbers([4, 64, 256, 1_024, 1_000_000, PINS, LAST, TIMES], 64)),
+    (&["--lanes=0"], Due::Numbers(USUAL, 0)),
+    (&["--lanes", "1"], Due::Numbers(USUAL, 1)),
+    (&["--slots=4", "--lanes", "64"], Due::Numbers([4, 64, 256, 1_024, 1_000_000, PINS, LAST, TIMES], 64)),
     (&["--lanes=65"], NO_LANES),
     (&["--lanes=4294967295"], NO_LANES),
     (&["--lanes=-1"], NO_LANES),
@@ -95,12 +93,12 @@ const ROWS: &[(&[&str], Due)] = &[
     (&["--lanes"], NO_LANES),
     (&["--lanes=", "--slots=0"], NO_LANES),
     // several, and one twice
-    (&["--handles", "2", "--slots=4", "--max-gen", "3"], Numbers([4, 64, 256, 2, 1_000_000, PINS, 3, TIMES], 0)),
+    (&["--handles", "2", "--slots=4", "--max-gen", "3"], Due::Numbers([4, 64, 256, 2, 1_000_000, PINS, 3, TIMES], 0)),
     (&["--lanes=64", "--handles", "0"], NO_HANDLES),
     (&["--slots=4", "--lanes=65"], NO_LANES),
-    (&["--slots=4", "--slots=4"], Bad(None)),
-    (&["--slots=4", "--slots", "4", "--load", "x", "y"], Bad(None)),
-    (&["--lanes=2", "--lanes=2"], Bad(None)),
+    (&["--slots=4", "--slots=4"], Due::Bad(None)),
+    (&["--slots=4", "--slots", "4", "--load", "x", "y"], Due::Bad(None)),
+    (&["--lanes=2", "--lanes=2"], Due::Bad(None)),
     // no numbers
     (&["--slots"], NO_SLOTS),
     (&["--slots="], NO_SLOTS),
@@ -111,27 +109,27 @@ const ROWS: &[(&[&str], Due)] = &[
     (&["--slots", "+1"], NO_SLOTS),
     (&["--slots", "18446744073709551617"], NO_SLOTS),
     // no options
-    (&["x"], Bad(None)),
-    (&[""], Bad(None)),
-    (&["--nonsense"], Bad(None)),
-    (&["--max_pins=4"], Bad(None)),
-    (&["--slot=4"], Bad(None)),
-    (&["-s", "4"], Bad(None)),
-    (&["--", "--slots=4"], Bad(None)),
-    (&["--slots=4", "5"], Bad(None)),
+    (&["x"], Due::Bad(None)),
+    (&[""], Due::Bad(None)),
+    (&["--nonsense"], Due::Bad(None)),
+    (&["--max_pins=4"], Due::Bad(None)),
+    (&["--slot=4"], Due::Bad(None)),
+    (&["-s", "4"], Due::Bad(None)),
+    (&["--", "--slots=4"], Due::Bad(None)),
+    (&["--slots=4", "5"], Due::Bad(None)),
     // what is loaded stands beside no limit, and a savestate beside no lanes
-    (&["--slots=4"], Paths(None, None)),
-    (&["--load", "a b"], Paths(Some("a b"), None)),
-    (&["--save=a", "--handles", "2"], Paths(None, Some("a"))),
-    (&["--save", "a", "--load=b"], Paths(Some("b"), Some("a"))),
-    (&["--load"], Bad(None)),
-    (&["--save"], Bad(None)),
-    (&["--load=a", "--load=a"], Bad(None)),
-    (&["--save", "a", "--save", "b"], Bad(None)),
-    (&["--load=a", "--slots=64"], Bad(None)),
-    (&["--max-recursion=2", "--save=b", "--load=a"], Bad(None)),
-    (&["--load=a", "--lanes=0"], Bad(None)),
-    (&["--lanes=2", "--save=a"], Bad(None)),
+    (&["--slots=4"], Due::Paths(None, None)),
+    (&["--load", "a b"], Due::Paths(Some("a b"), None)),
+    (&["--save=a", "--handles", "2"], Due::Paths(None, Some("a"))),
+    (&["--save", "a", "--load=b"], Due::Paths(Some("b"), Some("a"))),
+    (&["--load"], Due::Bad(None)),
+    (&["--save"], Due::Bad(None)),
+    (&["--load=a", "--load=a"], Due::Bad(None)),
+    (&["--save", "a", "--save", "b"], Due::Bad(None)),
+    (&["--load=a", "--slots=64"], Due::Bad(None)),
+    (&["--max-recursion=2", "--save=b", "--load=a"], Due::Bad(None)),
+    (&["--load=a", "--lanes=0"], Due::Bad(None)),
+    (&["--lanes=2", "--save=a"], Due::Bad(None)),
 ];
 
 fn args_of(alloc: Global, words: &[&str]) -> Result<Vec<String>, AllocError> {
@@ -158,19 +156,19 @@ fn numbers_of(limits: &Limits) -> [u32; 8] {
 /// Whether these options are due.
 fn are_read(options: &Options, due: Due) -> bool {
     match due {
-        Numbers(limits, lanes) => {
+        Due::Numbers(limits, lanes) => {
             numbers_of(&options.limits) == limits && options.lanes == lanes
         }
-        Paths(load, save) => options.load.as_deref() == load && options.save.as_deref() == save,
-        Bad(_) => false,
+        Due::Paths(load, save) => options.load.as_deref() == load && options.save.as_deref() == save,
+        Due::Bad(_) => false,
     }
 }
 
 /// Whether it is due that a command line is bad, and that this is said of it.
 fn is_told(args: &[String], due: Due) -> bool {
     match (without_its_number(args), due) {
-        (Some(option), Bad(Some(told))) => (option.name, option.least, option.most) == told,
-        (None, Bad(None)) => true,
+        (Some(option), Due::Bad(Some(told))) => (option.name, option.least, option.most) == told,
+        (None, Due::Bad(None)) => true,
         _ => false,
     }
 }
