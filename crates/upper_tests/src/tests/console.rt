@@ -133,6 +133,13 @@ fn a_pin_that_nothing_races_is_never_busy(rt: HostRuntime) -> Result<(), Fail> {
         b"pinned s0.1 semaphore 5\ncard s0.1 semaphore 5 grant 0x2\nunpinned s0.1\n",
         20,
     )?;
-    ends_within(&rt, alloc, AMPLE, &mut Wired::new(script.as_slice()), Ok(()), due.as_slice());
+    ends_within(
+        &rt,
+        alloc,
+        AMPLE,
+        &mut Wired::new(script.as_slice()),
+        Ok(()),
+        due.as_slice(),
+    );
     Ok(())
 }

@@ -4,9 +4,7 @@ use super::playing::{answers, is_last};
 use super::{FIRST, SECOND, holds};
 use call_tables::{Line, PLAIN};
 use ob_manager::CallOf::{CloseHandle, MakeEvent, Reap, SetEvent, Spawn, StartThread, WaitFor};
-use ob_manager::Reply::{
-    Closed, Code, Done, Made, Pending, Reaped, Refused, Spawned, Started,
-};
+use ob_manager::Reply::{Closed, Code, Done, Made, Pending, Reaped, Refused, Spawned, Started};
 use ob_manager::{Call, Card, Limits, Mode, Reply, Timeout};
 use ob_rights::{Fault, Kind, Rights};
 use ob_shared::{Lane, Shared};

@@ -83,7 +83,14 @@ const ROWS: &[Row] = &[
 #[test]
 fn scripts_are_answered_lane_by_lane(rt: HostRuntime) {
     for (lanes, script, due) in ROWS {
-        ends(&rt, rt.alloc(), *lanes, &mut Wired::new(*script), Ok(()), due);
+        ends(
+            &rt,
+            rt.alloc(),
+            *lanes,
+            &mut Wired::new(*script),
+            Ok(()),
+            due,
+        );
     }
 }
 
@@ -181,6 +188,13 @@ fn sixty_four_lanes_run_at_once(rt: HostRuntime) -> Result<(), Fail> {
     add_crowd(&mut script, rt.alloc())?;
     let mut due = Vec::new(rt.alloc());
     add_answers(&mut due, rt.alloc())?;
-    ends(&rt, rt.alloc(), 64, &mut Wired::new(script.as_slice()), Ok(()), due.as_slice());
+    ends(
+        &rt,
+        rt.alloc(),
+        64,
+        &mut Wired::new(script.as_slice()),
+        Ok(()),
+        due.as_slice(),
+    );
     Ok(())
 }

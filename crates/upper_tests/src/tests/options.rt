@@ -159,7 +159,8 @@ fn are_read(options: &Options, due: Due) -> bool {
         Due::Numbers(limits, lanes) => {
             numbers_of(&options.limits) == limits && options.lanes == lanes
         }
-        Due::Paths(load, save) => options.load.as_deref() == load && options.save.as_deref() == save,
+        Due::Paths(load, save) => options.load.as_deref() == load
+            && options.save.as_deref() == save,
         Due::Bad(_) => false,
     }
 }
