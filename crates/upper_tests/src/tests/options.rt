@@ -180,8 +180,7 @@ fn is_due(alloc: Global, words: &[&str], due: Due) -> Result<bool, AllocError> {
     let is_bad = is_told(args.as_slice(), due);
     Ok(match read_options(alloc, args) {
         Ok(options) => are_read(&options, due),
-        Err(OptionsFault::BadLine) => is_bad,
-        Err(_) => false,
+        Err(fault) => is_bad && matches!(fault, OptionsFault::BadLine),
     })
 }
 
@@ -208,12 +207,20 @@ const IN_HELP: &[&str] = &[
     "--lanes <NUMBER>", "0 to 64, default 0.",
 ];
 
+/// Whether a fault is the help, and a text is in it.
+fn has_text(fault: &OptionsFault, text: &str) -> bool {
+    match fault {
+        OptionsFault::Help { text: help } => help.contains(text),
+        _ => false,
+    }
+}
+
 /// Whether a text is in the help.
 fn is_in_help(alloc: Global, text: &str) -> Result<bool, AllocError> {
     let args = args_of(alloc, &["--slots=4", "--help"])?;
     Ok(match read_options(alloc, args) {
-        Err(OptionsFault::Help { text: help }) => help.contains(text),
-        _ => false,
+        Ok(_options) => false,
+        Err(fault) => has_text(&fault, text),
     })
 }
 
