@@ -2,16 +2,12 @@ ghost use Rattle.std.specs.Prelude.{◌≡◌, ◌≤◌, []};
 
 use crate::tests::same;
 use least_due::{Dues, PLACES_MAX};
+use std::alloc::{AllocError, Global};
 use std::process::Abort;
 use std::test::Fail;
 
 /// Fewer than there may be, since so many take gigabytes.
 const MANY: usize = 5_000;
-
-#[test]
-fn places_are_added_though_memory_fails(rt: HostRuntime) -> Result<(), Fail> {
-    grows_to(&rt, &mut Dues::new(rt.alloc()), MANY)
-}
 
 fn grows_to(rt: &impl Abort, dues: &mut Dues, most: usize) -> Result<(), Fail>
     requires small { most ≤ PLACES_MAX }
@@ -27,12 +23,18 @@ fn grows_to(rt: &impl Abort, dues: &mut Dues, most: usize) -> Result<(), Fail>
     Ok(())
 }
 
+/// So many places from the first. What was given serves a second try.
+fn made(alloc: Global, most: usize) -> Result<Dues, AllocError>
+    requires { most ≤ PLACES_MAX }
+{
+    match Dues::with_places(alloc, most) {
+        Ok(dues) => Ok(dues),
+        Err(_) => Dues::with_places(alloc, most),
+    }
+}
+
 #[test]
-fn places_are_made_after_want_of_memory(rt: HostRuntime) -> Result<(), Fail> {
-    let made = match Dues::with_places(rt.alloc(), MANY) {
-        Ok(dues) => dues,
-        Err(_) => Dues::with_places(rt.alloc(), MANY)?,
-    };
-    same(&rt, made.len(), MANY);
-    Ok(())
+fn places_are_made_and_added_though_memory_fails(rt: HostRuntime) -> Result<(), Fail> {
+    same(&rt, made(rt.alloc(), MANY)?.len(), MANY);
+    grows_to(&rt, &mut Dues::new(rt.alloc()), MANY)
 }

@@ -1,19 +1,19 @@
 ghost use Rattle.std.specs.Prelude.{◌≡◌, ◌<◌, ◌≤◌, true, IsTrue, IfOk, IfSome};
 ghost use Rattle.pin_core.specs.Shapes.{IsWithinLimits};
 ghost use Rattle.pin_core.specs.Worlds.{slot_of};
-ghost use Rattle.pin_words.specs.Keepers.{IsFresh, IsFreshWith};
+ghost use Rattle.pin_words.specs.Keepers.{IsFresh};
 
 use crate::tests::{holds, marked, next, same};
+use call_tables::{pins_for, started};
+use ob_manager::Limits;
 use ob_rights::{Fault, Kind};
-use pin_core::{Descr, Id, Phase, Shape, Slot};
-use pin_words::{
-    Keeper, LockedPins, Opening, PinFault, PinKeeper, Pins, Reader, Reclaim, Reopening,
-};
+use pin_core::{Descr, Id, Phase, Shape};
+use pin_words::{Keeper, LockedPins, PinFault, PinKeeper, Reader, Reclaim};
 use std::alloc::Global;
 use std::process::Abort;
-use std::sync::{Mutex, Wait};
+use std::sync::Wait;
 use std::test::Fail;
-use std::thread::join;
+use std::thread::{Threads, join};
 
 const SEMAPHORE: Descr = Descr {
     kind: Kind::Semaphore,
@@ -114,14 +114,6 @@ fn is_fresh<K: Counted>(keeper: &K, shape: Shape) -> bool
     keeper.count() == shape.slots
 }
 
-// What it published is just its live and closing slots.
-fn is_fresh_with<K: Counted>(keeper: &K, shape: Shape) -> bool
-    requires { IsFreshWith (K.kept keeper.now) shape (K.kept keeper.now).slots }
-    ensures { result ≡ true }
-{
-    keeper.count() == shape.slots
-}
-
 // The slot of a held Id is one of the keeper's.
 fn meet(keeper: &mut Keeper, reader: &mut Reader, id: Id) -> bool
     requires { reader.old.table ≡ keeper.old.table }
@@ -210,87 +202,19 @@ fn pin_the_second(rt: &impl Abort, keeper: &mut Keeper, a: &mut Reader) {
     same(rt, a.try_pin(THIRD), Err(PinFault::Stale));
 }
 
-#[test]
-fn a_pinned_slot_is_kept(rt: HostRuntime) -> Result<(), Fail> {
-    let Some(shape) = Shape::checked(1, 2, 2) else {
-        panic!(rt; "no shape")
-    };
-    let (pins, opening) = Pins::new(rt.alloc(), shape)?;
-    let Ok((mut keeper, mut a)) = opening.start(&pins) else {
-        panic!(rt; "no memory")
-    };
-    holds(&rt, is_fresh(&keeper, shape));
-    let Some(mut b) = keeper.reader() else {
-        panic!(rt; "no reader")
-    };
-    pin_and_close(&rt, &mut keeper, &mut a, &mut b);
-    Ok(())
-}
-
-#[test]
-fn two_threads_pin_and_release(rt: HostRuntime) -> Result<(), Fail> {
-    let Some(shape) = Shape::checked(2, 1073741823, 9) else {
-        panic!(rt; "no shape")
-    };
-    let Ok((pins, opening)) = Pins::new(rt.alloc(), shape) else {
-        panic!(rt; "no memory")
-    };
-    let Ok((mut keeper, mut a)) = opening.start(&pins) else {
-        panic!(rt; "no memory")
-    };
-    let Some(mut b) = keeper.reader() else {
-        panic!(rt; "no reader")
-    };
-    holds(&rt, publish(&mut keeper, 1));
-    let (x, y) = join(
-        &rt,
-        || spin(&rt, &mut a, BESIDE),
-        || spin(&rt, &mut b, BESIDE),
-    );
-    same(&rt, x, 0);
-    same(&rt, y, 0);
-    let locked = Mutex::new(keeper);
-    let mut guard = locked.lock(&rt);
-    holds(&rt, close(&mut *guard, 1));
-    same(&rt, reclaim(&mut *guard, 1), Some(Reclaim::Freed));
-    drop(guard);
-    if a.held().is_empty() {
-        a.finish();
-    }
-    Ok(())
-}
-
-// What was given comes back, and serves a second try.
-fn start(opening: Opening, pins: &Pins) -> Option<(Keeper, Reader)>
-    requires { opening ≡ pins.now }
-    ensures { IfSome result (λ r. (r.0.table ≡ pins.now) × (r.1.table ≡ pins.now)) }
-{
-    match opening.start(pins) {
-        Ok(started) => Some(started),
-        Err(opening) => opening.start(pins).ok(),
-    }
-}
-
-/// Words and the right to their keeper. What was given serves a second try.
-fn pins_of(alloc: Global, shape: Shape) -> Result<(Pins, Opening), Fault>
-    requires { IsWithinLimits shape }
-    ensures { IfOk result (λ r. r.1 ≡ r.0) }
-{
-    match Pins::new(alloc, shape) {
-        Ok(made) => Ok(made),
-        Err(_) => Pins::new(alloc, shape),
-    }
-}
-
-/// Pins under a lock. What was given serves a second try.
-fn locked(alloc: Global, shape: Shape) -> Result<LockedPins, Fault>
-    requires { IsWithinLimits shape }
-    ensures { IfOk result (λ pins. IsFresh pins shape) }
-{
-    match LockedPins::new(alloc, shape) {
-        Ok(locked) => Ok(locked),
-        Err(_) => LockedPins::new(alloc, shape),
-    }
+/// Two threads pin an object and let it go, each with a reader of its own. Then it ends.
+fn spins<R: Abort + Wait + Threads + Sync>(
+    rt: &R,
+    keeper: &mut Keeper,
+    a: &mut Reader,
+    b: &mut Reader,
+) {
+    holds(rt, publish(keeper, 1));
+    let (x, y) = join(rt, || spin(rt, a, BESIDE), || spin(rt, b, BESIDE));
+    same(rt, x, 0);
+    same(rt, y, 0);
+    holds(rt, close(keeper, 1));
+    same(rt, reclaim(keeper, 1), Some(Reclaim::Freed));
 }
 
 fn meet_twice(rt: &impl Abort, keeper: &mut Keeper, reader: &mut Reader)
@@ -303,22 +227,6 @@ fn meet_twice(rt: &impl Abort, keeper: &mut Keeper, reader: &mut Reader)
     holds(rt, publish(keeper, 3));
     holds(rt, reader.try_pin(LAST).is_ok());
     holds(rt, meet(keeper, reader, LAST));
-}
-
-#[test]
-fn want_of_memory_gives_back_what_was_given(rt: HostRuntime) -> Result<(), Fail> {
-    let Some(shape) = Shape::checked(4, 2, 2) else {
-        panic!(rt; "no shape")
-    };
-    let Ok((pins, opening)) = pins_of(rt.alloc(), shape) else {
-        panic!(rt; "no memory")
-    };
-    let Some((mut keeper, mut reader)) = start(opening, &pins) else {
-        panic!(rt; "no memory")
-    };
-    meet_twice(&rt, &mut keeper, &mut reader);
-    holds(&rt, locked(rt.alloc(), shape).is_ok());
-    Ok(())
 }
 
 /// One of the calls of a keeper and of a reader, about a slot's present Id, and whether it could be made.
@@ -368,40 +276,84 @@ fn call_all(keeper: &mut Keeper, reader: &mut Reader, often: u32) -> bool {
     false
 }
 
-/// A reader meets its keeper so often.
-fn meet_often(keeper: &mut Keeper, reader: &mut Reader, often: u32)
+/// What is done with a keeper of pins in words.
+#[derive(Clone, Copy)]
+enum Course {
+    /// A slot that two readers have pinned is kept.
+    Keeps,
+    /// Two readers, each on a thread.
+    Spins,
+    /// All calls, of which none takes memory.
+    Calls,
+}
+
+/// Goes a course with a second reader.
+fn goes_with_two<R: Abort + Wait + Threads + Sync>(
+    rt: &R,
+    keeper: &mut Keeper,
+    a: &mut Reader,
+    course: Course,
+) -> Result<(), Fault> {
+    let Some(mut b) = keeper.reader() else {
+        return Err(Fault::Memory);
+    };
+    match course {
+        Course::Keeps => pin_and_close(rt, keeper, a, &mut b),
+        _ => spins(rt, keeper, a, &mut b),
+    }
+    Ok(())
+}
+
+/// Makes all calls, marked as what takes no memory.
+fn calls_marked(
+    rt: &impl Abort,
+    alloc: Global,
+    keeper: &mut Keeper,
+    reader: &mut Reader,
+) -> Result<(), Fault>
     requires { reader.old.table ≡ keeper.old.table }
 {
-    for turn in 0..often {
-        let _met = meet(
-            keeper,
-            reader,
-            Id {
-                slot: turn % 4,
-                generation: 1,
-            },
-        );
+    let mark = marked(alloc)?;
+    meet_twice(rt, keeper, reader);
+    let is_done = call_all(keeper, reader, 10_000);
+    drop(mark);
+    holds(rt, is_done);
+    Ok(())
+}
+
+/// Goes a course over a new keeper for so many slots, pins of one and generations of one.
+fn over_words<R: Abort + Wait + Threads + Sync>(
+    rt: &R,
+    alloc: Global,
+    most: [u32; 3],
+    course: Course,
+) -> Result<(), Fault> {
+    let [slots, pins, generations] = most;
+    let limits = Limits::checked(slots, 1, 1, 1, 1, pins, generations, 1)?;
+    let (pins, opening) = pins_for(alloc, limits)?;
+    let (mut keeper, mut reader) = started(opening, &pins)?;
+    holds(rt, is_fresh(&keeper, limits.shape()));
+    match course {
+        Course::Calls => calls_marked(rt, alloc, &mut keeper, &mut reader),
+        _ => goes_with_two(rt, &mut keeper, &mut reader, course),
     }
 }
 
 #[test]
+fn a_pinned_slot_is_kept(rt: HostRuntime) -> Result<(), Fail> {
+    over_words(&rt, rt.alloc(), [1, 2, 2], Course::Keeps)?;
+    Ok(())
+}
+
+#[test]
+fn two_threads_pin_and_release(rt: HostRuntime) -> Result<(), Fail> {
+    over_words(&rt, rt.alloc(), [2, 1_073_741_823, 9], Course::Spins)?;
+    Ok(())
+}
+
+#[test]
 fn calls_take_no_memory(rt: HostRuntime) -> Result<(), Fail> {
-    let Some(shape) = Shape::checked(4, 2, 1_000_000) else {
-        panic!(rt; "no shape")
-    };
-    let Ok((pins, opening)) = pins_of(rt.alloc(), shape) else {
-        panic!(rt; "no memory")
-    };
-    let Some((mut keeper, mut reader)) = start(opening, &pins) else {
-        panic!(rt; "no memory")
-    };
-    let mark = marked(rt.alloc())?;
-    meet_often(&mut keeper, &mut reader, 10_000);
-    let is_done = call_all(&mut keeper, &mut reader, 10_000);
-    drop(mark);
-    drop(reader);
-    drop(keeper);
-    holds(&rt, is_done);
+    over_words(&rt, rt.alloc(), [4, 2, 1_000_000], Course::Calls)?;
     Ok(())
 }
 
@@ -441,64 +393,27 @@ fn lock_all(pins: &mut LockedPins, often: u32) -> bool {
     false
 }
 
+/// Pins under a lock. What was given serves a second try.
+fn locked(alloc: Global, shape: Shape) -> Result<LockedPins, Fault>
+    requires { IsWithinLimits shape }
+    ensures { IfOk result (λ pins. IsFresh pins shape) }
+{
+    match LockedPins::new(alloc, shape) {
+        Ok(locked) => Ok(locked),
+        Err(_) => LockedPins::new(alloc, shape),
+    }
+}
+
 #[test]
 fn calls_under_a_lock_take_no_memory(rt: HostRuntime) -> Result<(), Fail> {
     let Some(shape) = Shape::checked(4, 2, 1_000_000) else {
-        panic!(rt; "no shape")
+        return Err(Fail::from(Fault::Parameter));
     };
-    let Ok(mut pins) = locked(rt.alloc(), shape) else {
-        panic!(rt; "no memory")
-    };
+    let mut pins = locked(rt.alloc(), shape)?;
     holds(&rt, is_fresh(&pins, shape));
     let mark = marked(rt.alloc())?;
     let is_done = lock_all(&mut pins, 10_000);
     drop(mark);
     holds(&rt, is_done);
-    Ok(())
-}
-
-/// A slot that is live at its third generation.
-const LIVE: Slot = Slot {
-    generation: 3,
-    phase: Phase::Live,
-    descr: SEMAPHORE,
-};
-
-/// Words that begin with such slots.
-#[tactic(auto, using(crate::proofs::GivenSlots::live_slots_open))]
-fn begun(alloc: Global, shape: Shape) -> Result<(Pins, Reopening), Fault>
-    requires within { IsWithinLimits shape }
-    requires aged { 3 ≤ shape.max_gen }
-    ensures { IfOk result (λ r. (r.0.shape ≡ shape) × (r.1.table ≡ r.0)) }
-{
-    let Ok(slots) = vec![in alloc; LIVE; shape.slots as usize] else {
-        return Err(Fault::Memory);
-    };
-    Pins::with_slots(alloc, shape, slots)
-}
-
-#[test]
-fn pins_begin_with_given_slots(rt: HostRuntime) -> Result<(), Fail> {
-    let Some(shape) = Shape::checked(2, 1, 9) else {
-        panic!(rt; "no shape")
-    };
-    let (pins, opening) = begun(rt.alloc(), shape)?;
-    let Ok((keeper, mut reader)) = opening.start(&pins) else {
-        panic!(rt; "no memory")
-    };
-    holds(&rt, is_fresh_with(&keeper, shape));
-    holds(&rt, reader.try_pin(THIRD).is_ok());
-    Ok(())
-}
-
-#[test]
-fn pins_under_a_lock_begin_with_given_slots(rt: HostRuntime) -> Result<(), Fail> {
-    let Some(shape) = Shape::checked(2, 1, 9) else {
-        panic!(rt; "no shape")
-    };
-    let slots = vec![in rt.alloc(); LIVE; shape.slots as usize]?;
-    let mut pins = LockedPins::with_slots(shape, slots);
-    holds(&rt, is_fresh_with(&pins, shape));
-    holds(&rt, pins.try_pin(THIRD).is_ok());
     Ok(())
 }

@@ -1,8 +1,9 @@
 //! Sixty-four members at once.
+use super::holds;
 use super::members::{Deed, Script};
 use super::opening::{Scene, over_shared};
-use super::playing::answers_one;
-use call_tables::PLAIN;
+use super::playing::is_answered_at;
+use call_tables::{Line, PLAIN};
 use ob_manager::CallOf::{
     CloseHandle, Counts, Duplicate, MakeEvent, MakeMutex, MakeSemaphore, Reap, ReleaseMutex,
     ReleaseSemaphore, ResetEvent, SetEvent, Spawn, StartThread, WaitFor,
@@ -83,66 +84,42 @@ pub(super) fn deed(number: u32, place: usize) -> Deed<'static> {
     acts_of(number, number % 100 + LASTING, id, slot)[place % ROUND]
 }
 
-/// A process for each member, and the lasting one.
-fn spawns<R: Abort + Wait>(
-    rt: &R,
-    alloc: Global,
-    shared: &Shared,
-    lane: &mut Lane,
-) -> Result<(), Fault> {
-    for number in 1..=LASTING {
-        let spawn = Spawn {
-            session: number % 3,
-        };
+/// How many calls lane 0 makes: a process for each member, and the lasting one; a second thread for each member; and
+/// eight objects that stay.
+const BEGINNING: u32 = 2 * LASTING + 7;
+
+/// The call of lane 0 at a place.
+fn beginning(place: u32) -> Line<'static> {
+    let number = place % LASTING + 1;
+    if place < LASTING {
         let spawned = Spawned {
             process: number,
             thread: number,
         };
-        answers_one(rt, alloc, shared, lane, (spawn, spawned))?;
-    }
-    Ok(())
-}
-
-/// A second thread for each member.
-fn starts<R: Abort + Wait>(
-    rt: &R,
-    alloc: Global,
-    shared: &Shared,
-    lane: &mut Lane,
-) -> Result<(), Fault> {
-    for process in 1..LASTING {
-        let started = Started {
-            thread: process + LASTING,
-        };
-        answers_one(rt, alloc, shared, lane, (StartThread { process }, started))?;
-    }
-    Ok(())
-}
-
-/// Eight objects that stay.
-fn makes<R: Abort + Wait>(
-    rt: &R,
-    alloc: Global,
-    shared: &Shared,
-    lane: &mut Lane,
-) -> Result<(), Fault> {
-    for slot in 0..8u32 {
-        let event = MakeEvent {
-            thread: LASTING,
-            make: PLAIN,
-            manual: false,
-            set: false,
-        };
-        let made = Made {
-            handle: slot * 4 + 4,
-            id: Id {
-                slot,
-                generation: 1,
+        return (
+            Spawn {
+                session: number % 3,
             },
-        };
-        answers_one(rt, alloc, shared, lane, (event, made))?;
+            spawned,
+        );
     }
-    Ok(())
+    if place < 2 * LASTING - 1 {
+        let thread = number + LASTING;
+        return (StartThread { process: number }, Started { thread });
+    }
+    let slot = (place + 1) % LASTING;
+    let event = MakeEvent {
+        thread: LASTING,
+        make: PLAIN,
+        manual: false,
+        set: false,
+    };
+    let id = Id {
+        slot,
+        generation: 1,
+    };
+    let handle = slot * 4 + 4;
+    (event, Made { handle, id })
 }
 
 /// The calls of lane 0.
@@ -150,11 +127,13 @@ pub(super) fn begins<R: Abort + Wait>(
     rt: &R,
     alloc: Global,
     shared: &Shared,
-    lane: &mut Lane,
+    lanes: &mut Vec<Lane>,
 ) -> Result<(), Fault> {
-    spawns(rt, alloc, shared, lane)?;
-    starts(rt, alloc, shared, lane)?;
-    makes(rt, alloc, shared, lane)
+    for place in 0..BEGINNING {
+        let line = beginning(place);
+        holds(rt, is_answered_at(rt, alloc, shared, lanes, 0, line)?);
+    }
+    Ok(())
 }
 
 /// Whether all waits of a member were answered, and it has pinned something.

@@ -2,7 +2,7 @@
 ghost use Rattle.std.specs.Prelude.{All, IsTrue};
 ghost use Rattle.ob_shared.specs.Members.{IsNew};
 
-use super::playing::{answers, room_for};
+use super::playing::answers;
 use super::turns::{Turns, Until};
 use super::{crowd, holds, turns, wanting};
 use call_tables::{Line, to_call};
@@ -67,52 +67,61 @@ fn act_at(script: Script, number: u32, place: usize) -> Deed<'static> {
     }
 }
 
-fn script_of(alloc: Global, script: Script, number: u32) -> Result<Vec<Act>, AllocError> {
+/// Adds the acts of a member.
+fn add_acts(
+    alloc: Global,
+    acts: &mut Vec<Act>,
+    script: Script,
+    number: u32,
+) -> Result<(), AllocError> {
     let many = acts_of(script);
-    let mut acts = Vec::new(alloc);
     if acts.reserve(many).is_err() {
         acts.reserve(many)?;
     }
     for place in 0..many {
         acts.push(act_at(script, number, place).to_act(alloc)?)?;
     }
-    Ok(acts)
+    Ok(())
 }
 
-/// A member of the next lane.
-fn member(
-    alloc: Global,
-    shared: &mut Shared,
-    reader: Reader,
-    script: Script,
-) -> Result<Member, Fault> {
-    let lane = shared.lane()?;
-    let script = script_of(alloc, script, lane.number())?;
-    Ok(Member {
-        lane,
-        reader,
-        script,
-        seen: Vec::new(alloc),
-    })
-}
-
-/// A member for each reader.
-fn members_of(
+/// Adds a member with a reader and without acts, if there is a reader.
+fn add_member(
     alloc: Global,
     shared: &mut Shared,
     readers: &mut Vec<Reader>,
-    script: Script,
-) -> Result<Vec<Member>, Fault> {
-    let mut members = Vec::new(alloc);
-    if members.reserve(readers.len()).is_err() {
-        members.reserve(readers.len())?;
+    members: &mut Vec<Member>,
+) -> Result<(), Fault> {
+    if let Some(reader) = readers.pop() {
+        members.push(Member {
+            lane: shared.lane()?,
+            reader,
+            script: Vec::new(alloc),
+            seen: Vec::new(alloc),
+        })?;
     }
-    for _ in 0..readers.len() {
-        if let Some(reader) = readers.pop() {
-            members.push(member(alloc, shared, reader, script)?)?;
+    Ok(())
+}
+
+/// Adds a member for each reader.
+fn add_members(
+    alloc: Global,
+    shared: &mut Shared,
+    readers: &mut Vec<Reader>,
+    members: &mut Vec<Member>,
+    script: Script,
+) -> Result<(), Fault> {
+    let many = readers.len();
+    if members.reserve(many).is_err() {
+        members.reserve(many)?;
+    }
+    for _ in 0..many {
+        add_member(alloc, shared, readers, members)?;
+        if let Some(member) = members.last_mut() {
+            let number = member.lane.number();
+            add_acts(alloc, &mut member.script, script, number)?;
         }
     }
-    Ok(members)
+    Ok(())
 }
 
 /// Whether no member has seen anything.
@@ -211,31 +220,37 @@ fn before(script: Script) -> &'static [Line<'static>] {
     }
 }
 
-/// The lanes of all members, and one more.
-fn lanes_of(alloc: Global, first: Lane, members: Vec<Member>) -> Result<Vec<Lane>, Fault> {
-    let mut lanes = room_for(alloc, 65)?;
-    lanes.push(first)?;
+/// Adds the lanes of all members.
+fn add_lanes_of(lanes: &mut Vec<Lane>, members: Vec<Member>) -> Result<(), Fault> {
     for member in members {
         let Member { lane, .. } = member;
         lanes.push(lane)?;
     }
-    Ok(lanes)
+    Ok(())
 }
 
-/// Lane 0 and the members do all they do. Their lanes.
+/// The first lane and the members do all they do. Their lanes are added.
 pub(super) fn plays_members<R: Abort + Wait + Threads + Sync>(
     rt: &R,
     alloc: Global,
     shared: &mut Shared,
+    lanes: &mut Vec<Lane>,
     readers: &mut Vec<Reader>,
     script: Script,
-) -> Result<Vec<Lane>, Fault> {
-    let mut first = shared.lane()?;
-    answers(rt, alloc, shared, &mut first, before(script))?;
+) -> Result<(), Fault> {
+    answers(rt, alloc, shared, lanes, before(script))?;
     if let Script::Crowd = script {
-        crowd::begins(rt, alloc, shared, &mut first)?;
+        crowd::begins(rt, alloc, shared, lanes)?;
     }
-    let mut members = members_of(alloc, shared, readers, script)?;
-    drives_all(rt, shared, members.as_mut_slice(), script);
-    lanes_of(alloc, first, members)
+    let mut members = Vec::new(alloc);
+    match add_members(alloc, shared, readers, &mut members, script) {
+        Ok(()) => {
+            drives_all(rt, shared, members.as_mut_slice(), script);
+            add_lanes_of(lanes, members)
+        }
+        Err(fault) => {
+            drop(members);
+            Err(fault)
+        }
+    }
 }

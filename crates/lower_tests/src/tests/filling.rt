@@ -1,10 +1,10 @@
 //! Limits at their ends: what is made until there is no more.
-use super::holds;
-use super::playing::answers;
-use call_tables::{Line, PLAIN, asked, locked_manager};
+use super::playing::{Scene, answers, over_locked, reply_to};
+use super::same;
+use call_tables::{Line, PLAIN};
 use ob_manager::CallOf::{Child, Duplicate, MakeEvent, Spawn, StartThread};
-use ob_manager::Reply::Refused;
-use ob_manager::{Call, Limits, Making, Manager, Reply};
+use ob_manager::Reply::{Made, Refused, Spawned, Started};
+use ob_manager::{Limits, Manager};
 use ob_rights::{Fault, Rights};
 use pin_core::Id;
 use pin_words::LockedPins;
@@ -14,7 +14,7 @@ use std::test::Fail;
 
 /// What is made again and again.
 #[derive(Clone, Copy)]
-enum Fill {
+pub(super) enum Fill {
     /// So many processes, from number 1 on, each with a thread of its number.
     Processes(u32),
     /// The threads after the first one, up to this one, of process 1.
@@ -24,36 +24,29 @@ enum Fill {
 }
 
 /// The call that makes the next one behind so many, and its reply.
-fn next(alloc: Global, fill: Fill, made: u32) -> (Call, Reply) {
+fn next(fill: Fill, made: u32) -> Line<'static> {
     match fill {
         Fill::Processes(_) => {
             let (process, thread) = (made.saturating_add(1), made.saturating_add(1));
-            (
-                Call::Spawn { session: 1 },
-                Reply::Spawned { process, thread },
-            )
+            (Spawn { session: 1 }, Spawned { process, thread })
         }
         Fill::Threads(_) => {
             let thread = made.saturating_add(2);
-            (Call::StartThread { process: 1 }, Reply::Started { thread })
+            (StartThread { process: 1 }, Started { thread })
         }
         Fill::Events(thread, slot, _) => {
-            let make = Making::unnamed(alloc, false, None, None);
             let handle = made.saturating_mul(4).saturating_add(4);
             let id = Id {
                 slot: slot.saturating_add(made),
                 generation: 1,
             };
-            let (manual, set) = (false, false);
-            (
-                Call::MakeEvent {
-                    thread,
-                    make,
-                    manual,
-                    set,
-                },
-                Reply::Made { handle, id },
-            )
+            let event = MakeEvent {
+                thread,
+                make: PLAIN,
+                manual: false,
+                set: false,
+            };
+            (event, Made { handle, id })
         }
     }
 }
@@ -66,24 +59,25 @@ fn count(fill: Fill) -> u32 {
     }
 }
 
-/// Whether all is made, each as it is due.
-fn fills(alloc: Global, manager: &mut Manager<LockedPins>, fill: Fill) -> bool {
+/// Makes all, each as it is due.
+fn fills(
+    rt: &impl Abort,
+    alloc: Global,
+    manager: &mut Manager<LockedPins>,
+    fill: Fill,
+) -> Result<(), Fault> {
     for made in 0..count(fill) {
-        let (call, due) = next(alloc, fill, made);
-        let reply = asked(manager, &call);
-        drop(call);
-        if reply != due {
-            return false;
-        }
+        let (ask, due) = next(fill, made);
+        same(rt, reply_to(alloc, manager, &ask)?, due);
     }
-    true
+    Ok(())
 }
 
 /// Limits, what is made until there is no more, and what is refused then.
-type Scene<'a> = ([u32; 8], &'a [Fill], &'a [Line<'a>]);
+type Row<'a> = ([u32; 8], &'a [Fill], &'a [Line<'a>]);
 
 #[rattlefmt::skip]
-const SCENES: &[Scene<'static>] = &[
+const ROWS: &[Row<'static>] = &[
     // all processes: with the last of them the last thread is given too
     ([1, 65_536, 65_536, 1, 1, 1, 1, 1], &[Fill::Processes(65_536)], &[
         (Spawn { session: 1 }, Refused(Fault::Limit)),
@@ -110,19 +104,22 @@ const SCENES: &[Scene<'static>] = &[
     ]),
 ];
 
-fn plays(
+/// Makes all that there may be, and calls behind that.
+pub(super) fn fills_all(
     rt: &impl Abort,
     alloc: Global,
     manager: &mut Manager<LockedPins>,
-    scene: &Scene<'_>,
+    all: &[Fill],
+    table: &[Line<'_>],
 ) -> Result<(), Fault> {
-    for fill in scene.1 {
-        holds(rt, fills(alloc, manager, *fill));
+    for fill in all {
+        fills(rt, alloc, manager, *fill)?;
     }
-    answers(rt, alloc, manager, scene.2)
+    answers(rt, alloc, manager, table)
 }
 
-fn over_locked(rt: &impl Abort, alloc: Global, scene: &Scene<'_>) -> Result<(), Fault> {
+/// The limits of a row.
+fn limits_of(row: &Row<'_>) -> Result<Limits, Fault> {
     let [
         slots,
         processes,
@@ -132,8 +129,8 @@ fn over_locked(rt: &impl Abort, alloc: Global, scene: &Scene<'_>) -> Result<(), 
         pins,
         generations,
         recursion,
-    ] = scene.0;
-    let limits = Limits::checked(
+    ] = row.0;
+    Limits::checked(
         slots,
         processes,
         threads,
@@ -142,17 +139,14 @@ fn over_locked(rt: &impl Abort, alloc: Global, scene: &Scene<'_>) -> Result<(), 
         pins,
         generations,
         recursion,
-    )?;
-    let mut manager = locked_manager(alloc, limits)?;
-    let played = plays(rt, alloc, &mut manager, scene);
-    drop(manager);
-    played
+    )
 }
 
 #[test]
 fn processes_threads_handles_and_slots_run_out(rt: HostRuntime) -> Result<(), Fail> {
-    for scene in SCENES {
-        over_locked(&rt, rt.alloc(), scene)?;
+    for row in ROWS {
+        let scene = Scene::Fills(row.1, row.2);
+        over_locked(&rt, rt.alloc(), limits_of(row)?, scene)?;
     }
     Ok(())
 }

@@ -1,7 +1,7 @@
 //! Pins of the one holder under the lock.
-use super::playing::answers;
+use super::playing::{Scene, answers, over_locked};
 use super::{FIRST, SECOND, holds, same};
-use call_tables::{Line, PLAIN, locked_manager};
+use call_tables::{Line, PLAIN};
 use ob_manager::CallOf::{CloseHandle, MakeEvent, Reap, Spawn};
 use ob_manager::Reply::{Closed, Made, Reaped, Spawned};
 use ob_manager::{Card, Limits, Manager};
@@ -60,7 +60,7 @@ fn unpins(manager: &mut Manager<LockedPins>, id: Id) -> bool {
 }
 
 /// The slot of an object that is pinned is held once it has ended, and freed behind the pin.
-fn holds_what_is_pinned(
+pub(super) fn holds_what_is_pinned(
     rt: &impl Abort,
     alloc: Global,
     manager: &mut Manager<LockedPins>,
@@ -82,30 +82,6 @@ fn holds_what_is_pinned(
 
 #[test]
 fn a_pinned_slot_is_held(rt: HostRuntime) -> Result<(), Fail> {
-    let mut manager = locked_manager(rt.alloc(), Limits::default())?;
-    let held = holds_what_is_pinned(&rt, rt.alloc(), &mut manager);
-    drop(manager);
-    held?;
-    Ok(())
-}
-
-/// The two lowest bits of a handle are ignored.
-fn resolves(
-    rt: &impl Abort,
-    alloc: Global,
-    manager: &mut Manager<LockedPins>,
-) -> Result<(), Fault> {
-    answers(rt, alloc, manager, EVENT)?;
-    same(rt, manager.resolve(1, 7), Ok(FIRST));
-    same(rt, manager.resolve(1, 8), Err(Fault::Handle));
-    Ok(())
-}
-
-#[test]
-fn a_handle_names_its_object_with_any_low_bits(rt: HostRuntime) -> Result<(), Fail> {
-    let mut manager = locked_manager(rt.alloc(), Limits::default())?;
-    let resolved = resolves(&rt, rt.alloc(), &mut manager);
-    drop(manager);
-    resolved?;
+    over_locked(&rt, rt.alloc(), Limits::default(), Scene::Holds)?;
     Ok(())
 }

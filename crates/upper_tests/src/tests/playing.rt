@@ -1,6 +1,6 @@
 //! Tables of calls, played in the lanes of a manager behind its lock.
+use super::holds_at;
 use super::opening::{Scene, over_shared};
-use super::{holds, same};
 use call_tables::{Line, ROWS, to_call};
 use ob_manager::{Ask, Call, Limits, Reply};
 use ob_rights::Fault;
@@ -23,7 +23,7 @@ fn asked_once<R: Wait>(
 
 /// The reply to a call of a lane. It is made again where memory was wanting: nothing was changed then, but the lane may
 /// list that the manager refused it.
-pub(super) fn asked<R: Wait>(
+fn asked<R: Wait>(
     rt: &R,
     alloc: Global,
     shared: &Shared,
@@ -49,7 +49,7 @@ pub(super) fn is_last(lane: &Lane, call: &Call, reply: Reply) -> bool {
 }
 
 /// Makes a call in a lane. Whether its reply is the one that is due, and the lane lists it.
-fn is_answered<R: Wait>(
+pub(super) fn is_answered<R: Wait>(
     rt: &R,
     alloc: Global,
     shared: &Shared,
@@ -65,100 +65,38 @@ fn is_answered<R: Wait>(
     Ok(is_listed && reply == due && lane.receipts().len() > listed)
 }
 
-/// Makes a call in a lane.
-pub(super) fn answers_one<R: Abort + Wait>(
+/// The same in the lanes by turns.
+pub(super) fn is_answered_at<R: Wait>(
     rt: &R,
     alloc: Global,
     shared: &Shared,
-    lane: &mut Lane,
+    lanes: &mut Vec<Lane>,
+    place: usize,
     line: Line<'_>,
-) -> Result<(), Fault> {
-    holds(rt, is_answered(rt, alloc, shared, lane, line)?);
-    Ok(())
+) -> Result<bool, Fault> {
+    let count = lanes.len();
+    if count == 0 {
+        return Ok(false);
+    }
+    match lanes.get_mut(place % count) {
+        Some(lane) => is_answered(rt, alloc, shared, lane, line),
+        None => Ok(false),
+    }
 }
 
-/// Asserts that the line at a place of a table is answered as is due.
-fn holds_at(rt: &impl Abort, is_good: bool, place: usize) {
-    assert!(rt; is_good, "at place {place} of the table");
-}
-
-/// Makes the calls of a table, one after another, in a lane.
+/// Makes the calls of a table, one after another, in the lanes by turns.
 pub(super) fn answers<R: Abort + Wait>(
     rt: &R,
     alloc: Global,
     shared: &Shared,
-    lane: &mut Lane,
+    lanes: &mut Vec<Lane>,
     table: &[Line<'_>],
 ) -> Result<(), Fault> {
     for (place, line) in table.iter().enumerate() {
-        holds_at(rt, is_answered(rt, alloc, shared, lane, *line)?, place);
-    }
-    Ok(())
-}
-
-/// The same in two lanes by turns.
-fn answers_by_turns<R: Abort + Wait>(
-    rt: &R,
-    alloc: Global,
-    shared: &Shared,
-    first: &mut Lane,
-    second: &mut Lane,
-    table: &[Line<'_>],
-) -> Result<(), Fault> {
-    for (place, line) in table.iter().enumerate() {
-        let is_good = if place % 2 == 0 {
-            is_answered(rt, alloc, shared, first, *line)?
-        } else {
-            is_answered(rt, alloc, shared, second, *line)?
-        };
+        let is_good = is_answered_at(rt, alloc, shared, lanes, place, *line)?;
         holds_at(rt, is_good, place);
     }
     Ok(())
-}
-
-/// Room for so many lanes, as they are handed in.
-pub(super) fn room_for(alloc: Global, count: usize) -> Result<Vec<Lane>, Fault> {
-    let mut lanes = Vec::new(alloc);
-    if lanes.reserve(count).is_err() {
-        lanes.reserve(count)?;
-    }
-    Ok(lanes)
-}
-
-/// A lane as it is handed in.
-pub(super) fn one_lane(alloc: Global, lane: Lane) -> Result<Vec<Lane>, Fault> {
-    let mut lanes = room_for(alloc, 1)?;
-    lanes.push(lane)?;
-    Ok(lanes)
-}
-
-/// The same of two.
-pub(super) fn two_lanes(alloc: Global, first: Lane, second: Lane) -> Result<Vec<Lane>, Fault> {
-    let mut lanes = room_for(alloc, 2)?;
-    lanes.push(first)?;
-    lanes.push(second)?;
-    Ok(lanes)
-}
-
-/// Makes the calls of a table in two new lanes by turns.
-pub(super) fn plays_by_turns<R: Abort + Wait>(
-    rt: &R,
-    alloc: Global,
-    shared: &mut Shared,
-    table: &[Line<'_>],
-) -> Result<Vec<Lane>, Fault> {
-    let mut first = shared.lane()?;
-    let mut second = shared.lane()?;
-    same(rt, first.number(), 0);
-    same(rt, second.number(), 1);
-    match answers_by_turns(rt, alloc, shared, &mut first, &mut second, table) {
-        Ok(()) => two_lanes(alloc, first, second),
-        Err(fault) => {
-            drop(first);
-            drop(second);
-            Err(fault)
-        }
-    }
 }
 
 #[test]

@@ -7,7 +7,7 @@ use super::holding::{Move, plays_moves};
 use super::members::{Script, plays_members};
 use super::replaying::replays;
 use super::turns::is_in_turn;
-use super::{blocking, holds, lanes, playing, racing, same};
+use super::{all_lanes, holds, playing, same};
 use call_tables::{Line, manager_over, pins_for, started};
 use ob_manager::Limits;
 use ob_rights::Fault;
@@ -27,10 +27,6 @@ pub(super) enum Scene<'a> {
     AllLanes,
     /// What a lane and a reader do.
     Holds(&'a [Move<'a>]),
-    /// A wait that another thread answers.
-    Block,
-    /// Four readers beside who makes and closes.
-    Race,
     /// Lanes that may not be the ones that were given.
     Closes(Case),
     /// Members, and one lane more.
@@ -38,6 +34,15 @@ pub(super) enum Scene<'a> {
 }
 
 impl Scene<'_> {
+    /// How many lanes there are at first.
+    fn lanes(&self) -> usize {
+        match *self {
+            Scene::ByTurns(_) | Scene::Closes(_) => 2,
+            Scene::AllLanes => 65_536,
+            Scene::Holds(_) | Scene::Members(_) => 1,
+        }
+    }
+
     /// Why the manager isn't closed afterwards, if it isn't.
     fn cause(&self) -> Option<CloseCause> {
         match *self {
@@ -46,12 +51,7 @@ impl Scene<'_> {
         }
     }
 
-    /// Whether the last lane is left out at first.
-    fn leaves_out(&self) -> bool {
-        matches!(*self, Scene::Closes(Case::LeftOut))
-    }
-
-    /// Whether what isn't closed is closed the second time.
+    /// Whether what isn't closed is closed without the last lane.
     fn is_mended(&self) -> bool {
         match *self {
             Scene::Closes(case) => case.is_mended(),
@@ -87,22 +87,36 @@ pub(super) fn shared_with(
     }
 }
 
-/// Plays a scene. The lanes that are handed in at its end.
+/// Adds so many lanes, with room for as many members.
+fn add_lanes(shared: &mut Shared, lanes: &mut Vec<Lane>, count: usize) -> Result<(), Fault> {
+    if lanes.reserve(count.saturating_add(64)).is_err() {
+        lanes.reserve(count.saturating_add(64))?;
+    }
+    for _ in 0..count {
+        lanes.push(shared.lane()?)?;
+    }
+    Ok(())
+}
+
+/// Plays a scene, with the lanes that are handed in at its end.
 fn plays<R: Abort + Wait + Threads + Sync>(
     rt: &R,
     alloc: Global,
     shared: &mut Shared,
+    lanes: &mut Vec<Lane>,
     readers: &mut Vec<Reader>,
     scene: Scene<'_>,
-) -> Result<Vec<Lane>, Fault> {
+) -> Result<(), Fault> {
+    add_lanes(shared, lanes, scene.lanes())?;
     match scene {
-        Scene::ByTurns(table) => playing::plays_by_turns(rt, alloc, shared, table),
-        Scene::AllLanes => lanes::plays_all_lanes(rt, alloc, shared),
-        Scene::Holds(moves) => plays_moves(rt, alloc, shared, readers, moves),
-        Scene::Block => blocking::plays_a_block(rt, alloc, shared),
-        Scene::Race => racing::plays_a_race(rt, alloc, shared, readers),
-        Scene::Closes(case) => plays_a_case(rt, alloc, shared, case),
-        Scene::Members(script) => plays_members(rt, alloc, shared, readers, script),
+        Scene::ByTurns(table) => playing::answers(rt, alloc, shared, lanes, table),
+        Scene::AllLanes => {
+            all_lanes::calls_last(rt, shared, lanes);
+            Ok(())
+        }
+        Scene::Holds(moves) => plays_moves(rt, alloc, shared, lanes, readers, moves),
+        Scene::Closes(case) => plays_a_case(rt, alloc, shared, lanes, case),
+        Scene::Members(script) => plays_members(rt, alloc, shared, lanes, readers, script),
     }
 }
 
@@ -113,27 +127,21 @@ fn closes(
     alloc: Global,
     limits: Limits,
     shared: Shared,
-    mut lanes: Vec<Lane>,
+    lanes: Vec<Lane>,
     scene: Scene<'_>,
 ) {
-    let left_out = if scene.leaves_out() {
-        lanes.pop()
-    } else {
-        None
-    };
     let handed = lanes.len();
     let due = scene.cause();
     match shared.close(lanes) {
         Ok(closed) => {
             holds(rt, due.is_none());
-            drop(left_out);
             shows(rt, alloc, limits, closed.journal.as_slice(), scene);
             drop(closed);
         }
         Err(refused) => {
             same(rt, due, Some(refused.cause));
             same(rt, refused.lanes.len(), handed);
-            same(rt, closes_again(refused, left_out), scene.is_mended());
+            same(rt, closes_again(refused), scene.is_mended());
         }
     }
 }
@@ -160,15 +168,17 @@ fn over_pins<R: Abort + Wait + Threads + Sync>(
     requires shape { pins.now.shape ≡ shape_of limits }
 {
     let (mut shared, mut readers) = shared_with(alloc, limits, opening, pins, count)?;
-    match plays(rt, alloc, &mut shared, &mut readers, scene) {
-        Ok(lanes) => {
+    let mut lanes = Vec::new(alloc);
+    let played = plays(rt, alloc, &mut shared, &mut lanes, &mut readers, scene);
+    drop(readers);
+    match played {
+        Ok(()) => {
             closes(rt, alloc, limits, shared, lanes, scene);
-            drop(readers);
             Ok(())
         }
         Err(fault) => {
             drop(shared);
-            drop(readers);
+            drop(lanes);
             Err(fault)
         }
     }

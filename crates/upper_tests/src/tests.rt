@@ -1,13 +1,37 @@
+ghost use Rattle.std.specs.Prelude.{◌≡◌, true};
+
+mod all_lanes;
+mod closing;
 mod console;
+mod crowd;
+mod holding;
 mod lanes;
+mod members;
+mod opening;
 mod options;
+mod playing;
 mod recording;
+mod replaying;
+mod turns;
+mod wanting;
 mod writing;
 
+use pin_core::Id;
 use std::alloc::{AllocError, Global};
 use std::fmt::Debug;
 use std::io::{self, Error, ErrorKind, Read, Write};
 use std::process::Abort;
+
+/// The first object of the first slot, and of the second.
+const FIRST: Id = Id {
+    slot: 0,
+    generation: 1,
+};
+
+const SECOND: Id = Id {
+    slot: 1,
+    generation: 1,
+};
 
 /// Asserts that what is found is what is due.
 // In place of `assert_eq!`, which each function that has it pays for in its proof.
@@ -15,8 +39,10 @@ fn same<T: Copy + PartialEq + Debug>(rt: &impl Abort, found: T, due: T) {
     assert_eq!(rt; found, due);
 }
 
-/// Asserts a condition.
-fn holds(rt: &impl Abort, condition: bool) {
+/// Asserts a condition, which is known from there on.
+fn holds(rt: &impl Abort, condition: bool)
+    ensures { condition ≡ true }
+{
     assert!(rt; condition);
 }
 
@@ -79,17 +105,19 @@ impl Read for Interrupted {
     }
 }
 
-/// A page to write on, with an interruption before each write, which fails once it is full.
+/// A page to write on, with an interruption before each write. Once it is full it fails, or takes nothing.
 #[derive(Drop)]
 struct Page<'a> {
     left: &'a mut [u8],
+    is_failing: bool,
     is_interrupted: bool,
 }
 
 impl<'a> Page<'a> {
-    fn new(page: &'a mut [u8]) -> Page<'a> {
+    fn new(page: &'a mut [u8], is_failing: bool) -> Page<'a> {
         Page {
             left: page,
+            is_failing,
             is_interrupted: false,
         }
     }
@@ -101,7 +129,7 @@ impl Write for Page<'_> {
         if self.is_interrupted {
             return Err(Error::from(ErrorKind::Interrupted));
         }
-        if self.left.is_empty() {
+        if self.left.is_empty() && self.is_failing {
             return Err(Error::from(ErrorKind::Other));
         }
         self.left.write(bytes)

@@ -2,14 +2,13 @@
 ghost use Rattle.std.specs.Prelude.{◌≡◌};
 ghost use Rattle.ob_store.specs.State.{shape_of};
 
-use super::FIRST;
-use super::lanes::THREE_CALLS;
 use super::opening::{Scene, over_shared, shared_with};
-use super::playing::{answers, plays_by_turns};
-use call_tables::{Line, pins_for};
-use ob_manager::CallOf::Counts;
+use super::playing::{answers, is_answered};
+use super::{FIRST, holds};
+use call_tables::{Line, PLAIN, pins_for};
+use ob_manager::CallOf::{Counts, MakeEvent, Spawn};
 use ob_manager::Limits;
-use ob_manager::Reply::CountsAre;
+use ob_manager::Reply::{CountsAre, Made, Spawned};
 use ob_rights::Fault;
 use ob_shared::{CloseCause, Lane, NotClosed, Shared};
 use pin_words::{Opening, Pins};
@@ -22,7 +21,6 @@ use std::test::Fail;
 #[derive(Clone, Copy)]
 pub(super) enum Case {
     Whole,
-    LeftOut,
     Twice,
     Alone,
     Stranger,
@@ -36,30 +34,26 @@ impl Case {
         match self {
             Case::Whole => None,
             Case::Twice => Some(CloseCause::LaneTwice),
-            Case::LeftOut | Case::Alone | Case::CallOfStranger => Some(CloseCause::LaneMissing),
+            Case::Alone | Case::CallOfStranger => Some(CloseCause::LaneMissing),
             Case::Stranger => Some(CloseCause::LaneStranger),
             Case::AnotherLane => Some(CloseCause::LanesDiffer { lane: 1, place: 0 }),
         }
     }
 
-    /// Whether what is refused is whole once the lane that was left out is there, or the last lane is gone.
+    /// Whether what is refused is whole without the last lane.
     pub(super) fn is_mended(self) -> bool {
-        matches!(self, Case::LeftOut | Case::Twice | Case::Stranger)
+        matches!(self, Case::Twice | Case::Stranger)
     }
 }
 
-/// Closes again what was refused, with the lane that was left out, or else without the last lane. Whether it is closed.
-pub(super) fn closes_again(refused: NotClosed, left_out: Option<Lane>) -> bool {
+/// Closes again what was refused, without the last lane. Whether it is closed.
+pub(super) fn closes_again(refused: NotClosed) -> bool {
     let NotClosed {
         shared,
         mut lanes,
         ..
     } = refused;
-    match left_out {
-        // (there is room for it, since it was taken out of the list)
-        Some(lane) => drop(lanes.push(lane)),
-        None => drop(lanes.pop()),
-    }
+    drop(lanes.pop());
     match shared.close(lanes) {
         Ok(closed) => {
             drop(closed);
@@ -104,34 +98,38 @@ fn lane_of_another(alloc: Global, number: u32) -> Result<Lane, Fault> {
     lane_over(alloc, limits, &pins, opening, number)
 }
 
-const COUNTED: &[Line<'static>] = &[(
-    Counts { id: FIRST },
-    CountsAre {
-        handles: 1,
-        waits: 0,
-        hold: 0,
-    },
-)];
+/// Calls of lane 0, lane 1 and lane 0 again.
+#[rattlefmt::skip]
+const THREE_CALLS: &[Line<'static>] = &[
+    (Spawn { session: 1 }, Spawned { process: 1, thread: 1 }),
+    (MakeEvent { thread: 1, make: PLAIN, manual: false, set: false }, Made { handle: 4, id: FIRST }),
+    (Counts { id: FIRST }, CountsAre { handles: 1, waits: 0, hold: 0 }),
+];
 
-/// The lanes are changed as a case says.
-fn change<R: Abort + Wait>(
+/// The lane of another manager makes the last of the three calls once more.
+fn calls_strangely<R: Abort + Wait>(rt: &R, alloc: Global, shared: &Shared) -> Result<(), Fault> {
+    let mut stranger = lane_of_another(alloc, 2)?;
+    let is_good = is_answered(rt, alloc, shared, &mut stranger, THREE_CALLS[2]);
+    drop(stranger);
+    holds(rt, is_good?);
+    Ok(())
+}
+
+/// Two lanes that made three calls are changed as a case says.
+pub(super) fn plays_a_case<R: Abort + Wait>(
     rt: &R,
     alloc: Global,
     shared: &Shared,
     lanes: &mut Vec<Lane>,
     case: Case,
 ) -> Result<(), Fault> {
+    answers(rt, alloc, shared, lanes, THREE_CALLS)?;
     match case {
-        Case::Whole | Case::LeftOut => {}
+        Case::Whole => {}
         Case::Twice => lanes.push(lane_of_another(alloc, 1)?)?,
         Case::Alone => drop(lanes.pop()),
         Case::Stranger => lanes.push(lane_of_another(alloc, 2)?)?,
-        Case::CallOfStranger => {
-            let mut stranger = lane_of_another(alloc, 2)?;
-            let answered = answers(rt, alloc, shared, &mut stranger, COUNTED);
-            drop(stranger);
-            answered?;
-        }
+        Case::CallOfStranger => calls_strangely(rt, alloc, shared)?,
         Case::AnotherLane => {
             drop(lanes.pop());
             lanes.push(lane_of_another(alloc, 1)?)?;
@@ -140,26 +138,9 @@ fn change<R: Abort + Wait>(
     Ok(())
 }
 
-/// Two lanes that made three calls, changed as a case says.
-pub(super) fn plays_a_case<R: Abort + Wait>(
-    rt: &R,
-    alloc: Global,
-    shared: &mut Shared,
-    case: Case,
-) -> Result<Vec<Lane>, Fault> {
-    let mut lanes = plays_by_turns(rt, alloc, shared, THREE_CALLS)?;
-    match change(rt, alloc, shared, &mut lanes, case) {
-        Ok(()) => Ok(lanes),
-        Err(fault) => {
-            drop(lanes);
-            Err(fault)
-        }
-    }
-}
-
 #[rattlefmt::skip]
 const CASES: &[Case] = &[
-    Case::Whole, Case::LeftOut, Case::Twice, Case::Alone, Case::CallOfStranger, Case::Stranger, Case::AnotherLane,
+    Case::Whole, Case::Twice, Case::Alone, Case::CallOfStranger, Case::Stranger, Case::AnotherLane,
 ];
 
 #[test]

@@ -3,9 +3,9 @@ ghost use Rattle.std.specs.Prelude.{IfOk};
 ghost use Rattle.pin_words.specs.Keepers.{IsFreshWith, state_of};
 ghost use Rattle.ob_store.specs.State.{shape_of};
 
-use super::playing::answers;
+use super::playing::{Scene, answers, over_locked};
 use super::{FIRST, NAMED_A, NAMED_E, NAMED_S, SECOND, THIRD, holds, same, same_at};
-use call_tables::{Line, PLAIN, locked_manager};
+use call_tables::{Line, PLAIN};
 use ob_codec::{ReadFault, TextFault, seal, unseal};
 use ob_manager::CallOf::{
     Child, CloseHandle, Counts, EndThread, Exit, Expire, GetFlags, MakeEvent, MakeMutex,
@@ -261,7 +261,7 @@ fn goes_on_in_words(rt: &impl Abort, alloc: Global, course: &Course<'_>) -> Resu
 }
 
 /// Plays calls, saves the manager, and plays further calls over it and over those that were loaded.
-fn all_go_on(
+pub(super) fn all_go_on(
     rt: &impl Abort,
     alloc: Global,
     manager: &mut Manager<LockedPins>,
@@ -281,31 +281,17 @@ fn all_go_on(
     goes_on_in_words(rt, alloc, &course)
 }
 
-/// The same, from the beginning on.
-fn saves_and_loads(
-    rt: &impl Abort,
-    alloc: Global,
-    limits: Limits,
-    first: &[Line<'_>],
-    calls: &[Line<'_>],
-) -> Result<(), Fault> {
-    let mut manager = locked_manager(alloc, limits)?;
-    let gone = all_go_on(rt, alloc, &mut manager, first, calls);
-    drop(manager);
-    gone
-}
-
 #[test]
 fn a_manager_is_saved_and_loaded(rt: HostRuntime) -> Result<(), Fail> {
     let limits = Limits::checked(16, 4, 8, 8, 8, 4, 2, 4)?;
-    saves_and_loads(&rt, rt.alloc(), limits, BEFORE, BEHIND)?;
+    over_locked(&rt, rt.alloc(), limits, Scene::Saves(BEFORE, BEHIND))?;
     Ok(())
 }
 
 #[test]
 fn an_empty_manager_is_saved_and_loaded(rt: HostRuntime) -> Result<(), Fail> {
     let limits = Limits::checked(16, 4, 8, 8, 8, 4, 2, 4)?;
-    saves_and_loads(&rt, rt.alloc(), limits, &[], BEFORE)?;
+    over_locked(&rt, rt.alloc(), limits, Scene::Saves(&[], BEFORE))?;
     Ok(())
 }
 
@@ -321,7 +307,7 @@ const SMALL: &[Line<'static>] = &[
 
 /// A place of a text, the bytes that stand there, other bytes for them, and the fault of the text with these, if it
 /// has one.
-type Edit<'a> = (usize, &'a [u8], &'a [u8], Option<TextFault>);
+pub(super) type Edit<'a> = (usize, &'a [u8], &'a [u8], Option<TextFault>);
 
 /// What the text has of that wait behind its deadline.
 const PENDING: &[u8] = &[0, 1, 0, 0, 0, 1, 0, 0, 0, 1, 0, 0, 0];
@@ -522,54 +508,49 @@ fn edits_are_refused(
     edits_are_told(rt, alloc, text, edits)
 }
 
-/// Plays calls, and tries edits of what is saved then.
-fn tries_kinds(
+/// Tries what is saved, edited, cut, changed and with a byte more.
+fn spoils(
     rt: &impl Abort,
     alloc: Global,
-    manager: &mut Manager<LockedPins>,
-) -> Result<(), Fault> {
-    answers(rt, alloc, manager, KINDS)?;
-    let bytes = saved(alloc, manager)?;
-    edits_are_refused(rt, alloc, bytes.as_slice(), 273, EDITS_OF_KINDS)?;
+    bytes: &mut Vec<u8>,
+    len: usize,
+    edits: &[Edit<'_>],
+) -> Result<(), AllocError> {
+    edits_are_refused(rt, alloc, bytes.as_slice(), len, edits)?;
+    changes_are_refused(rt, alloc, bytes);
+    same(rt, load_fault(alloc, bytes.as_slice()), None);
+    bytes.push(0)?;
+    let digest = due(Some(TextFault::Digest));
+    same(rt, load_fault(alloc, bytes.as_slice()), digest);
     Ok(())
 }
 
-/// Plays the calls, and tries what is saved then, cut, changed and edited.
-fn tries_edits(
+/// Plays calls, and tries to spoil what is saved then.
+pub(super) fn tries_edits(
     rt: &impl Abort,
     alloc: Global,
     manager: &mut Manager<LockedPins>,
+    calls: &[Line<'_>],
+    len: usize,
+    edits: &[Edit<'_>],
 ) -> Result<(), Fault> {
-    answers(rt, alloc, manager, SMALL)?;
+    answers(rt, alloc, manager, calls)?;
     let mut bytes = saved(alloc, manager)?;
-    edits_are_refused(rt, alloc, bytes.as_slice(), 243, EDITS)?;
-    changes_are_refused(rt, alloc, &mut bytes);
-    same(rt, load_fault(alloc, bytes.as_slice()), None);
-    bytes.push(0)?;
-    same(
-        rt,
-        load_fault(alloc, bytes.as_slice()),
-        due(Some(TextFault::Digest)),
-    );
+    spoils(rt, alloc, &mut bytes, len, edits)?;
     Ok(())
 }
 
 #[test]
 fn what_is_no_savestate_is_refused(rt: HostRuntime) -> Result<(), Fail> {
     let limits = Limits::checked(3, 4, 4, 4, 4, 4, 4, 4)?;
-    let mut manager = locked_manager(rt.alloc(), limits)?;
-    let tried = tries_edits(&rt, rt.alloc(), &mut manager);
-    drop(manager);
-    tried?;
+    over_locked(&rt, rt.alloc(), limits, Scene::Edits(SMALL, 243, EDITS))?;
     Ok(())
 }
 
 #[test]
 fn kinds_that_no_calls_make_are_refused(rt: HostRuntime) -> Result<(), Fail> {
     let limits = Limits::checked(5, 4, 4, 4, 4, 4, 4, 4)?;
-    let mut manager = locked_manager(rt.alloc(), limits)?;
-    let tried = tries_kinds(&rt, rt.alloc(), &mut manager);
-    drop(manager);
-    tried?;
+    let scene = Scene::Edits(KINDS, 273, EDITS_OF_KINDS);
+    over_locked(&rt, rt.alloc(), limits, scene)?;
     Ok(())
 }

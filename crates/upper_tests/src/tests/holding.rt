@@ -1,11 +1,11 @@
 //! Readers that hold an object.
 use super::opening::{Scene, over_shared};
-use super::playing::{answers, one_lane};
+use super::playing::{answers, is_last};
 use super::{FIRST, SECOND, holds};
 use call_tables::{Line, PLAIN};
-use ob_manager::CallOf::{CloseHandle, MakeEvent, Reap, Spawn};
-use ob_manager::Reply::{Closed, Made, Reaped, Refused, Spawned};
-use ob_manager::{Card, Limits};
+use ob_manager::CallOf::{CloseHandle, MakeEvent, Reap, SetEvent, Spawn, StartThread, WaitFor};
+use ob_manager::Reply::{Closed, Code, Done, Made, Pending, Reaped, Refused, Spawned, Started};
+use ob_manager::{Call, Card, Limits, Mode, Reply, Timeout};
 use ob_rights::{Fault, Kind, Rights};
 use ob_shared::{Lane, Shared};
 use pin_core::{Descr, Id};
@@ -20,6 +20,8 @@ use std::test::Fail;
 pub(super) enum Move<'a> {
     /// Calls, one after another.
     Calls(&'a [Line<'a>]),
+    /// The lane blocks until a wait is answered, and gets this.
+    Blocks(u32, Reply),
     /// The reader pins an object.
     Pins(Id),
     /// The reader is shown what an object was created as, if it holds it.
@@ -51,7 +53,7 @@ fn reads<R: Wait>(rt: &R, shared: &Shared, reader: &mut Reader, step: &Move<'_>)
         Move::Pins(id) => reader.pin(rt, id).is_ok(),
         Move::Shows(id, due) => inspected(rt, shared, reader, id) == due,
         Move::Unpins(id, due) => unpins(reader, id) == due,
-        Move::Calls(_) | Move::Drops => true,
+        Move::Calls(_) | Move::Blocks(..) | Move::Drops => true,
     }
 }
 
@@ -68,52 +70,59 @@ fn last_reads<R: Wait>(
     }
 }
 
+/// Blocks, again where memory was wanting. Whether the answer is the one that is due, and the lane lists it.
+fn blocks<R: Wait>(rt: &R, shared: &Shared, lane: &mut Lane, wait: u32, due: Reply) -> bool {
+    let mut reply = shared.block(rt, lane, wait);
+    if reply == Reply::Refused(Fault::Memory) {
+        reply = shared.block(rt, lane, wait);
+    }
+    reply == due && is_last(lane, &Call::WaitResult { wait }, reply)
+}
+
+/// The first lane blocks.
+fn first_blocks<R: Wait>(
+    rt: &R,
+    shared: &Shared,
+    lanes: &mut Vec<Lane>,
+    wait: u32,
+    due: Reply,
+) -> bool {
+    match lanes.first_mut() {
+        Some(lane) => blocks(rt, shared, lane, wait, due),
+        None => false,
+    }
+}
+
 fn makes<R: Abort + Wait>(
     rt: &R,
     alloc: Global,
     shared: &Shared,
-    lane: &mut Lane,
+    lanes: &mut Vec<Lane>,
     readers: &mut Vec<Reader>,
     step: &Move<'_>,
 ) -> Result<(), Fault> {
     match *step {
-        Move::Calls(table) => answers(rt, alloc, shared, lane, table)?,
+        Move::Calls(table) => answers(rt, alloc, shared, lanes, table)?,
+        Move::Blocks(wait, due) => holds(rt, first_blocks(rt, shared, lanes, wait, due)),
         Move::Drops => drop(readers.pop()),
         _ => holds(rt, last_reads(rt, shared, readers, step)),
     }
     Ok(())
 }
 
-fn makes_all<R: Abort + Wait>(
+/// Makes all moves, one after another, with the one lane and the last reader.
+pub(super) fn plays_moves<R: Abort + Wait>(
     rt: &R,
     alloc: Global,
     shared: &Shared,
-    lane: &mut Lane,
+    lanes: &mut Vec<Lane>,
     readers: &mut Vec<Reader>,
     moves: &[Move<'_>],
 ) -> Result<(), Fault> {
     for step in moves {
-        makes(rt, alloc, shared, lane, readers, step)?;
+        makes(rt, alloc, shared, lanes, readers, step)?;
     }
     Ok(())
-}
-
-/// Makes all moves, one after another, with the last reader.
-pub(super) fn plays_moves<R: Abort + Wait>(
-    rt: &R,
-    alloc: Global,
-    shared: &mut Shared,
-    readers: &mut Vec<Reader>,
-    moves: &[Move<'_>],
-) -> Result<Vec<Lane>, Fault> {
-    let mut lane = shared.lane()?;
-    match makes_all(rt, alloc, shared, &mut lane, readers, moves) {
-        Ok(()) => one_lane(alloc, lane),
-        Err(fault) => {
-            drop(lane);
-            Err(fault)
-        }
-    }
 }
 
 /// An event that is reset by itself, which any open may get.
@@ -203,5 +212,24 @@ const DROPPED: &[Move<'static>] = &[
 fn a_dropped_reader_leaves_its_slot_out_of_use(rt: HostRuntime) -> Result<(), Fail> {
     let limits = Limits::checked(2, 4, 4, 8, 4, 4, 8, 4)?;
     over_shared(&rt, rt.alloc(), limits, 1, Scene::Holds(DROPPED))?;
+    Ok(())
+}
+
+/// A wait that is answered before its lane blocks.
+#[rattlefmt::skip]
+const BLOCKED: &[Move<'static>] = &[
+    Move::Calls(MADE),
+    Move::Calls(&[
+        (StartThread { process: 1 }, Started { thread: 2 }),
+        (WaitFor { thread: 2, mode: Mode::Any, timeout: Timeout::Infinite, handles: &[4] }, Pending { wait: 1 }),
+        (SetEvent { thread: 1, handle: 4 }, Done),
+    ]),
+    Move::Blocks(1, Code { code: 0 }),
+    Move::Blocks(1, Refused(Fault::Parameter)),
+];
+
+#[test]
+fn a_block_gets_the_answer_of_a_wait(rt: HostRuntime) -> Result<(), Fail> {
+    over_shared(&rt, rt.alloc(), Limits::default(), 1, Scene::Holds(BLOCKED))?;
     Ok(())
 }

@@ -2,19 +2,34 @@
 ghost use Rattle.std.specs.Prelude.{◌≡◌};
 ghost use Rattle.ob_store.specs.State.{shape_of};
 
+use super::filling::{Fill, fills_all};
+use super::pinning::holds_what_is_pinned;
+use super::saved::{Edit, all_go_on, tries_edits};
 use super::{FIRST, same_at};
 use call_tables::{
     Line, PLAIN, ROWS, asked, locked_manager, manager_over, pins_for, started, to_call,
 };
 use ob_manager::CallOf::{CloseHandle, Counts, MakeEvent, MakeMutex, Reap, Spawn};
 use ob_manager::Reply::{Closed, CountsAre, Made, Reaped, Refused, Spawned};
-use ob_manager::{Limits, Manager};
+use ob_manager::{Ask, Limits, Manager, Reply};
 use ob_rights::Fault;
 use pin_core::Id;
-use pin_words::{Opening, PinKeeper, Pins, Reclaim};
+use pin_words::{LockedPins, Opening, PinKeeper, Pins, Reclaim};
 use std::alloc::Global;
 use std::process::Abort;
 use std::test::Fail;
+
+/// The reply to a call.
+pub(super) fn reply_to<K: PinKeeper>(
+    alloc: Global,
+    manager: &mut Manager<K>,
+    ask: &Ask<'_>,
+) -> Result<Reply, Fault> {
+    let call = to_call(ask, alloc)?;
+    let reply = asked(manager, &call);
+    drop(call);
+    Ok(reply)
+}
 
 /// Makes the calls of a table, one after another. Each reply is the one that is due.
 pub(super) fn answers<K: PinKeeper>(
@@ -24,23 +39,50 @@ pub(super) fn answers<K: PinKeeper>(
     table: &[Line<'_>],
 ) -> Result<(), Fault> {
     for (place, (ask, due)) in table.iter().enumerate() {
-        let call = to_call(ask, alloc)?;
-        let reply = asked(manager, &call);
-        drop(call);
-        same_at(rt, reply, *due, place);
+        same_at(rt, reply_to(alloc, manager, ask)?, *due, place);
     }
     Ok(())
 }
 
+/// What is played over pins under a lock.
+#[derive(Clone, Copy)]
+pub(super) enum Scene<'a> {
+    /// A table of calls.
+    Calls(&'a [Line<'a>]),
+    /// What is made until there is no more, and calls behind that.
+    Fills(&'a [Fill], &'a [Line<'a>]),
+    /// A slot is held by a pin.
+    Holds,
+    /// Calls, and others that are made once more over what is saved between them.
+    Saves(&'a [Line<'a>], &'a [Line<'a>]),
+    /// Calls, and how many bytes the text has that is saved behind them, with edits of it.
+    Edits(&'a [Line<'a>], usize, &'a [Edit<'a>]),
+}
+
+fn plays(
+    rt: &impl Abort,
+    alloc: Global,
+    manager: &mut Manager<LockedPins>,
+    scene: Scene<'_>,
+) -> Result<(), Fault> {
+    match scene {
+        Scene::Calls(table) => answers(rt, alloc, manager, table),
+        Scene::Fills(fills, table) => fills_all(rt, alloc, manager, fills, table),
+        Scene::Holds => holds_what_is_pinned(rt, alloc, manager),
+        Scene::Saves(first, calls) => all_go_on(rt, alloc, manager, first, calls),
+        Scene::Edits(calls, len, edits) => tries_edits(rt, alloc, manager, calls, len, edits),
+    }
+}
+
 /// Plays over pins under a lock.
-fn over_locked(
+pub(super) fn over_locked(
     rt: &impl Abort,
     alloc: Global,
     limits: Limits,
-    table: &[Line<'_>],
+    scene: Scene<'_>,
 ) -> Result<(), Fault> {
     let mut manager = locked_manager(alloc, limits)?;
-    let played = answers(rt, alloc, &mut manager, table);
+    let played = plays(rt, alloc, &mut manager, scene);
     drop(manager);
     played
 }
@@ -79,7 +121,7 @@ fn over_words(
 #[test]
 fn rows_are_answered_over_a_lock(rt: HostRuntime) -> Result<(), Fail> {
     for row in ROWS {
-        over_locked(&rt, rt.alloc(), Limits::default(), row)?;
+        over_locked(&rt, rt.alloc(), Limits::default(), Scene::Calls(row))?;
     }
     Ok(())
 }
@@ -122,7 +164,7 @@ const TWO_GENERATIONS: &[Line<'static>] = &[
 #[test]
 fn a_slot_is_given_again_and_then_retired(rt: HostRuntime) -> Result<(), Fail> {
     let limits = Limits::checked(1, 4, 4, 8, 4, 4, 2, 4)?;
-    over_locked(&rt, rt.alloc(), limits, TWO_GENERATIONS)?;
+    over_locked(&rt, rt.alloc(), limits, Scene::Calls(TWO_GENERATIONS))?;
     over_words(&rt, rt.alloc(), limits, TWO_GENERATIONS)?;
     Ok(())
 }
