@@ -1,70 +1,49 @@
 -- What a change of one word does to the level above, where no bit is set, and which set of numbers the leaves show.
-use Rattle.std.proofs.Common.{◌≡◌, ◌≢◌, ℕ, zero, suc, ◌+◌, ◌*◌, ◌/◌, ◌%◌, ◌<◌, ◌≤◌, List, [], ◌∷◌, ◌++◌, replicate, length, min, slice_index, arith, sym, refl, ◌∙◌, ap, subst, ⊎_elim, get_or, set, Bool, true, false}
+use Rattle.std.proofs.lemmas.Grind.{elements}
+use Rattle.std.proofs.Common.{◌≡◌, ◌≢◌, ℕ, zero, suc, ◌+◌, ◌*◌, ◌/◌, ◌<◌, ◌≤◌, List, [], ◌∷◌, ◌++◌, replicate, length, min, slice_index, arith, sym, refl, ◌∙◌, ap, ⊎_elim, get_or, set, Bool, true, false}
 use Rattle.std.specs.Prelude.{not, ◌==◌, slice_get, Some}
-use Rattle.std.specs.Int.{bit_at}
-use Rattle.std.proofs.lemmas.Bool.{cases_eq, cases_lt}
-use Rattle.std.proofs.lemmas.Bool.Decides.{nat_tests}
+use Rattle.std.proofs.lemmas.Bool.{cases_eq}
 use Rattle.std.proofs.lemmas.List.{get_or_past, length-set, length-replicate, get_or-replicate, ext_get_or, get_or-set_same, get_or-set_other}
 use Rattle.std.proofs.lemmas.List.FromFn.{get_or-map-range_with_len, length-map-range_with_len, map-range_with_len_more}
 use Rattle.std.proofs.lemmas.List.Sums.{position_or_len_is}
-use Rattle.std.proofs.lemmas.Option.{slice_get_within, get_or_from_slice_get}
-use Rattle.std.proofs.lemmas.Nat.Bits.{bit_at-zero}
 use Rattle.least_free.specs.Bits.{bit}
 use Rattle.least_free.specs.Levels.{taken_in, SumsUp}
 use Rattle.least_free.specs.Taken.{least_free}
 
 -- an empty word at the end changes no word that is read
 pub pushed_none : (ws : List ℕ) (w : ℕ) → slice_index (ws ++ 0 ∷ []) w ≡ slice_index ws w
-pushed_none [] w = ⊎_elim
-    (λ (e : w ≡ 0). subst (λ (x : ℕ). slice_index (0 ∷ []) x ≡ 0) (sym e) refl)
-    (λ (ne : w ≢ 0). get_or_past (0 ∷ []) w 0 (omega arith))
-    (cases_eq w 0)
+pushed_none [] w = search arith
 pushed_none (x ∷ ws) zero = refl
 pushed_none (x ∷ ws) (suc w) = pushed_none ws w
 
--- a word with no bit
-pub bit_of_empty : (ws : List ℕ) (n : ℕ) → slice_index ws (n / 64) ≡ 0 → bit ws n ≡ 0
-bit_of_empty ws n e = ap (λ (x : ℕ). bit_at x (n % 64)) e ∙ bit_at-zero (n % 64)
-
-pub some_of_bit : (ws : List ℕ) (n : ℕ) → bit ws n ≡ 1 → 0 < slice_index ws (n / 64)
-some_of_bit ws n e = grind (arith, bit_of_empty ws n)
-
 -- a bit that is set has a bit above it
 pub leads_back : (bits : ℕ → ℕ) (lo : List ℕ) (n : ℕ) → SumsUp bits lo → bit lo n ≡ 1 → bits (n / 64) ≡ 1
-leads_back bits lo n sums e = let h = sums (n / 64) in let f = some_of_bit lo n e in omega arith
+leads_back bits lo n sums e = grind arith
 
 pub inside : (ws : List ℕ) (w : ℕ) → 0 < slice_index ws w → w < length ws
-inside ws w h = ⊎_elim (λ lt. lt) (λ (ge : length ws ≤ w). let e = get_or_past ws w 0 ge in
-    absurd (omega arith)) (cases_lt w (length ws))
+inside ws w h = search (arith, get_or_past)
 
 -- one word changes, and the bit above it
 pub sums_changed : (bits bits' : ℕ → ℕ) (lo lo' : List ℕ) (w : ℕ) → SumsUp bits lo
     → ((j : ℕ) → j ≢ w → slice_index lo' j ≡ slice_index lo j) → ((j : ℕ) → j ≢ w → bits' j ≡ bits j)
     → bits' w ≡ min 1 (slice_index lo' w) → SumsUp bits' lo'
-sums_changed bits bits' lo lo' w sums below above here j = ⊎_elim
-    (λ (e : j ≡ w). subst (λ (x : ℕ). bits' x ≡ min 1 (slice_index lo' x)) (sym e) here)
-    (λ (ne : j ≢ w). above j ne ∙ sums j ∙ ap (λ (x : ℕ). min 1 x) (sym (below j ne)))
-    (cases_eq j w)
+sums_changed bits bits' lo lo' w sums below above here j = search arith
 
 -- where no bit above is set below w, no bit is set below the words from w on
 pub none_below : (bits : ℕ → ℕ) (lo : List ℕ) (w n : ℕ) → SumsUp bits lo → ((j : ℕ) → j < w → bits j ≡ 0)
     → ((k : ℕ) → 64 * w ≤ k → k < n → bit lo k ≡ 0) → (k : ℕ) → k < n → bit lo k ≡ 0
-none_below bits lo w n sums above here k lt = ⊎_elim
-    (λ (low : k / 64 < w). let e : min 1 (slice_index lo (k / 64)) ≡ 0 = sym (sums (k / 64)) ∙ above (k / 64) low in
-    bit_of_empty lo k (omega arith))
-    (λ (high : w ≤ k / 64). here k (omega arith) lt)
-    (cases_lt (k / 64) w)
+none_below bits lo w n sums above here k lt = grind arith
 
 pub all_empty : (bits : ℕ → ℕ) (lo : List ℕ) → SumsUp bits lo → ((j : ℕ) → bits j ≡ 0) → (k : ℕ) → bit lo k ≡ 0
-all_empty bits lo sums above k = let e = sums (k / 64) in let f = above (k / 64) in bit_of_empty lo k (omega arith)
+all_empty bits lo sums above k = grind arith
 
 -- how many numbers the leaves speak of
 pub length-taken_in : (ws : List ℕ) (n : ℕ) → length (taken_in ws n) ≡ n
-length-taken_in ws n = length-map-range_with_len (λ k. bit ws k == 0) 0 n
+length-taken_in ws n = search (arith, length-map-range_with_len)
 
 -- a number is taken where its bit is clear
 pub get_or-taken_in : (ws : List ℕ) (n k : ℕ) (d : Bool) → k < n → get_or (taken_in ws n) k d ≡ (bit ws k == 0)
-get_or-taken_in ws n k d lt = get_or-map-range_with_len (λ j. bit ws j == 0) 0 n k k d lt (omega arith)
+get_or-taken_in ws n k d lt = search (arith, get_or-map-range_with_len)
 
 -- the same bits below n show the same set
 pub taken_same : (ws ws' : List ℕ) (n : ℕ) → ((k : ℕ) → k < n → bit ws' k ≡ bit ws k) → taken_in ws' n ≡ taken_in ws n
@@ -90,11 +69,11 @@ taken_set ws ws' n k b lt here others = ext_get_or true (taken_in ws' n) (set (t
 
 pub taken_cleared : (ws ws' : List ℕ) (n k : ℕ) → k < n → bit ws' k ≡ 0 → ((j : ℕ) → j ≢ k → bit ws' j ≡ bit ws j)
     → taken_in ws' n ≡ set (taken_in ws n) k true
-taken_cleared ws ws' n k lt here others = taken_set ws ws' n k true lt (ap {B = Bool} (λ (x : ℕ). x == 0) here) others
+taken_cleared ws ws' n k lt here others = search (arith, taken_set)
 
 pub taken_freed : (ws ws' : List ℕ) (n k : ℕ) → k < n → bit ws' k ≡ 1 → ((j : ℕ) → j ≢ k → bit ws' j ≡ bit ws j)
     → taken_in ws' n ≡ set (taken_in ws n) k false
-taken_freed ws ws' n k lt here others = taken_set ws ws' n k false lt (ap {B = Bool} (λ (x : ℕ). x == 0) here) others
+taken_freed ws ws' n k lt here others = search (arith, taken_set)
 
 -- the next number is taken where its bit is clear
 pub taken_more : (ws : List ℕ) (n : ℕ) → bit ws n ≡ 0 → taken_in ws (n + 1) ≡ taken_in ws n ++ true ∷ []
@@ -104,12 +83,7 @@ taken_more ws n none = map-range_with_len_more (λ k. bit ws k == 0) 0 n n (omeg
 -- a free number has a bit
 pub free_bit : (ws : List ℕ) (n k : ℕ) (taken : List Bool) → taken_in ws n ≡ taken → slice_get taken k ≡ Some false
     → (k < n) × (bit ws k ≡ 1)
-free_bit ws n k taken shown is =
-    let free : slice_get (taken_in ws n) k ≡ Some false = ap (λ (s : List Bool). slice_get s k) shown ∙ is in
-    let lt : k < n = omega (arith, slice_get_within (taken_in ws n) k false free, length-taken_in ws n) in
-    let e : (bit ws k == 0) ≡ false = sym (get_or-taken_in ws n k true lt)
-    ∙ get_or_from_slice_get (taken_in ws n) k false true free in
-    (lt, grind (arith, nat_tests))
+free_bit ws n k taken shown is = grind (arith, elements, length-taken_in, get_or-taken_in)
 
 -- the lowest bit is the least free number
 pub least_at : (ws : List ℕ) (n k : ℕ) → k < n → bit ws k ≡ 1 → ((j : ℕ) → j < k → bit ws j ≡ 0)
@@ -126,15 +100,14 @@ least_none ws n none = position_or_len_is not (taken_in ws n) n true (simp lengt
 
 -- a bit is set for numbers below the length alone
 pub within_length : (ws : List ℕ) (n k : ℕ) → ((j : ℕ) → n ≤ j → bit ws j ≡ 0) → bit ws k ≡ 1 → k < n
-within_length ws n k none_past here = ⊎_elim (λ lt. lt) (λ (past : n ≤ k). let e = none_past k past in
-    absurd (omega arith)) (cases_lt k n)
+within_length ws n k none_past here = search arith
 
 -- an empty word at the end has no bit
 pub pushed_bit : (ws : List ℕ) (k : ℕ) → bit (ws ++ 0 ∷ []) k ≡ bit ws k
-pushed_bit ws k = ap (λ (x : ℕ). bit_at x (k % 64)) (pushed_none ws (k / 64))
+pushed_bit ws k = search (arith, pushed_none)
 
 pub word_of_bit : (ws : List ℕ) (n : ℕ) → bit ws n ≡ 1 → n / 64 < length ws
-word_of_bit ws n here = inside ws (n / 64) (some_of_bit ws n here)
+word_of_bit ws n here = search (arith, inside)
 
 -- one more number, free
 pub one_more_free : (n : ℕ) → set (replicate n false ++ true ∷ []) n false ≡ replicate (suc n) false
@@ -148,7 +121,7 @@ no_word (suc w) zero = refl
 no_word (suc w) (suc k) = no_word w k
 
 pub no_bit : (w k : ℕ) → bit (replicate w 0) k ≡ 0
-no_bit w k = bit_of_empty (replicate w 0) k (no_word w (k / 64))
+no_bit w k = search (arith, no_word)
 
 -- without a bit every number is taken
 pub all_taken : (ws : List ℕ) (n : ℕ) → ((k : ℕ) → bit ws k ≡ 0) → taken_in ws n ≡ replicate n true
