@@ -13,9 +13,9 @@ ROOT = pathlib.Path(__file__).resolve().parent.parent
 # The program, as the gate, `./obman prove` or OBMAN has it, and the C library, as `make` has it.
 PROGRAM = pathlib.Path(os.environ.get("OBMAN", ROOT / "crates" / "obman" / "out" / "obman"))
 LIBRARY = ROOT / "build" / "libobman.a"
-INCLUDE, SOURCES = ["-I", ROOT / "include"], ROOT / "checks" / "in_c"
+INCLUDE = ["-I", ROOT / "include"]
 # What stands between a host and the library, which has a manager recorded, or begun with pins.
-WRAPPED = ["-Wl,--wrap=om_new", "-Wl,--wrap=om_free", SOURCES / "wrapped.c"]
+WRAPPED = ["-Wl,--wrap=om_new", "-Wl,--wrap=om_free", ROOT / "checks" / "wrapped.c"]
 # The worked rows, the examples, and the scripts that show departures from Windows.
 ROWS, EXAMPLES, DEPARTURES = ROOT / "crates" / "obman" / "rows", ROOT / "examples", ROOT / "tools" / "windows" / "departures"
 # The limits, by their options in the order of om_limits, with what they are unless it is said.

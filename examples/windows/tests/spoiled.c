@@ -1,6 +1,6 @@
 /* spoiled FROM TO N: writes a savestate of examples/windows/host anew, with its N-th lie and the digest that fits, and says which. The status
  * is 1 where there is no such lie. */
-#include "../../examples/windows/host/host.h"
+#include "../host/host.h"
 
 #include <stddef.h>
 #include <stdio.h>

@@ -17,7 +17,7 @@ using numbers = std::vector<std::uint32_t>;
 
 static void must(bool holds, int line, const char *what) {
     if (!holds) {
-        std::fprintf(stderr, "plus.cc:%d: not so: %s\n", line, what);
+        std::fprintf(stderr, "test_obman.cc:%d: not so: %s\n", line, what);
         std::exit(1);
     }
 }
