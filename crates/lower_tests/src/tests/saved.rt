@@ -250,11 +250,21 @@ fn keeper_for(alloc: Global, manager: &Manager<LockedPins>) -> Result<Keeper, Fa
     Ok(keeper)
 }
 
+/// The manager of a savestate over a keeper without a lock.
+fn loaded_in_words(rt: &impl Abort, alloc: Global, bytes: &[u8]) -> Result<Manager<Keeper>, Fault> {
+    let manager = loaded_again(rt, alloc, bytes)?;
+    match keeper_for(alloc, &manager) {
+        Ok(keeper) => Ok(manager.over(keeper)),
+        Err(fault) => {
+            drop(manager);
+            Err(fault)
+        }
+    }
+}
+
 /// The same over a keeper without a lock.
 fn goes_on_in_words(rt: &impl Abort, alloc: Global, course: &Course<'_>) -> Result<(), Fault> {
-    let manager = loaded_again(rt, alloc, course.before)?;
-    let keeper = keeper_for(alloc, &manager)?;
-    let mut manager = manager.over(keeper);
+    let mut manager = loaded_in_words(rt, alloc, course.before)?;
     let gone = goes_on(rt, alloc, &mut manager, course);
     drop(manager);
     gone
