@@ -107,7 +107,7 @@ fn beginning(place: u32) -> Line<'static> {
         let thread = number + LASTING;
         return (StartThread { process: number }, Started { thread });
     }
-    let slot = (place + 1) % LASTING;
+    let slot = (place - (2 * LASTING - 1)) % LASTING;
     let event = MakeEvent {
         thread: LASTING,
         make: PLAIN,
