@@ -5,6 +5,7 @@ ghost use Rattle.std.specs.Str.{bytes_eq};
 
 /// Whether two texts have the same bytes. The last eight are compared as they stand, though some of them may have been.
 #[inline(always)]
+#[tactic(auto, using(crate::proofs::Overlapped::last_decides))]
 pub(crate) fn same_bytes(text: &[u8], other: &[u8]) -> bool
     ensures { result ≡ bytes_eq text.now other.now }
 {

@@ -93,6 +93,7 @@ impl Directory {
     }
 
     /// Enters a name, which is the last one then. Takes no memory.
+    #[tactic(auto, using(crate::proofs::Counted::few_rows))]
     pub fn enter(&mut self, name: Name, id: Id)
         requires absent { find_name name self.old.rows ≡ None }
         requires room { 0 < self.old.spare }
@@ -119,6 +120,7 @@ impl Directory {
     }
 
     /// Takes a name out, and answers its Id. A hole is left at the name's place.
+    #[tactic(auto, using(crate::proofs::Removed::stays, crate::proofs::Removed::looked_up, crate::proofs::Removed::some_counted))]
     fn take_out(&mut self, name: &NameRef<'_>) -> Option<Id>
         ensures id { result ≡ find_name (name_at name.now) self.old.rows }
         ensures rows { self.new.rows ≡ without_name (name_at name.now) self.old.rows }
@@ -145,6 +147,7 @@ impl Directory {
     }
 
     /// The number of names.
+    #[tactic(auto, using(crate::proofs::Found::rows_distinct))]
     pub fn len(&self) -> usize
         ensures len { result ≡ length self.now.rows }
         ensures distinct { AreDistinct self.now.rows }
@@ -161,6 +164,7 @@ impl Directory {
     ///
     /// [`close_holes`]: Directory::close_holes
     /// [`rows`]: Directory::rows
+    #[tactic(auto, using(crate::proofs::Walked::direct))]
     pub fn row(&self, at: usize) -> Option<(NameRef<'_>, Id)>
         ensures { option_map row_at result ≡ slice_get self.now.rows at }
     {

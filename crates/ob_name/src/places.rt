@@ -57,6 +57,7 @@ pub(crate) fn row_on<'a>(
 }
 
 /// The first row at a place or behind it, with the place behind its own.
+#[tactic(auto, using(crate::proofs::Walked::passed_by))]
 pub(crate) fn first_row<'a>(
     ids: &'a IndexMap<Name, Entered>,
     order: &Vec<usize>,
@@ -111,6 +112,7 @@ fn move_row(
 }
 
 /// Closes the holes in the order of entry.
+#[tactic(auto, using(crate::proofs::Moved::cuts))]
 pub(crate) fn close_up(ids: &mut IndexMap<Name, Entered>, order: &mut Vec<usize>)
     requires ordered { IsOrdered ids.old.entries order.old.items }
     ensures ordered { IsOrdered ids.new.entries order.new.items }

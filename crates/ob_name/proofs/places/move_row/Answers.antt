@@ -1,4 +1,4 @@
-use Rattle.std.proofs.Common.{refl, sym, arith, length, set}
+use Rattle.std.proofs.Common.{refl, sym, arith, set}
 use Rattle.std.proofs.lemmas.Option.{slice_get_read}
 use Rattle.indexmap.specs.IndexMap.{set_value_at}
 use Rattle.ob_name.proofs.Moved.{IsMoved, moves}
@@ -14,8 +14,7 @@ moved : (c : After-order-1) → IsMoved c.args.ids.now.entries
 moved c = moves c.args.ids.now.entries c.args.order.now.items c.args.from c.args.to c.index-index.result.now
     (c.in-Some.field-0-0.now, c.in-Some.entered.now) (record { id = c.in-Some.entered.now.id; place = c.args.to })
     c.requires.ordered c.requires.low c.requires.gap
-    (slice_get_read c.args.order.now.items (length c.args.order.now.items) c.args.from c.index-index.result.now refl
-    c.requires.high c.index-index.ensures)
+    (search (arith, slice_get_read))
     (sym c.in-Some.ensures.entry) c.if-entered-from.false refl refl
 
 pub returns-clause-ordered : goal.returns-clause-ordered
@@ -25,4 +24,4 @@ pub returns-clause-rows : goal.returns-clause-rows
 returns-clause-rows c = (moved c).rows
 
 pub returns-clause-gap : goal.returns-clause-gap
-returns-clause-gap c = λ q above below. (moved c).gap q (omega (arith, above)) below
+returns-clause-gap c = λ q above below. (moved c).gap q (omega arith) below
