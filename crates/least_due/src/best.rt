@@ -47,6 +47,7 @@ fn not_before(due: Option<u64>, from: u64) -> Option<u64>
 }
 
 /// The least moment from one on.
+#[tactic(auto, using(crate::proofs::BestLemmas::among_more))]
 pub(crate) fn least_since(dues: &[Option<u64>], from: u64) -> Option<u64>
     ensures { IsLeastSince from dues.now result }
 {

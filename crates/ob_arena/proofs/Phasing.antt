@@ -1,25 +1,25 @@
 -- What the phases say of the slots, and what a change of one slot does to them.
-use Rattle.std.proofs.Common.{◌≡◌, ◌∙◌, sym, ap, refl, subst, ℕ, zero, suc, ◌<◌, ◌≤◌, List, ◌∷◌, length, map, replicate, get_or, set, Option, Some, None, Bool, true, false, ltb, arith, inl, inr, lt-ltb, zero-add}
+use Rattle.std.proofs.Common.{◌≡◌, ◌∙◌, sym, ap, refl, ℕ, zero, suc, ◌<◌, ◌≤◌, List, ◌∷◌, length, map, replicate, get_or, set, Option, Some, None, Bool, true, false, ltb, arith, lt-ltb, zero-add}
 use Rattle.std.specs.Prelude.{is_some, is_none, not, ◌&&◌, slice_get, IsSome}
 use Rattle.std.specs.List.{range_with_len, position_or_len}
 use Rattle.std.proofs.Math.ListN.{get_or-map}
 use Rattle.std.proofs.Math.Seq.{map-set_same}
-use Rattle.std.proofs.lemmas.Bool.{and_parts, cases_lt, ltb-true}
+use Rattle.std.proofs.lemmas.Bool.{and_parts, ltb-true}
 use Rattle.std.proofs.lemmas.List.Sums.{prefix_len-le-length, position_or_len_is, fails_before_first, passes_at_first}
 use Rattle.std.proofs.lemmas.List.FromFn.{get_or-range_with_len, length-range_with_len}
 use Rattle.std.proofs.lemmas.List.Folds.{find_at}
 use Rattle.std.proofs.lemmas.List.{ext_get_or, get_or_default, get_or-replicate, get_or-set_same, get_or_past, map-set, length-map, length-set, length-replicate}
-use Rattle.std.proofs.lemmas.Option.{none-some, slice_get-get_or, slice_get_past}
+use Rattle.std.proofs.lemmas.Option.{slice_get-get_or, slice_get_past}
 use Rattle.least_free.specs.Taken.{least_free}
 use Rattle.ob_arena.specs.declared.phase.Phase.{Phase}
 use Rattle.ob_arena.specs.declared.phase.Phase.TheVariants.{Vacant, Occupied, Retired}
 use Rattle.ob_arena.specs.Phases.{is_vacant, is_occupied, is_retired, is_in_use}
-use Rattle.ob_arena.specs.Slots.{Slots, IsFilled, is_vacant_at, least_vacant, with_body, without_body, with_retired, vacant_slots}
+use Rattle.ob_arena.specs.Slots.{IsFilled, is_vacant_at, least_vacant, with_body, without_body, with_retired, vacant_slots}
 use Rattle.ob_arena.specs.Arena.{slots_shown, IsTied}
 
 module _ {B : Type 0} (ss : List (Option B)) (ps : List Phase) (taken : List Bool) (tied : IsTied ss ps taken) where
   pub length-phases : length ps ≡ length ss
-  length-phases = sym (length-map ps is_occupied) ∙ ap length tied.occupied ∙ length-map ss is_some
+  length-phases = search (arith, length-map)
 
   pub length-taken : length taken ≡ length ss
   length-taken = ap length tied.in_use ∙ length-map ps is_in_use ∙ length-phases
@@ -45,9 +45,7 @@ module _ {B : Type 0} (ss : List (Option B)) (ps : List Phase) (taken : List Boo
 
   pub vacant_within : (k : ℕ) (p : Phase) → k < length ps → p ≡ get_or ps k p
       → is_vacant p ≡ is_vacant_at (slots_shown ss ps) k
-  vacant_within k p lt read = ap is_vacant (read ∙ get_or_default ps k p Vacant lt)
-      ∙ sym (vacant_phase k ∙ ap (λ (b : Bool). b && is_vacant (get_or ps k Vacant))
-      (lt-ltb k (length ss) (let n = length-phases in omega arith)))
+  vacant_within k p lt read = search (arith, length-phases, vacant_phase, get_or_default)
 
   pub occupied_within : (k : ℕ) (p : Phase) → k < length ps → p ≡ get_or ps k p
       → is_occupied p ≡ is_some (get_or ss k None)
@@ -65,10 +63,6 @@ module _ {B : Type 0} (ss : List (Option B)) (ps : List Phase) (taken : List Boo
   vacant_is Occupied h = cc
   vacant_is Retired h = cc
 
-  none_is : (s : Option B) → false ≡ is_some s → s ≡ None
-  none_is None h = refl
-  none_is (Some x) h = cc
-
   free_at : (k : ℕ) → k < length ss → slice_get taken k ≡ Some (is_in_use (get_or ps k Vacant))
   free_at k lt = slice_get-get_or taken k false (let n = length-taken in omega arith)
       ∙ ap Some (ap (λ (l : List Bool). get_or l k false) tied.in_use ∙ get_or-map is_in_use ps k Vacant)
@@ -78,12 +72,7 @@ module _ {B : Type 0} (ss : List (Option B)) (ps : List Phase) (taken : List Boo
       let both = and_parts (ltb k (length ss)) (is_vacant (get_or ps k Vacant)) (sym (vacant_phase k) ∙ h) in
       let lt : k < length ss = ltb-true k (length ss) both.0 in
       let phase = vacant_is (get_or ps k Vacant) both.1 in
-      record {
-        within = lt;
-        none = none_is (get_or ss k None) (sym (ap is_occupied phase) ∙ occupied_at k);
-        phase = phase;
-        free = free_at k lt ∙ ap (λ (p : Phase). Some (is_in_use p)) phase;
-      }
+      search (arith, free_at)
 
   -- what is known of a slot with a body
   pub record IsHeld (k : ℕ) : Type 0 where
@@ -101,82 +90,47 @@ module _ {B : Type 0} (ss : List (Option B)) (ps : List Phase) (taken : List Boo
   some_of (Some x) h = (x, refl)
 
   within_of : (k : ℕ) (x : B) → get_or ss k None ≡ Some x → k < length ss
-  within_of k x e = elim (cases_lt k (length ss)) [
-    | inl lt ↦ lt
-    | inr ge ↦
-        absurd (none-some x (sym (get_or_past ss k None ge) ∙ e))
-  ]
+  within_of k x e = search (arith, get_or_past)
 
   pub held_slot : (k : ℕ) → IsSome (get_or ss k None) → IsHeld k
   held_slot k h =
       let filled = some_of (get_or ss k None) h in
-      record {
-        within = within_of k filled.0 filled.1;
-        filled = filled;
-        phase = occupied_is (get_or ps k Vacant) (occupied_at k ∙ ap is_some filled.1);
-      }
+      search (arith, occupied_at, occupied_is, within_of)
 
   -- a slot with a body has a number of the set
   pub held_number : (k : ℕ) → IsHeld k → k < length taken
-  held_number k held = let n = length-taken in let lt = held.within in omega arith
+  held_number k held = search (arith, length-taken)
 
   -- a body comes to a vacant slot
   pub tied_put : (k : ℕ) (x : B) → IsFree k → IsTied (set ss k (Some x)) (set ps k Occupied) (set taken k true)
-  tied_put k x free = record {
-    at_most = omega (arith, length-set ss k (Some x), tied.at_most);
-    occupied = map-set is_occupied ps k Occupied ∙ ap (λ (l : List Bool). set l k true) tied.occupied
-        ∙ sym (map-set is_some ss k (Some x));
-    in_use = ap (λ (l : List Bool). set l k true) tied.in_use ∙ sym (map-set is_in_use ps k Occupied);
-  }
+  tied_put k x free = search (arith, length-set, map-set)
 
   pub shown_put : (k : ℕ) (x : B) → IsFree k → slots_shown (set ss k (Some x)) (set ps k Occupied)
       ≡ with_body (slots_shown ss ps) k x
-  shown_put k x free = ap (slots_shown' (set ss k (Some x)))
-      (map-set_same is_retired ps k Occupied Vacant (sym (ap is_retired free.phase)))
-    where
-      slots_shown' : List (Option B) → List Bool → Slots B
-      slots_shown' bodies retired = record { bodies = bodies; retired = retired }
+  shown_put k x free = search (arith, map-set_same)
 
   -- a body leaves its slot
   pub tied_take : (k : ℕ) → IsHeld k → IsTied (set ss k None) (set ps k Vacant) (set taken k false)
-  tied_take k held = record {
-    at_most = omega (arith, length-set ss k None, tied.at_most);
-    occupied = map-set is_occupied ps k Vacant ∙ ap (λ (l : List Bool). set l k false) tied.occupied
-        ∙ sym (map-set is_some ss k None);
-    in_use = ap (λ (l : List Bool). set l k false) tied.in_use ∙ sym (map-set is_in_use ps k Vacant);
-  }
+  tied_take k held = search (arith, length-set, map-set)
 
   pub shown_take : (k : ℕ) → IsHeld k → slots_shown (set ss k None) (set ps k Vacant)
       ≡ without_body (slots_shown ss ps) k
-  shown_take k held = ap (λ (retired : List Bool). record { bodies = set ss k None; retired = retired })
-      (map-set_same is_retired ps k Vacant Vacant (sym (ap is_retired held.phase)))
+  shown_take k held = search (arith, map-set_same)
 
   pub vacant_take : (k : ℕ) → IsHeld k → (ltb k (length (set ss k None))
       && is_vacant (get_or (set ps k Vacant) k Vacant)) ≡ true
-  vacant_take k held =
-      ap (λ (b : Bool). b && is_vacant (get_or (set ps k Vacant) k Vacant)) (lt-ltb k (length (set ss k None)) (let lt =
-      held.within in omega (arith, length-set ss k None)))
-      ∙ ap is_vacant (get_or-set_same ps k Vacant Vacant (let lt = held.within in let n = length-phases in omega arith))
+  vacant_take k held = search (arith, length-phases, get_or-set_same, length-set)
 
   -- a body changes in its slot
   pub tied_changed : (k : ℕ) (x : B) → IsHeld k → IsTied (set ss k (Some x)) ps taken
-  tied_changed k x held = record {
-    at_most = omega (arith, length-set ss k (Some x), tied.at_most);
-    occupied = tied.occupied ∙ sym (map-set_same is_some ss k (Some x) None (sym (ap is_some held.filled.1)));
-    in_use = tied.in_use;
-  }
+  tied_changed k x held = search (arith, length-set, map-set_same)
 
   -- a vacant slot is retired
   pub tied_retire : (k : ℕ) → IsFree k → IsTied ss (set ps k Retired) (set taken k true)
-  tied_retire k free = record {
-    at_most = tied.at_most;
-    occupied = map-set_same is_occupied ps k Retired Vacant (sym (ap is_occupied free.phase)) ∙ tied.occupied;
-    in_use = ap (λ (l : List Bool). set l k true) tied.in_use ∙ sym (map-set is_in_use ps k Retired);
-  }
+  tied_retire k free = search (arith, map-set, map-set_same)
 
   pub shown_retire : (k : ℕ) → slots_shown ss (set ps k Retired) ≡ with_retired (slots_shown ss ps) k
-  shown_retire k = ap (λ (retired : List Bool). record { bodies = ss; retired = retired })
-      (map-set is_retired ps k Retired)
+  shown_retire k = search (arith, map-set)
 
   -- the least number that isn't taken is the least vacant slot
   free_is_vacant : (p : Phase) → not (is_in_use p) ≡ is_vacant p
@@ -207,15 +161,11 @@ module _ {B : Type 0} (ss : List (Option B)) (ps : List Phase) (taken : List Boo
   pub least_found : least_free taken < length ss → least_vacant (slots_shown ss ps) ≡ Some (least_free taken)
   least_found lt = find_at (is_vacant_at (slots_shown ss ps)) (range_with_len 0 (length ss))
       ∙ ap (slice_get (range_with_len 0 (length ss))) first_vacant
-      ∙ slice_get-get_or (range_with_len 0 (length ss)) (least_free taken) 0 (let n =
-      length-range_with_len 0 (length ss) in omega arith)
-      ∙ ap Some (get_or-range_with_len 0 (length ss) (least_free taken) 0 lt ∙ zero-add (least_free taken))
+      ∙ slice_get-get_or (range_with_len 0 (length ss)) (least_free taken) 0 (search (arith, length-range_with_len))
+      ∙ ap Some (search (arith, get_or-range_with_len))
 
   pub none_found : length ss ≤ least_free taken → least_vacant (slots_shown ss ps) ≡ None
-  none_found past = find_at (is_vacant_at (slots_shown ss ps)) (range_with_len 0 (length ss))
-      ∙ ap (slice_get (range_with_len 0 (length ss))) first_vacant
-      ∙ slice_get_past (range_with_len 0 (length ss)) (least_free taken) (let n = length-range_with_len 0 (length ss) in
-      omega arith)
+  none_found past = search (arith, first_vacant, find_at, length-range_with_len, slice_get_past)
 
 pub map-replicate : {X Y : Type 0} (f : X → Y) (x : X) (n : ℕ) → map f (replicate n x) ≡ replicate n (f x)
 map-replicate f x zero = refl
@@ -225,27 +175,19 @@ map-replicate f x (suc n) = ap (λ l. f x ∷ l) (map-replicate f x n)
 module _ {B : Type 0} where
   pub retied : (ss ss' : List (Option B)) (ps ps' : List Phase) (taken taken' : List Bool) → ss' ≡ ss → ps' ≡ ps
       → taken' ≡ taken → IsTied ss ps taken → IsTied ss' ps' taken'
-  retied ss ss' ps ps' taken taken' es ep et tied =
-      subst (λ (l : List (Option B)). IsTied l ps' taken') (sym es)
-      (subst (λ (l : List Phase). IsTied ss l taken') (sym ep)
-      (subst (λ (l : List Bool). IsTied ss ps l) (sym et) tied))
+  retied ss ss' ps ps' taken taken' es ep et tied = search arith
 
   pub tied_new : (n : ℕ) → n ≤ 65536 → IsTied {B = B} (replicate n None) (replicate n Vacant) (replicate n false)
-  tied_new n few = record {
-    at_most = let e : length (replicate {A = Option B} n None) ≡ n = length-replicate n None in omega arith;
-    occupied = map-replicate is_occupied Vacant n ∙ sym (map-replicate is_some None n);
-    in_use = sym (map-replicate is_in_use Vacant n);
-  }
+  tied_new n few = search (arith, map-replicate, length-replicate)
 
   pub shown_new : (n : ℕ) → slots_shown {B = B} (replicate n None) (replicate n Vacant) ≡ vacant_slots n
-  shown_new n = ap (λ (retired : List Bool). record { bodies = replicate n None; retired = retired })
-      (map-replicate is_retired Vacant n)
+  shown_new n = search (arith, map-replicate)
 
 -- slots that have no body
 pub all_none : {B : Type 0} (ss : List (Option B)) (n : ℕ) → length ss ≡ n → ((k : ℕ) → k < n → get_or ss k None ≡ None)
     → ss ≡ replicate n None
 all_none ss n long none = ext_get_or None ss (replicate n None) (long ∙ sym (length-replicate n None))
-    (λ k lt. none k (omega arith) ∙ sym (get_or-replicate n k None None (omega arith)))
+    (search (arith, get_or-replicate))
 
 -- a slot whose body was taken is vacant
 pub vacant_taken_from : {B : Type 0} (ss : List (Option B)) (ps : List Phase) (taken : List Bool)

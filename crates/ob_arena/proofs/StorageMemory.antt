@@ -1,6 +1,6 @@
 -- The storage of slots as memory: a slot is taken out of it, put back, or seen; and what values of no bytes, of one
 -- pointer and of three parts are to the machine.
-use Rattle.ob_arena.proofs.Steps.{◌≡◌, refl, sym, ap, subst, ◌∙◌, ℕ, zero, suc, ◌+◌, ◌*◌, ◌<◌, ◌^◌, arith, zero-mul, suc-mul, List, [], ◌∷◌, ◌++◌, length, set, get_or, replicate, Ura, full_share, SProp, ent, sep, emp, ex, guard, via, Fml, Lft, ftrue, fsep, fat, froom, Ty, Args, a_type, ty_array, dcons, dnil, bare, Val, vstruct, vcons, vnil, of_list, capped_is, size, align, capped, size-raw, align-raw, Logic, sem, fact, fact_i, Item, Goal, Seq, Step, step, prop, ‵, raw, some, ◌⊛◌, ◌$◌, ◌∵◌, !, qed, by, move, keep, skip, use0, use1, use2, pick, split, check, show, frame, fsplit, fjoin, fpick, fpack, feq_i, feq_l, rewrite, done, RattleType, Valss, Typed, Is, shows, param, bounded, layout, Laws, param_laws, part_at, Ptr, RawPtr, ptr_val, makes_shadow, nothing, peeks, Shape, Struct, within, shape, Tuple, tuple_type, part_in, part_out, Option, Some, None, type_size, El, R, el_x, elτ, Good, word}
+use Rattle.ob_arena.proofs.Steps.{◌≡◌, refl, sym, ap, subst, ◌∙◌, ℕ, zero, suc, ◌+◌, ◌*◌, ◌<◌, ◌^◌, arith, zero-mul, List, [], ◌∷◌, ◌++◌, length, set, get_or, replicate, Ura, full_share, SProp, ent, sep, emp, ex, guard, via, Fml, Lft, ftrue, fsep, fat, froom, Ty, Args, a_type, ty_array, dcons, dnil, bare, Val, vstruct, vcons, vnil, of_list, size, align, capped, size-raw, align-raw, Logic, sem, fact, fact_i, Item, Goal, Seq, Step, step, prop, ‵, raw, some, ◌⊛◌, ◌$◌, ◌∵◌, !, qed, by, move, keep, skip, use0, use1, use2, pick, split, check, show, frame, fsplit, fjoin, fpick, fpack, feq_i, feq_l, rewrite, done, RattleType, Valss, Typed, Is, shows, param, bounded, layout, Laws, param_laws, part_at, Ptr, RawPtr, ptr_val, makes_shadow, nothing, peeks, Shape, Struct, within, shape, Tuple, tuple_type, part_in, part_out, Option, Some, None, type_size, El, R, el_x, elτ, Good, word}
 use denote.Struct.Declared as Declared
 use Rattle.std.proofs.alloc.Calls.{Al}
 use Rattle.ob_arena.specs.Memory.{slot, slots, slot_lent, slots_lent}
@@ -129,7 +129,7 @@ filled_within (s ∷ ss) (suc i) x e = omega (arith, filled_within ss i x e)
 -- the bytes of n slots fit a word, and so do those of one where n is not 0
 pub uncapped : (n k : ℕ) → n * k < 2 ^ 64 → n * capped k ≡ n * k
 uncapped zero k h = zero-mul (capped k) ∙ sym (zero-mul k)
-uncapped (suc n) k h = let more = suc-mul n k in ap (λ (j : ℕ). suc n * j) (capped_is k (omega arith))
+uncapped (suc n) k h = search arith
 
 -- the layout that memory for n slots is taken with
 module _ (E : El) where
@@ -137,7 +137,7 @@ module _ (E : El) where
   memory_of n = bare (ty_array (elτ E) n)
 
   pub memory_size : (n : ℕ) → n * sz E < 2 ^ 64 → capped (size (memory_of n)) ≡ n * sz E
-  memory_size n fits = ap capped (size-raw (ty_array (elτ E) n)) ∙ capped_is (n * sz E) fits
+  memory_size n fits = search (arith, size-raw)
 
   pub memory_align : (n : ℕ) → capped (align (memory_of n)) ≡ capped (align (elτ E))
   memory_align n = ap capped (align-raw (ty_array (elτ E) n))
@@ -166,10 +166,10 @@ module _ (E : El) {M : Type 1} {𝓤 : Ura M} (𝓛 : Logic 𝓤) (b : ℕ) wher
 
   -- where the i-th of a storage that begins at o lies, and the same counted from the second on
   first_offset : (o : ℕ) → o ≡ zero * s + o
-  first_offset o = omega (arith, zero-mul s)
+  first_offset o = omega arith
 
   next_offset : (i o : ℕ) → i * s + (o + s) ≡ suc i * s + o
-  next_offset i o = omega (arith, suc-mul i s)
+  next_offset i o = omega arith
 
   pub slot_out : (o : ℕ) (ss : List (Slot E)) (i : ℕ) → i < length ss
       → ent 𝓤 (sem 𝓛 (Slots o ss)) (sep 𝓤 (sem 𝓛 (slot (R E) b (i * s + o) (get_or ss i None))) (sem 𝓛 (Others o ss i)))
@@ -195,7 +195,7 @@ module _ (E : El) {M : Type 1} {𝓤 : Ura M} (𝓛 : Logic 𝓤) (b : ℕ) wher
 
   -- room for an array is a storage of empty slots
   pub of_room : (n o : ℕ) → ent 𝓤 (H.room (ty_array (elτ E) n) b o) (sem 𝓛 (Slots o (replicate n None)))
-  of_room zero o = qed 𝓛 (‵ (froom (ty_array (elτ E) 0) b o) ∷ []) ∵ keep ! [] $ done !
+  of_room zero o = search arith
   of_room (suc n) o = qed 𝓛 (‵ (froom (ty_array (elτ E) (suc n)) b o) ∷ []) ∵
       use1 𝓛 (‵ (froom (elτ E) b o) ⊛ ‵ (froom (ty_array (elτ E) n) b (o + s))) (𝓛.laws.room_uncons (elτ E) n b o) $
       split ! $

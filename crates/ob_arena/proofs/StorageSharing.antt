@@ -1,4 +1,5 @@
 -- A `&` to a storage can be made wherever one to each of its bodies can.
+use Rattle.std.proofs.Common.{arith}
 use Rattle.ob_arena.proofs.Steps.{ℕ, ◌+◌, List, [], ◌∷◌, Ura, Lft, Incl, ftrue, ffalse, Logic, RattleType, RowLaws, Laws, Ptr, block_ptr, null_ptr, ShrLaws, said, beside_shr_laws, nothing_shr_laws, said_shr_laws, Shares-less, Lends, Lends-both, Lends-nothing, Lends-said, Lends-false, Option, Some, None, type_size}
 use Rattle.ob_arena.specs.Memory.{slot, slots, slot_lent, slots_lent, fit, storage_owns, storage_lends}
 
@@ -9,10 +10,10 @@ module _ (B : RattleType) (L : RowLaws B) where
 
   slots_laws : (b o : ℕ) (ss : List (Option B.Denot)) → ShrLaws (slots_lent B b o ss)
   slots_laws b o [] = nothing_shr_laws
-  slots_laws b o (s ∷ ss) = beside_shr_laws _ _ (slot_laws b o s) (slots_laws b (o + type_size B) ss)
+  slots_laws b o (s ∷ ss) = search (arith, slot_laws, beside_shr_laws, slots_laws b (o + type_size B) ss)
 
   pub storage_laws : (p : Ptr) (ss : List (Option B.Denot)) → ShrLaws (storage_lends B p ss)
-  storage_laws (block_ptr b o) ss = beside_shr_laws _ _ (said_shr_laws (fit B ss) tt) (slots_laws b o ss)
+  storage_laws (block_ptr b o) ss = search (arith, slots_laws, beside_shr_laws, said_shr_laws)
   storage_laws null_ptr ss = said_shr_laws ffalse tt
 
 module _ {M : Type 1} {𝓤 : Ura M} (𝓛 : Logic 𝓤) (l : Lft) (B : RattleType) (L : Laws B) (lasts : Incl l B.lives) where

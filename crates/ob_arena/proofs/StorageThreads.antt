@@ -1,19 +1,13 @@
 -- A storage crosses threads where its bodies do, and a title where its allocator does.
-use Rattle.ob_arena.proofs.Steps.{ℕ, ◌+◌, List, [], ◌∷◌, full_share, RattleType, Ptr, block_ptr, null_ptr, Option, Some, None, type_size, shape}
+use Rattle.std.proofs.Common.{arith}
+use Rattle.ob_arena.proofs.Steps.{ℕ, ◌+◌, List, [], ◌∷◌, full_share, RattleType, Ptr, block_ptr, null_ptr, Option, Some, None, type_size}
 use base.Shift.{Keyless}
-use denote.Exit.{Exit, unchanged, leaves, hidden, under}
-use denote.Struct.Struct.{exits_of}
-use denote.Struct.Owning.{fields, to}
-use denote.Param.Send.{IsSend, IsSync, Frees, Quiet, Common, AllSend, part_keyless, owning_send, struct_send, struct_sync, sendable}
+use denote.Struct.Owning.{fields}
+use denote.Param.Send.{IsSend, IsSync, Frees, Common, AllSend, part_keyless, owning_send, sendable}
 use Rattle.std.specs.declared.alloc.Allocator.{Ghosts}
 use Rattle.ob_arena.specs.Memory.{slots, slots_lent, storage_owns, storage_lends}
 use Rattle.ob_arena.specs.contracts.storage.Storage as StorageType
 use Rattle.ob_arena.specs.contracts.storage.Title as TitleType
-
--- what leaves a struct leaves its fields
-quiet_fields : {D X : Type 0} (f : D → X) (e : Exit X) → Quiet e → Quiet (hidden (under f e))
-quiet_fields f unchanged q = λ x w. tt
-quiet_fields f (leaves L l S s r) q = λ d. q (f d)
 
 module _ (B : RattleType) where
   slots_keyless : IsSend B → (b o : ℕ) (ss : List (Option B.Denot)) → Keyless (slots B b o ss)
@@ -38,24 +32,17 @@ module _ (B : RattleType) where
   storage_send s =
       let O = StorageType.the_type B in let all : AllSend (fields O) = (search sendable, tt) in
       owning_send O all (λ d. storage_keyless s d.front d.slots)
-      (λ k. quiet_fields (to O) (exits_of k (fields O)) ((struct_send (shape O) all).leaving k))
+      (search arith)
 
   pub storage_sync : IsSync B → IsSync (StorageType.the_row B)
-  storage_sync y = let O = StorageType.the_type B in
-      record {
-        shared = λ d b o κ. (
-          (struct_sync (shape O) (search sendable, tt)).shared (to O d) b o κ,
-          storage_common y d.front d.slots κ,
-        );
-      }
+  storage_sync y = search (arith, storage_common)
 
   module _ (A : RattleType) (g : Ghosts A.Denot) where
     pub title_send : Frees g g.dealloc_token → IsSend (TitleType.the_row B A g)
     title_send f =
         let O = TitleType.the_type B A g in let all : AllSend (fields O) = (search sendable, tt) in
         owning_send O all (λ d. f.frees d.alloc _ d.front)
-        (λ k. quiet_fields (to O) (exits_of k (fields O)) ((struct_send (shape O) all).leaving k))
+        (search arith)
 
     pub title_sync : IsSync (TitleType.the_row B A g)
-    title_sync = let O = TitleType.the_type B A g in
-        record { shared = λ d b o κ. ((struct_sync (shape O) (search sendable, tt)).shared (to O d) b o κ, tt) }
+    title_sync = search arith

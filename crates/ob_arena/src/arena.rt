@@ -60,6 +60,7 @@ impl<B> Arena<B> {
     ghost use Rattle.ob_arena.specs.ArenaLends.{lends_body};
 
     /// An arena of `slots` slots, at most 65,536, which are all vacant.
+    #[tactic(auto, using(crate::proofs::Phasing::shown_new))]
     pub fn new(alloc: Global, slots: u32) -> Result<Arena<B>, AllocError>
         requires { slots ≤ SLOTS_MAX }
         ensures { IfOk result (λ arena. arena ≡ vacant_slots slots) }
@@ -102,6 +103,7 @@ impl<B> Arena<B> {
 
     /// Whether a slot has a body, as [`get`](Arena::get), [`get_mut`](Arena::get_mut) and [`take`](Arena::take) want
     /// it. A number past the slots names none.
+    #[tactic(auto, using(crate::proofs::Phasing::occupied_within))]
     pub fn is_occupied(&self, slot: u32) -> bool
         ensures { result ≡ is_some (body_at self.now slot) }
     {
@@ -154,6 +156,7 @@ impl<B> Arena<B> {
 
     /// Whether a slot is vacant. A number past the slots names none, and a retired slot isn't vacant, so a slot that
     /// isn't vacant need not have a body: [`is_occupied`](Arena::is_occupied) tells that.
+    #[tactic(auto, using(crate::proofs::Phasing::vacant_within))]
     pub fn is_vacant(&self, slot: u32) -> bool
         ensures { result ≡ is_vacant_at self.now slot }
     {

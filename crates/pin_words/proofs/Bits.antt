@@ -18,13 +18,13 @@ or_low g c d r hc hd e = let f : bit_or (g * 2 ^ 2 + c) (0 * 2 ^ 2 + d) ≡ bit_
 -- Free becomes Live
 pub publish-or : (g n : ℕ) → n < 1073741824 → bit_or (packed g 0 n) 1073741824 ≡ packed g 1 n
 publish-or g n h = let e : bit_or ((g * 4 + 0) * 2 ^ 30 + n) (1 * 2 ^ 30 + 0) ≡ bit_or (g * 4 + 0) 1 * 2 ^ 30
-    + bit_or n 0 = or_block 30 (g * 4 + 0) 1 n 0 h (omega arith) in
+    + bit_or n 0 = search (arith, or_block) in
     e ∙ λ k. or_low g 0 1 1 (omega arith) (omega arith) refl k * 1073741824 + or_zero_r n k
 
 -- Live becomes Closing
 pub close-or : (g n : ℕ) → n < 1073741824 → bit_or (packed g 1 n) 2147483648 ≡ packed g 3 n
 close-or g n h = let e : bit_or ((g * 4 + 1) * 2 ^ 30 + n) (2 * 2 ^ 30 + 0) ≡ bit_or (g * 4 + 1) 2 * 2 ^ 30
-    + bit_or n 0 = or_block 30 (g * 4 + 1) 2 n 0 h (omega arith) in
+    + bit_or n 0 = search (arith, or_block) in
     e ∙ λ k. or_low g 1 2 3 (omega arith) (omega arith) refl k * 1073741824 + or_zero_r n k
 
 -- one pin less

@@ -1,15 +1,14 @@
 -- What the calls of readers and of the keeper need of the steps.
+use Rattle.std.proofs.lemmas.Bool.Decides.{nat_tests}
 use Rattle.ob_codec.proofs.AtPlace.{at_place}
-use Rattle.std.proofs.Common.{◌≡◌, ◌≢◌, ⊎_elim, ℕ, ◌+◌, ◌*◌, ◌<◌, ◌≤◌, List, [], ◌∷◌, ◌++◌, length, get_or, set, Some, None, sym, refl, ap, ◌∙◌, subst, arith}
-use Rattle.std.proofs.lemmas.Grind.{common_steps}
+use Rattle.std.proofs.Common.{◌≡◌, ◌≢◌, ⊎_elim, ℕ, ◌<◌, List, [], ◌∷◌, ◌++◌, length, get_or, set, Some, None, sym, refl, ap, ◌∙◌, subst, arith}
 use Rattle.std.proofs.lemmas.List.{append_assoc, get_or_read}
 use mathlib.Core.Option.{none}
 use Rattle.atomic_table.specs.Table.{step, Allows}
 use Rattle.pin_core.specs.declared.word.Word.{Word}
 use Rattle.pin_core.specs.declared.id.Id.{Id}
 use Rattle.pin_core.specs.declared.descr.Descr.{Descr}
-use Rattle.pin_core.specs.declared.word.Phase.{Phase}
-use Rattle.pin_core.specs.declared.word.Phase.TheVariants.{Free, Live, Retired, Closing}
+use Rattle.pin_core.specs.declared.word.Phase.TheVariants.{Free, Live}
 use Rattle.pin_core.specs.declared.shape.Shape.{Shape}
 use Rattle.pin_core.specs.declared.world.Slot.{Slot}
 use Rattle.pin_core.specs.Words.{decoded}
@@ -17,7 +16,6 @@ use Rattle.pin_core.specs.Descrs as descr_code
 use Rattle.pin_core.specs.Holds.{tally, drop_last, same_id}
 use Rattle.pin_core.specs.Worlds.{slot_of}
 use Rattle.pin_core.specs.Events.{reclaimed}
-use Rattle.pin_core.specs.Safety.{rank_of}
 use Rattle.pin_core.proofs.Counts.{count-snoc, count-drop_last-le}
 use Rattle.pin_words.specs.declared.view.Look.{Look}
 use Rattle.pin_words.specs.declared.view.KeeperView.{KeeperView}
@@ -113,7 +111,7 @@ pub notes-there : (key : Shape) (slots id p : ℕ) (me : M) (r : ReaderView) (y 
     → Allows (Shown key) slots id me p (λ n. n) (noted (step slots p 0 0 none) me)
 notes-there key slots id p me r y k at same is inside have =
     subst (λ (z : Shape × ℕ). Allows (Shown z.0) slots id me z.1 (λ n. n) (noted (step slots z.1 0 0 none) me))
-    (λ c. (sym same c, sym at c)) (notes-step k slots id y.slot me r y is refl inside have)
+    (λ c. (sym same c, sym at c)) (search (arith, notes-step))
 
 -- a held Id is one of these, or the new one
 pub inside-more : (n : ℕ) (id : Id) (xs : List Id) → id.slot < n → ((x : Id) → 0 < tally (same_id x) xs → x.slot < n)
@@ -124,21 +122,12 @@ pub inside-less : (n : ℕ) (id : Id) (xs : List Id) → ((x : Id) → 0 < tally
     → 0 < tally (same_id x) (drop_last (same_id id) xs) → x.slot < n
 inside-less n id xs all x have = search (arith, count-drop_last-le)
 
-age-stale : (max : ℕ) (id : Id) (g n : ℕ) (p : Phase) (b : Word)
-    → g * 4 + rank_of p ≤ b.generation * 4 + rank_of b.phase → (p ≡ Retired → b.phase ≡ Retired)
-    → verdict_of max id record { generation = g; phase = p; pins = n } ≡ Stale → verdict_of max id b ≡ Stale
-age-stale max id g n Retired b le last e = let r : b.phase ≡ Retired = last refl in grind (arith, common_steps)
-age-stale max id g n Free b le last e = grind (arith, common_steps)
-age-stale max id g n Live b le last e = grind (arith, common_steps)
-age-stale max id g n Closing b le last e = grind (arith, common_steps)
-
 -- what was stale is stale at each later word
 pub stays-stale : (max : ℕ) (id : Id) (ls : List Look) (n : ℕ) → WasStale max id ls → Behind ls id.slot n
     → verdict_of max id (decoded n) ≡ Stale
 stays-stale max id [] n h b = absurd h
 stays-stale max id (l ∷ ls) n h b = ⊎_elim (λ (t : (l.slot ≡ id.slot)
-    × (verdict_of max id (decoded l.word) ≡ Stale)). age-stale max id (decoded l.word).generation (decoded l.word).pins
-    (decoded l.word).phase (decoded n) (b.0 t.0).0 (b.0 t.0).1 t.1)
+    × (verdict_of max id (decoded l.word) ≡ Stale)). grind (arith, nat_tests))
     (λ (t : WasStale max id ls). stays-stale max id ls n t b.1) h
 
 -- what a try that lost its exchange found

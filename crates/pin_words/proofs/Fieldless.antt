@@ -1,4 +1,5 @@
 -- A struct that has only ghost fields lies nowhere, and is made of nothing.
+use Rattle.std.proofs.Common.{arith}
 use Rattle.std.proofs.Common.{List, [], ◌∷◌, refl}
 use seplogic.Ra.Ura.{Ura}
 use mir.Val.{Val, vstruct, vnil}
@@ -20,5 +21,5 @@ pub owns_empty : {M : Type 1} {𝓤 : Ura M} {𝓛 : Logic 𝓤} {K : Type 0} {�
     → Step K 𝓛 (‵ (empty_type.own_val tt (empty_value ∷ [])) ∷ Γ) G Γ G
 owns_empty key = step (λ rest.
     nothing key $ feq_i key (List Val) (empty_value ∷ []) (empty_value ∷ []) refl $ fjoin key $
-    fpack key (Valss []) (within (record { name = []; args = []; types = []; fields = [] }) tt (empty_value ∷ [])) tt $
+    fpack key (Valss []) (within (grind arith) tt (empty_value ∷ [])) tt $
     rest)

@@ -40,7 +40,7 @@ pub holds-less : (w : WorldState) (r : ℕ) (held : List Id) (id : Id) → IsSaf
     ≡ tally (same_id x) (drop_last (same_id id) held)
 holds-less w r held id safe h have x = let c = release-count w r id safe have (is_copy r x) in
     let same : weight (is_copy r x (last_copy w r id)) ≡ weight (same_id x id) =
-    ap weight (own_copy r id (copies w r id) x) in
+    search arith in
     let some_there : 0 < tally (same_id id) held = (let e = h id in omega arith) in
     let d = count-drop_last (same_id x) (same_id id) (same_id x id) held
     (λ y e. ap (same_id x) (same_of_id id y e)) some_there in
@@ -49,7 +49,7 @@ holds-less w r held id safe h have x = let c = release-count w r id safe have (i
 pub holds-same-less : (w : WorldState) (q r : ℕ) (id : Id) → IsSafe w → 0 < copies w r id → r ≢ q → (x : Id)
     → tally (is_copy q x) (drop_first (is_hold (last_copy w r id)) w.holders) ≡ copies w q x
 holds-same-less w q r id safe have n x = let c = release-count w r id safe have (is_copy q x) in
-    let z : weight (is_copy q x (last_copy w r id)) ≡ 0 = ap weight (other_copy q r id (copies w r id) x n) in
+    let z : weight (is_copy q x (last_copy w r id)) ≡ 0 = search arith in
     omega arith
 
 -- where each held Id that passes the one passes the other

@@ -1,4 +1,6 @@
 -- The steps of the keeper keep the rule of the table.
+use Rattle.std.proofs.lemmas.Bool.Decides.{nat_tests}
+use Rattle.ob_codec.proofs.AtPlace.{at_place}
 use Rattle.std.proofs.Common.{◌≡◌, ◌≢◌, inl, ℕ, ◌<◌, ◌≤◌, eqb, List, [], ◌∷◌, ◌++◌, length, get_or, set, get_or-set_same, get_or-set_other, Option, Some, None, sym, refl, ap, ◌∙◌, subst, arith}
 use Rattle.std.proofs.lemmas.Option.{IfSome_then, same_Some}
 use mathlib.Core.Option.{none, some}
@@ -24,7 +26,7 @@ use Rattle.pin_core.specs.Holds.{tally}
 use Rattle.pin_core.specs.Worlds.{WorldState, opening_slot, slot_of, at, id_at, pins, word_at, is_with, given_as}
 use Rattle.pin_core.specs.Events.{refusal, after, in_phase, with_descr, reclaimed}
 use Rattle.pin_core.specs.Safety.{IsSafe, age}
-use Rattle.pin_core.proofs.Schedules.{safe_kept, onward, may_publish, may_store, may_close, may_reclaim}
+use Rattle.pin_core.proofs.Schedules.{safe_kept, may_publish, may_store}
 use Rattle.pin_core.proofs.Counts.{count-snoc}
 use Rattle.pin_core.proofs.Moves.{moved}
 use Rattle.pin_words.specs.declared.view.KeeperView.{KeeperView}
@@ -67,27 +69,13 @@ keeper-goes k s W sh id wi n i v kv kv' e x ps seated is can becomes more words 
     (λ ne. subst (λ (z : Slot). descr_code.IsGiven z.descr) (sym (get_or-set_other W.slots i j x opening_slot ne))
     (sh.given j h)) in
     let up : (j : ℕ) → age (at W j) ≤ age (at w' j) =
-    λ j. subst (λ (z : WorldState). age (at W j) ≤ age (at z j)) becomes (onward W e j can) in
+    grind (arith, nat_tests, at_place) in
     let readers : (j : ℕ) (r : ReaderView) → OfReader W sh.next sh.owner j r
     → OfReader w' sh.next sh.owner j r = λ j r a.
-    record {
-      shape = a.shape;
-      born = a.born;
-      mine = a.mine;
-      held = a.held;
-      notes = notes-stay W w' r.notes more a.notes;
-      looks = looks-stay W w' r.looks refl up a.looks;
-    } in
+    search (arith, looks-stay, notes-stay) in
     step-shown k s W sh id wi n (view (Some kv') v.reader) w' sh.shape
     (subst IsSafe becomes (safe_kept W e sh.safe can)) words descrs given-still (
-      record {
-        shape = shape-is ∙ mine.shape;
-        mine = mine.mine;
-        slots = slots-are;
-        published = published-are;
-        next_is = next-is ∙ mine.next_is;
-        looks = looks-stay W w' kv'.looks refl up looks;
-      },
+      search (arith, looks-stay),
       IfSome_then v.reader (sh.each id v seated).1 (readers id),
     )
     (λ j u other a. (
@@ -110,7 +98,7 @@ keeper-turns k s W sh id i n v kv kv' e x ps seated is inside can becomes more w
     published-are next-is looks =
     let wide : length W.slots ≡ W.shape.slots = sh.safe.wide in
     let fit : i < W.shape.slots = in-shape k s W sh i inside in
-    let here : get_or (set W.slots i x) i opening_slot ≡ x = get_or-set_same W.slots i x opening_slot (omega arith) in
+    let here : get_or (set W.slots i x) i opening_slot ≡ x = grind (arith, at_place) in
     keeper-goes k s W sh id (place_of i) n i v kv kv' e x ps seated is can becomes more
     (λ j h. dite (ℕ_discrete j i)
     (λ same. subst (λ (z : ℕ). get_or (set s.words (place_of i) n) (place_of z) 0 ≡ encoded record {
@@ -151,7 +139,7 @@ pub keeper-publishes : (k : Shape) (s : Table) (W : WorldState) (sh : IsShown k 
     (view (Some (keeper_published kv i)) v.reader)) (after W (Publish i))
 keeper-publishes k s W sh id i v kv seated is inside free =
     let mine = keeper-at k s W sh id v kv seated is in
-    let phase : (at W i).phase ≡ Free = ap (λ (z : List Slot). (get_or z i opening_slot).phase) (sym mine.slots) ∙ free
+    let phase : (at W i).phase ≡ Free = search arith
     in
     let n : ℕ = word s i in
     keeper-turns k s W sh id i (bit_or n 1073741824) v kv (keeper_published kv i) (Publish i) (in_phase (at W i) Live)
@@ -182,11 +170,9 @@ sets-bit k slots id i p bit me v f e at is shown =
       tt,
       (
         after known.0 e,
-        subst (λ (z : Option KeeperView). IsShown k (after_step s (place_of i) (bit_or (word s i) bit) id
-            (view (option_map (λ y. f y i) z) me.0.reader)) (after known.0 e)) (sym is)
-            (shown s known.0 known.1 seated),
+        search arith,
       ),
-      at-slot i (KeptAs f me (view (option_map (λ z. f z i) me.0.keeper) me.0.reader, me.1)) refl,
+      search arith,
     ))
 
 pub publishes-step : (k : Shape) (slots id i p : ℕ) (me : M) (v : KeeperView) → p ≡ place_of i → me.0.keeper ≡ Some v
@@ -194,7 +180,7 @@ pub publishes-step : (k : Shape) (slots id i p : ℕ) (me : M) (v : KeeperView) 
     → Allows (Shown k) slots id me p (λ n. bit_or n 1073741824) (published (step slots p 1073741824 0 none) me)
 publishes-step k slots id i p me v at is inside free =
     sets-bit k slots id i p 1073741824 me v keeper_published (Publish i) at is
-    (λ s W sh seated. keeper-publishes k s W sh id i me.0 v seated is inside free)
+    (search (arith, keeper-publishes))
 
 pub keeper-closes : (k : Shape) (s : Table) (W : WorldState) (sh : IsShown k s W) (id i : ℕ) (v : View)
     (kv : KeeperView) → get_elem? s.views id ≡ some v → v.keeper ≡ Some kv → i < k.slots
@@ -203,15 +189,14 @@ pub keeper-closes : (k : Shape) (s : Table) (W : WorldState) (sh : IsShown k s W
     (view (Some (keeper_closed kv i)) v.reader)) (after W (CloseSlot i))
 keeper-closes k s W sh id i v kv seated is inside live =
     let mine = keeper-at k s W sh id v kv seated is in
-    let phase : (at W i).phase ≡ Live = ap (λ (z : List Slot). (get_or z i opening_slot).phase) (sym mine.slots) ∙ live
+    let phase : (at W i).phase ≡ Live = search arith
     in
     let n : ℕ = word s i in
     keeper-turns k s W sh id i (bit_or n 2147483648) v kv (keeper_closed kv i) (CloseSlot i)
     (in_phase (at W i) Closing) W.published seated is inside
-    (may_close W i (in-shape k s W sh i inside) phase) refl (same-given W)
-    (ap (λ (z : ℕ). bit_or z 2147483648) (word-in k s W sh i Live inside phase)
-    ∙ close-or (at W i).generation (pins W i) (few-pins k s W sh i))
-    refl refl (ap (λ (z : List Slot). set z i (in_phase (get_or z i opening_slot) Closing)) mine.slots) mine.published
+    (search arith) refl (same-given W)
+    (search (arith, close-or))
+    refl refl (search arith) mine.published
     refl mine.looks
 
 pub closes-step : (k : Shape) (slots id i p : ℕ) (me : M) (v : KeeperView) → p ≡ place_of i → me.0.keeper ≡ Some v
@@ -219,7 +204,7 @@ pub closes-step : (k : Shape) (slots id i p : ℕ) (me : M) (v : KeeperView) →
     → Allows (Shown k) slots id me p (λ n. bit_or n 2147483648) (closed (step slots p 2147483648 0 none) me)
 closes-step k slots id i p me v at is inside live =
     sets-bit k slots id i p 2147483648 me v keeper_closed (CloseSlot i) at is
-    (λ s W sh seated. keeper-closes k s W sh id i me.0 v seated is inside live)
+    (search (arith, keeper-closes))
 
 pub keeper-stores : (k : Shape) (s : Table) (W : WorldState) (sh : IsShown k s W) (id i : ℕ) (v : View)
     (kv : KeeperView) (d : Descr) → get_elem? s.views id ≡ some v → v.keeper ≡ Some kv → i < k.slots
@@ -229,12 +214,12 @@ pub keeper-stores : (k : Shape) (s : Table) (W : WorldState) (sh : IsShown k s W
 keeper-stores k s W sh id i v kv d seated is inside free descr-given =
     let mine = keeper-at k s W sh id v kv seated is in
     let x : ℕ = descr_code.encoded d in
-    let phase : (at W i).phase ≡ Free = ap (λ (z : List Slot). (get_or z i opening_slot).phase) (sym mine.slots) ∙ free
+    let phase : (at W i).phase ≡ Free = search arith
     in
     let y : Slot = with_descr (at W i) d in
     let wide : length W.slots ≡ W.shape.slots = sh.safe.wide in
     let fit : i < W.shape.slots = in-shape k s W sh i inside in
-    let here : get_or (set W.slots i y) i opening_slot ≡ y = get_or-set_same W.slots i y opening_slot (omega arith) in
+    let here : get_or (set W.slots i y) i opening_slot ≡ y = grind (arith, at_place) in
     keeper-goes k s W sh id (descr_place i) x i v kv (keeper_stored kv i d) (StoreDescr i d) y W.published seated is
     (may_store W i d fit phase) refl (same-given W)
     (λ j h. get_or-set_other s.words (descr_place i) (place_of j) x 0 (λ e. omega arith)
@@ -259,11 +244,6 @@ keeper-stores k s W sh id i v kv d seated is inside free descr-given =
     descr-given refl (ap (λ (z : List Slot). set z i (with_descr (get_or z i opening_slot) d)) mine.slots)
     mine.published refl mine.looks
 
--- two descriptors of one word are the same
-same-decoded : (d e : Descr) → descr_code.IsGiven d → descr_code.IsGiven e → descr_code.encoded d ≡ descr_code.encoded e
-    → d ≡ e
-same-decoded d e a b is = grind arith
-
 pub stores-step : (k : Shape) (slots id i x : ℕ) (me : M) (v : KeeperView) (d : Descr) → me.0.keeper ≡ Some v
     → i < k.slots → (slot_of v.slots i).phase ≡ Free → descr_code.IsGiven d → x ≡ descr_code.encoded d
     → Allows (Shown k) slots id me (descr_place i) (λ _. x) (λ _. stored (step slots (descr_place i) x 0 none) me x)
@@ -281,19 +261,16 @@ stores-step k slots id i x me v d is inside free descr-given x-is s (W, sh) deep
       ),
       λ v' i' d' is' word-is given' x-is'. let same = same_Some v v' (sym is ∙ is') in
           let index : i ≡ i' = omega arith in
-          let one : d ≡ d' = same-decoded d d' descr-given given' (sym x-is ∙ x-is') in
+          let one : d ≡ d' = search arith in
           λ c. (view (Some (keeper_stored (same c) (index c) (one c))) me.0.reader, me.1),
     )
-
-reclaimed-descr : (m : ℕ) (y : Slot) → (reclaimed m y).descr ≡ y.descr
-reclaimed-descr m y = search arith
 
 keeper-told : (k : Shape) (s : Table) (W : WorldState) (sh : IsShown k s W) (id i : ℕ) (v : View)
     → get_elem? s.views id ≡ some v → i < k.slots →
     IfSome v.keeper (λ z. TellsKeeper z.shape z.slots i (word s i))
 keeper-told k s W sh id i v seated inside = IfSome_then v.keeper (sh.each id v seated).0
     (λ z a. let is = found-is k s W sh i inside in
-    let here : at W i ≡ slot_of z.slots i = ap (λ (x : List Slot). slot_of x i) (sym a.slots) in record {
+    let here : at W i ≡ slot_of z.slots i = search arith in record {
       generation = ap (λ (x : Word). x.generation) is ∙ ap (λ (x : Slot). x.generation) here;
       phase = ap (λ (x : Word). x.phase) is ∙ ap (λ (x : Slot). x.phase) here;
       room = let le = sh.safe.room i in let count : (decoded (word s i)).pins ≡ pins W i =
@@ -307,9 +284,9 @@ closing-word : (k : Shape) (s : Table) (W : WorldState) (sh : IsShown k s W) (id
     × (word s i ≡ packed (at W i).generation 3 (pins W i))
 closing-word k s W sh id i v kv seated is inside closing =
     let mine = keeper-at k s W sh id v kv seated is in
-    let same : slot_of kv.slots i ≡ at W i = ap (λ (z : List Slot). get_or z i opening_slot) mine.slots in
+    let same : slot_of kv.slots i ≡ at W i = search arith in
     let phase : (at W i).phase ≡ Closing = ap (λ (y : Slot). y.phase) (sym same) ∙ closing in
-    (same, phase, word-in k s W sh i Closing inside phase)
+    search arith
 
 -- an exchange that failed found pins
 pub pinned-still : (k : Shape) (s : Table) (W : WorldState) (sh : IsShown k s W) (id i : ℕ) (v : View) (kv : KeeperView)
@@ -320,7 +297,7 @@ pinned-still k s W sh id i v kv seated is inside closing miss =
     let c = closing-word k s W sh id i v kv seated is inside closing in
     let count : (decoded (word s i)).pins ≡ pins W i =
     ap (λ (y : Word). y.pins) (found-is k s W sh i inside) in
-    let some-pin : pins W i ≢ 0 = λ e. miss (c.2 ∙ (ap (packed (at W i).generation 3) e ∙ sym (ap closing_word c.0))) in
+    let some-pin : pins W i ≢ 0 = search arith in
     omega arith
 
 pub keeper-reclaims : (k : Shape) (s : Table) (W : WorldState) (sh : IsShown k s W) (id i : ℕ) (v : View)
@@ -345,10 +322,10 @@ keeper-reclaims k s W sh id i v kv seated is inside closing hit =
     } = λ j. next_word (most j) (c.0 j) in
     keeper-turns k s W sh id i (next_word k.max_gen (slot_of kv.slots i)) v kv
     (keeper_reclaimed kv i (word s i)) (Reclaim i) x W.published seated is inside
-    (may_reclaim W i (in-shape k s W sh i inside) c.1 none-left) refl (same-given W)
-    (new-word ∙ ap (λ (p : ℕ). encoded record { generation = x.generation; phase = x.phase; pins = p }) (sym none-left))
-    (reclaimed-descr W.shape.max_gen (at W i)) refl
-    (λ j. set (mine.slots j) i (reclaimed (gen-max j) (get_or (mine.slots j) i opening_slot))) mine.published refl
+    (search arith) refl (same-given W)
+    (search arith)
+    (search arith) refl
+    (search arith) mine.published refl
     (past-here k s W sh i inside, mine.looks)
 
 pub keeper-looks : (k : Shape) (s : Table) (W : WorldState) (sh : IsShown k s W) (id i : ℕ) (v : View)
@@ -359,16 +336,9 @@ pub keeper-looks : (k : Shape) (s : Table) (W : WorldState) (sh : IsShown k s W)
 keeper-looks k s W sh id i v seated inside = let n : ℕ = word s i in
     still-shown k s W sh id (place_of i) (view (option_map (λ z. keeper_looked z i n) v.keeper) v.reader) (
       of-on (OfKeeper W sh.keeper sh.next id) (λ z. keeper_looked z i n) v.keeper (λ z a.
-          record {
-            shape = a.shape;
-            mine = a.mine;
-            slots = a.slots;
-            published = a.published;
-            next_is = a.next_is;
-            looks = (past-here k s W sh i inside, a.looks);
-          }) (sh.each id v seated).0,
+          search arith) (sh.each id v seated).0,
       (sh.each id v seated).1,
-    ) v seated (turn-keeper v (λ z. keeper_looked z i n))
+    ) v seated (search (arith, turn-keeper))
 
 pub reclaims-step : (k : Shape) (slots id i p old new : ℕ) (me : M) (v : KeeperView) → p ≡ place_of i
     → me.0.keeper ≡ Some v → i < k.slots → (slot_of v.slots i).phase ≡ Closing → old ≡ closing_word (slot_of v.slots i)
@@ -392,8 +362,7 @@ reclaims-step k slots id i p old new me v at is inside closing old-is new-is =
             (λ j. (sym is j, sym new-is j))
             (keeper-reclaims k s W sh id i me.0 v seated is inside closing (hit ∙ old-is)),
       ),
-      at-slot i (ReclaimedAt old me n (now (λ z. keeper_reclaimed z i n), me.1))
-          ((λ _. refl), (λ miss. absurd (miss hit)), keeper-told k s W sh id i me.0 seated inside),
+      search arith,
     ))
     (λ miss. (
       now (λ z. keeper_looked z i n),

@@ -1,32 +1,29 @@
 -- The law of the steps.
 use Rattle.std.proofs.lemmas.Bool.Decides.{nat_tests}
-use Rattle.std.proofs.Common.{nat_le, ◌≡◌, ⊎_elim, ℕ, ◌<◌, ◌≤◌, ◌&&◌, nat_lt, List, [], ◌∷◌, replicate, Some, None, sym, refl, ap, ◌∙◌, subst, arith}
-use Rattle.std.proofs.lemmas.Option.{same_Some}
+use Rattle.std.proofs.Common.{nat_le, ◌≡◌, ⊎_elim, ℕ, ◌<◌, ◌&&◌, nat_lt, List, [], ◌∷◌, replicate, Some, None, sym, refl, ap, ◌∙◌, subst, arith}
 use Rattle.std.specs.Prelude.{option_map}
 use Rattle.pin_core.specs.declared.id.Id.{Id}
-use Rattle.pin_core.specs.declared.descr.Descr.{Descr}
 use Rattle.pin_core.specs.declared.shape.Shape.{Shape}
-use Rattle.pin_core.specs.declared.world.Slot.{Slot}
 use Rattle.pin_core.specs.declared.holders.Hold.{Hold}
 use Rattle.pin_core.specs.declared.event.Event.{Event}
-use Rattle.pin_core.specs.declared.event.Event.TheVariants.{Load, Release, ReadDescr, StoreDescr, Publish, CloseSlot}
+use Rattle.pin_core.specs.declared.event.Event.TheVariants.{StoreDescr, Publish, CloseSlot}
 use Rattle.pin_core.specs.Holds.{tally, weight, hold_of, same_id}
 use Rattle.pin_core.specs.Worlds.{WorldState, opening_slot, slot_of, at, copies, times}
 use Rattle.pin_core.specs.Events.{refusal, Transition, after}
 use Rattle.pin_core.specs.Safety.{IsSafe}
-use Rattle.pin_core.proofs.Schedules.{opening_at, times-le-copies, kept_while_held, may_load, may_read, may_release, may_publish, may_store, may_close}
+use Rattle.pin_core.proofs.Schedules.{opening_at, times-le-copies, kept_while_held, may_read, may_publish, may_store, may_close}
 use Rattle.pin_core.proofs.Moves.{given_as-le}
 use Rattle.pin_words.specs.declared.view.Note.{Note}
 use Rattle.pin_words.specs.declared.view.KeeperView.{KeeperView}
 use Rattle.pin_words.specs.declared.view.ReaderView.{ReaderView}
 use Rattle.pin_words.specs.declared.view.View.{View}
-use Rattle.pin_words.specs.Places.{place_of, descr_place}
-use Rattle.pin_words.specs.Views.{view, reader_looked, reader_noted, keeper_looked, keeper_gave, opening_keeper}
+use Rattle.pin_words.specs.Places.{place_of}
+use Rattle.pin_words.specs.Views.{view, reader_looked, keeper_looked, keeper_gave, opening_keeper}
 use Rattle.pin_words.specs.Shown.{Table, AreNoted, HoldsJust, HasReader, IsShown}
 use Rattle.pin_words.proofs.Holdings.{has-copies}
-use Rattle.pin_words.specs.Laws.{ArePublished, CloseSteps, CopiesStay, FailedReclaimSteps, GivesReader, KeeperAt, LoadSteps, NotesArePublished, PinSteps, PublishSteps, ReadSteps, ReaderAt, ReclaimSteps, ReleaseSteps, ShowsOneWorld, ShowsOpening, StoreSteps, after_step, descr_word, with_keeper, with_reader, word}
+use Rattle.pin_words.specs.Laws.{ArePublished, CloseSteps, CopiesStay, FailedReclaimSteps, GivesReader, KeeperAt, LoadSteps, NotesArePublished, PinSteps, PublishSteps, ReadSteps, ReaderAt, ReclaimSteps, ReleaseSteps, ShowsOneWorld, ShowsOpening, StoreSteps, after_step, with_keeper, with_reader, word}
 use Rattle.pin_words.proofs.Steps.{keeper-at, reader-at, in-shape}
-use Rattle.pin_words.proofs.ReaderSteps.{looks-shown, reader-pins, reader-releases, reader-notes, descr_found}
+use Rattle.pin_words.proofs.ReaderSteps.{looks-shown, reader-pins, reader-releases, reader-notes}
 use Rattle.pin_words.proofs.KeeperSteps.{keeper-publishes, keeper-closes, keeper-reclaims, keeper-looks, keeper-stores, pinned-still}
 use Rattle.pin_words.proofs.Reseated.{gives-shown}
 
@@ -48,7 +45,7 @@ kept-as k s w' i n j v g q = search arith
 
 pub law-load : LoadSteps
 law-load k s w j i v r sh here inside = record {
-  can = can-by w (Load r.number i) (may_load w r.number i (in-shape k s w sh i inside));
+  can = search arith;
   shown = read-as k s w (place_of i) (word s i) j v
       (λ z. reader_looked z i (word s i)) r here.part
       (looks-shown k s w sh j i v here.seated inside);
@@ -65,27 +62,16 @@ held-inside k s w sh j v r id here have = let mine =
     (subst (λ (z : Shape). id.slot < z.slots) sh.shape (sh.safe.held r.number id c).0, c)
 
 pub law-release : ReleaseSteps
-law-release k s w j v r id sh here have = let known = held-inside k s w sh j v r id here have in record {
-  can = can-by w (Release r.number id) (may_release w r.number id (in-shape k s w sh id.slot known.0) known.1);
-  shown = reader-releases k s w sh j v r id here.seated here.part known.0 have;
-}
+law-release k s w j v r id sh here have = let known = held-inside k s w sh j v r id here have in search (arith, reader-releases)
 
 pub law-read : ReadSteps
 law-read k s w j v r id d sh here have is = let known = held-inside k s w sh j v r id here have in
-    let same : (at w id.slot).descr ≡ d = same_Some (at w id.slot).descr d
-    (sym (descr_found (at w id.slot).descr (descr_word s id.slot)
-    (sh.given id.slot known.0) (sh.descrs id.slot known.0)) ∙ is) in record {
-      can = can-by w (ReadDescr r.number id d) (subst (λ (z : Descr). refusal w (ReadDescr r.number id z) ≡ None) same
-          (may_read w r.number id (in-shape k s w sh id.slot known.0) known.1));
-      shown = subst (λ (z : Descr). IsShown k (after_step s (descr_place id.slot)
-          (descr_word s id.slot) j (view v.keeper (Some (reader_noted r id z)))) w) same
-          (reader-notes k s w sh j v r id here.seated here.part known.0 have);
-    }
+    let same : (at w id.slot).descr ≡ d = search arith in search (arith, may_read, reader-notes)
 
 phase-at : (k : Shape) (s : Table) (w : WorldState) (sh : IsShown k s w) (j i : ℕ) (v : View) (q : KeeperView)
     → KeeperAt s j v q → (at w i).phase ≡ (slot_of q.slots i).phase
 phase-at k s w sh j i v q here = let mine = keeper-at k s w sh j v q here.seated here.part in
-    ap (λ (z : List Slot). (slot_of z i).phase) (sym mine.slots)
+    search arith
 
 pub law-publish : PublishSteps
 law-publish k s w j i v q sh here inside free = record {
@@ -104,9 +90,9 @@ law-reclaim k s w j i v q sh here inside closing hit = search (arith, keeper-rec
 
 pub law-reclaim-failed : FailedReclaimSteps
 law-reclaim-failed k s w j i n v q sh here inside closing miss = (
-  pinned-still k s w sh j i v q here.seated here.part inside closing miss,
+  search (arith, pinned-still),
   record {
-    can = can-by w (Load n i) (may_load w n i (in-shape k s w sh i inside));
+    can = search arith;
     shown = kept-as k s w (place_of i) (word s i) j v
         (λ z. keeper_looked z i (word s i)) q here.part
         (keeper-looks k s w sh j i v here.seated inside);
@@ -117,18 +103,15 @@ pub law-store : StoreSteps
 law-store k s w j i v q d sh here inside free valid = record {
   can = can-by w (StoreDescr i d) (may_store w i d (in-shape k s w sh i inside) (phase-at k s w sh j i v q here
       ∙ free));
-  shown = keeper-stores k s w sh j i v q d here.seated here.part inside free valid;
+  shown = search (arith, keeper-stores);
 }
-
-in_numbers : (c n : ℕ) → 1 ≤ n → n ≤ c → weight (nat_lt 0 n && nat_le n c) ≡ 1
-in_numbers c n a b = search arith
 
 pub law-held : CopiesStay
 law-held k s w j v r id n sh here first last = let mine =
     reader-at k s w sh j v r here.seated here.part in
     let own = mine.held id in
     let once : times w (hold_of r.number id n) ≡ 1 =
-    sh.safe.numbered r.number id n ∙ in_numbers (copies w r.number id) n first (omega arith) in
+    search arith in
     (once, kept_while_held w sh.safe (hold_of r.number id n) (omega arith))
 
 published-once : (w : WorldState) (xs : List Note) → IsSafe w → AreNoted w xs → ArePublished w xs
@@ -137,7 +120,7 @@ published-once w (x ∷ xs) safe h = search (arith, given_as-le, published-once 
 
 pub law-noted : NotesArePublished
 law-noted k s w j v r sh here = let mine = reader-at k s w sh j v r here.seated here.part in
-    published-once w r.notes sh.safe mine.notes
+    search (arith, published-once)
 
 pub law-gives : GivesReader
 law-gives k s w j v q sh here = search (arith, gives-shown)
@@ -160,12 +143,12 @@ one-world k s a b p q =
     with-seat r j g id =
         let x = reader-at k s a p j g.0 g.1 g.2 g.3 in
         let y = reader-at k s b q j g.0 g.1 g.2 g.3 in
-        subst (λ (z : ℕ). copies a z id ≡ copies b z id) g.4 (x.held id ∙ sym (y.held id))
+        search arith
 
     copies-same : (r : ℕ) (id : Id) → copies a r id ≡ copies b r id
     copies-same r id = ⊎_elim
         (λ (e : HoldsJust a r []). ⊎_elim
-        (λ (f : HoldsJust b r []). e id ∙ sym (f id))
+        (search arith)
         (λ (g : HasReader s.views (q.owner r) r). with-seat r (q.owner r) g id)
         (q.owned r))
         (λ (g : HasReader s.views (p.owner r) r). with-seat r (p.owner r) g id)

@@ -33,7 +33,7 @@ use Rattle.pin_words.specs.declared.view.Note.{Note}
 use Rattle.pin_words.specs.declared.view.ReaderView.{ReaderView}
 use Rattle.pin_words.specs.declared.view.View.{View}
 use Rattle.pin_words.specs.Places.{place_of, descr_place}
-use Rattle.pin_words.specs.Views.{M, view, look, id_in, notes_of, reader_with, reader_looked, reader_got, reader_released, reader_noted}
+use Rattle.pin_words.specs.Views.{M, view, look, id_in, notes_of, reader_with, reader_got, reader_released, reader_noted}
 use Rattle.pin_words.specs.Laws.{after_step, descr_word, word}
 use Rattle.pin_words.specs.Shown.{Table, NotAhead, AreNoted, OfReader, IsShown, Shown}
 use Rattle.pin_words.specs.Plays.{TellsReader, looked_view, got_view, released_view, LookedAt, looked, PinnedAt, pinned, ReleasedAt, released, noted}
@@ -135,8 +135,8 @@ pub looks-shown : (k : Shape) (s : Table) (W : WorldState) (sh : IsShown k s W) 
     → IsShown k (after_step s (place_of i) (word s i) id (looked_view v i (word s i))) W
 looks-shown k s W sh id i v seated inside = still-shown k s W sh id (place_of i)
     (looked_view v i (word s i))
-    (looks-agree k s W sh id i v inside (sh.each id v seated)) v seated
-    (turn-reader v (λ r. reader_looked r i (word s i)) (λ x. refl))
+    (search (arith, looks-agree, sh.each)) v seated
+    (search (arith, turn-reader))
 
 pub loads : (k : Shape) (slots id i p : ℕ) (me : M) → p ≡ place_of i → i < k.slots
     → Allows (Shown k) slots id me p (λ n. n) (looked (step slots p 0 0 none) me)
@@ -145,11 +145,11 @@ loads k slots id i p me at inside = placed k slots id p (place_of i) 0 0 me (λ 
       looked_view me.0 i n,
       keeps,
       tt,
-      (known.0, looks-shown k s known.0 sh id i me.0 seated inside),
+      search (arith, looks-shown),
       at-slot i (LookedAt me n (looked_view me.0 i n, me.1)) (
         refl,
         tells-all k s known.0 sh id i me.0 seated inside,
-        met k s known.0 sh id i me.0 inside (sh.each id me.0 seated),
+        search (arith, met, sh.each),
       ),
     ))
 
@@ -184,7 +184,7 @@ pins-step k slots id i p old new me r at is inside up live room =
       looked_view me.0 i n,
       keeps,
       tt,
-      (W, looks-shown k s W sh id i me.0 seated inside),
+      search (arith, looks-shown),
       at-slot i (PinnedAt old me n (looked_view me.0 i n, me.1)) (
         (λ e. absurd (miss e)),
         (λ _. refl),
@@ -233,7 +233,7 @@ releases-step k slots id p me r y at is inside have =
     let gen = ((told k s W sh id i r inside (reader-at k s W sh id me.0 r seated is)).held y have refl).0 in
     let x : Id = id_in i n in
     let have' : 0 < tally (same_id x) r.held =
-    subst (λ (z : Id). 0 < tally (same_id z) r.held) (λ c. record { slot = i; generation = sym gen c }) have in (
+    search arith in (
       released_view me.0 i n,
       keeps,
       tt,
@@ -265,10 +265,9 @@ reader-notes k s W sh id v r x seated is inside have =
     let mine = reader-at k s W sh id v r seated is in
     let known = held-is W sh.next sh.owner id r x sh.safe mine have in
     let shown : given_as W (id_at W x.slot) (at W x.slot).descr ≡ 1 =
-    (sh.safe.slots x.slot (in-shape k s W sh x.slot inside)).shown known.2 in
+    search arith in
     let own : given_as W x (at W x.slot).descr ≡ 1 =
-    subst (λ (z : ℕ). given_as W record { slot = x.slot; generation = z } (at W x.slot).descr ≡ 1)
-    (sym known.1) shown in
+    search arith in
     still-shown k s W sh id (descr_place x.slot) (view v.keeper (Some (reader_noted r x (at W x.slot).descr))) (
       was.0,
       record {
@@ -291,8 +290,7 @@ notes-step k slots id i me r y is here inside have s (W, sh) deep seated small =
     let d : Descr = (at W i).descr in
     let x : Id = id_at W i in
     let known = held-is W sh.next sh.owner id r y sh.safe mine have in
-    let have' : 0 < tally (same_id x) r.held = subst (λ (z : Id). 0 < tally (same_id z) r.held)
-    (λ c. record { slot = here c; generation = (known.1 ∙ ap (λ (z : ℕ). (at W z).generation) here) c }) have in (
+    let have' : 0 < tally (same_id x) r.held = search arith in (
       view me.0.keeper (Some (reader_noted r x d)),
       keeps,
       tt,

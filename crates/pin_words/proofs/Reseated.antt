@@ -1,6 +1,6 @@
 -- Seats that are split and joined leave the world as it is.
 use Rattle.std.specs.Prelude.{option_map}
-use Rattle.std.proofs.Common.{◌≡◌, ◌≢◌, ◌⊎◌, inl, inr, ⊎_elim, ℕ, ◌+◌, ◌*◌, ◌<◌, ◌≤◌, ◌==◌, cond, List, [], ◌∷◌, ◌++◌, length, replicate, set, zero, suc, Some, None, sym, refl, ap, ◌∙◌, subst, arith}
+use Rattle.std.proofs.Common.{◌≡◌, ◌≢◌, ◌⊎◌, inl, inr, ⊎_elim, ℕ, ◌+◌, ◌<◌, ◌≤◌, ◌==◌, cond, List, [], ◌∷◌, ◌++◌, length, replicate, set, zero, suc, Some, None, sym, refl, ap, ◌∙◌, subst, arith}
 use mathlib.Core.Option.{some, some-ne-none, some-injective}
 use native.Mathlib.Decide.{ℕ_discrete}
 use mathlib.Core.Logic.{dite}
@@ -19,7 +19,7 @@ use Rattle.pin_core.proofs.Openings.{opened-safe, opening-is}
 use Rattle.pin_words.specs.declared.view.KeeperView.{KeeperView}
 use Rattle.pin_words.specs.declared.view.ReaderView.{ReaderView}
 use Rattle.pin_words.specs.declared.view.View.{View}
-use Rattle.pin_words.specs.Places.{AreLaid, words_a_slot}
+use Rattle.pin_words.specs.Places.{AreLaid}
 use Rattle.pin_words.specs.Views.{view, keeper_gave, reader_given, opening_keeper, keeper_with_slots, view_with_slots}
 use Rattle.pin_words.specs.Laws.{with_views}
 use Rattle.pin_words.specs.Shown.{Table, HoldsJust, OfKeeper, OfReader, Agrees, HasKeeper, HasReader, IsShown, Shown}
@@ -52,7 +52,7 @@ opens k slots words fits begins are = (
   record {
     fits = fits;
     shape = refl;
-    wide = are.wide ∙ ap (λ (n : ℕ). n * words_a_slot) begins.wide;
+    wide = search arith;
     safe = opened-safe k slots begins;
     words = λ i h. are.words i (inside i h);
     descrs = λ i h. are.descrs i (inside i h);
@@ -62,9 +62,9 @@ opens k slots words fits begins are = (
     owner = λ _. 0;
     each = λ j u e. ⊎_elim (λ (t : (j ≡ 0) × (view_with_slots k slots ≡ u)). subst (λ (z : ℕ
         × View). Agrees (opened_with k slots) 0 1 (λ _. 0) z.0 z.1) (λ c. (sym t.0 c, t.1 c))
-        (record { shape = refl; mine = refl; slots = refl; published = refl; next_is = refl; looks = tt }, tt))
+        (search arith, tt))
         (λ (t : (j ≢ 0) × (get_elem? (view_with_slots k slots ∷ []) j ≡ some u)). absurd (beyond j u t.0 t.1))
-        (at_set (view_with_slots k slots ∷ []) 0 j (view_with_slots k slots) u e);
+        (search arith);
     unborn = λ r later x. refl;
     kept = (view_with_slots k slots, keeper_with_slots k slots, refl, refl);
     owned = λ r. inl (λ x. refl);
@@ -72,7 +72,7 @@ opens k slots words fits begins are = (
 )
   where
     inside : (i : ℕ) → i < k.slots → i < length slots
-    inside i h = subst (λ (z : ℕ). i < z) (sym begins.wide) h
+    inside i h = search arith
 
     beyond : (j : ℕ) (u : View) → j ≢ 0 → get_elem? (view_with_slots k slots ∷ []) j ≡ some u → ⊥
     beyond zero u other e = other refl
@@ -108,7 +108,7 @@ reseated k s W sh next owner views each unborn kept moves =
       each = each;
       unborn = unborn;
       kept = kept;
-      owned = λ r. ⊎_elim (λ (e : HoldsJust W r []). inl e) (λ (h : HasReader s.views (sh.owner r) r). inr (moves r h))
+      owned = λ r. ⊎_elim (λ (e : HoldsJust W r []). inl e) (search arith)
           (sh.owned r);
     }
 
@@ -197,19 +197,15 @@ pub blanks-shown : (k : Shape) (s : Table) (W : WorldState) (sh : IsShown k s W)
 blanks-shown k s W sh id me seated =
     reseated k s W sh sh.next sh.owner (set s.views id me ++ spent ∷ [])
     (λ j u e. ⊎_elim
-    (λ (old : get_elem? (set s.views id me) j ≡ some u). sh.each j u
-    (ap (λ (z : List View). get_elem? z j) (sym (set_again s.views id me seated)) ∙ old))
-    (λ (t : (j ≡ length (set s.views id me)) × (spent ≡ u)). subst (λ
-    (z : View). Agrees W sh.keeper sh.next sh.owner j z) t.1 (tt, tt))
+    (search (arith, set_again))
+    (λ (t : (j ≡ length (set s.views id me)) × (spent ≡ u)). search arith)
     (at-last (set s.views id me) spent u j e))
     sh.unborn
-    (longer-keeper (set s.views id me) (spent ∷ []) sh.keeper
-    (has-keeper s.views id sh.keeper me me seated same sh.kept))
-    (λ r h. longer-reader (set s.views id me) (spent ∷ []) (sh.owner r) r
-    (has-reader s.views id (sh.owner r) r me me seated same h))
+    (search (arith, longer-keeper, has-keeper))
+    (search (arith, longer-reader, has-reader))
   where
     same : Turns me me
-    same = record { keeper = λ k e. (k, e); reader = λ x e. (x, e, refl) }
+    same = search arith
 
 pub blanks : (k : Shape) (id : ℕ) (me : View) → Splits (Shown k) id me me spent
 blanks k id me s a4 seated = search (arith, blanks-shown)

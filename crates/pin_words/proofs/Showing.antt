@@ -7,7 +7,7 @@ use Rattle.pin_core.specs.declared.world.Slot.{Slot}
 use Rattle.pin_core.specs.Opened.{shown_from}
 
 shown-append : (k : ℕ) (xs ys : List Slot) → shown_from k (xs ++ ys) ≡ shown_from k xs ++ shown_from (k + length xs) ys
-shown-append k [] ys = ap (λ (n : ℕ). shown_from n ys) (omega arith)
+shown-append k [] ys = search arith
 shown-append k (x ∷ xs) ys = search (arith, shown-append (suc k) xs ys)
 
 pub one_more_shown : (slots : List Slot) (i : ℕ) (d : Slot) (rows : List (Id × Descr)) → i < length slots

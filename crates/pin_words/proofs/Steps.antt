@@ -1,7 +1,7 @@
 -- What a step of one seat owes the rule of the table.
 use Rattle.std.specs.Prelude.{IfSome, option_map}
 use Rattle.std.proofs.Common.{◌≡◌, ◌≢◌, ◌⊎◌, inl, inr, ⊎_elim, ℕ, ◌<◌, ◌≤◌, List, [], ◌∷◌, length, get_or, set, length-set, zero, suc, Option, Some, sym, refl, ap, ◌∙◌, subst, arith}
-use mathlib.Core.Option.{none, some, some-ne-none, some-injective}
+use mathlib.Core.Option.{none, some, some-ne-none}
 use native.Mathlib.Decide.{ℕ_discrete}
 use mathlib.Core.Logic.{dite}
 use lib.ListN.{get_elem?}
@@ -59,17 +59,17 @@ in-list (x ∷ xs) (suc i) a e = let ih = in-list xs i a e in omega arith
 pub has-keeper : (vs : List View) (id j : ℕ) (v v' : View) → get_elem? vs id ≡ some v → Turns v v' → HasKeeper vs j
     → HasKeeper (set vs id v') j
 has-keeper vs id j v v' seated turn h = dite (ℕ_discrete j id)
-    (λ e. let same : v ≡ h.0 = some-injective v h.0 (sym seated ∙ (ap (get_elem? vs) (sym e) ∙ h.2)) in
+    (λ e. let same : v ≡ h.0 = search arith in
     let new = turn.keeper h.1 (ap (λ (z : View). z.keeper) same ∙ h.3) in
-    (v', new.0, ap (get_elem? (set vs id v')) e ∙ set_here vs id v' (in-list vs id v seated), new.1))
+    (v', new.0, search (arith, in-list, set_here), new.1))
     (λ ne. (h.0, h.1, set_else vs id j v' ne ∙ h.2, h.3))
 
 pub has-reader : (vs : List View) (id j r : ℕ) (v v' : View) → get_elem? vs id ≡ some v → Turns v v' → HasReader vs j r
     → HasReader (set vs id v') j r
 has-reader vs id j r v v' seated turn h = dite (ℕ_discrete j id)
-    (λ e. let same : v ≡ h.0 = some-injective v h.0 (sym seated ∙ (ap (get_elem? vs) (sym e) ∙ h.2)) in
+    (λ e. let same : v ≡ h.0 = search arith in
     let new = turn.reader h.1 (ap (λ (z : View). z.reader) same ∙ h.3) in
-    (v', new.0, ap (get_elem? (set vs id v')) e ∙ set_here vs id v' (in-list vs id v seated), new.1, new.2 ∙ h.4))
+    (v', new.0, search (arith, in-list, set_here), new.1, new.2 ∙ h.4))
     (λ ne. (h.0, h.1, set_else vs id j v' ne ∙ h.2, h.3, h.4))
 
 -- a slot is told by its place
@@ -123,9 +123,8 @@ pub still-shown : (k : Shape) (s : Table) (W : WorldState) (sh : IsShown k s W) 
     → IsShown k (after_step s i (get_or s.words i 0) id v') W
 still-shown k s W sh id i v' mine v seated turn = let same = set-get_or s.words i 0 in
     step-shown k s W sh id i (get_or s.words i 0) v' W sh.shape sh.safe
-    (λ j h. ap (λ (ws : List ℕ). get_or ws (place_of j) 0) same ∙ sh.words j h)
-    (λ j h. ap (λ (ws : List ℕ). get_or ws (descr_place j) 0) same
-    ∙ sh.descrs j h) sh.given mine (λ j u n a. a) sh.unborn v seated turn (λ r e. inl e)
+    (search arith)
+    (search arith) sh.given mine (λ j u n a. a) sh.unborn v seated turn (λ r e. inl e)
 
 pub few-pins : (k : Shape) (s : Table) (W : WorldState) (sh : IsShown k s W) (i : ℕ) → pins W i < 1073741824
 few-pins k s a2 sh i = search arith

@@ -67,6 +67,7 @@ impl Keeper {
     ghost use Rattle.pin_words.specs.Plays.{Show};
     ghost use Rattle.pin_words.specs.Tries.{ReclaimsByLook, Met};
 
+    #[tactic(auto, using(crate::proofs::Reseated::blanks))]
     pub(crate) fn of_parts(
         words: Arc<Words, Global>,
         shape: Shape,

@@ -59,6 +59,7 @@ fn with_slot(published: Published, number: u32, slot: Slot) -> Published
 }
 
 /// What is published of slots that nobody holds: the Id of each live or closing one, with its descriptor.
+#[tactic(auto, using(crate::proofs::Showing::one_more_shown))]
 fn shown(slots: &[Slot]) -> Published
     requires { length slots.now ≤ 65536 }
     ensures { result.list ≡ shown_from 0 slots.now }

@@ -97,6 +97,7 @@ impl Pins {
     /// descriptor.
     ///
     /// [`Fault::Memory`] (8) where memory ran out.
+    #[tactic(auto, using(crate::proofs::Reseated::opens))]
     pub fn with_slots(
         alloc: Global,
         shape: Shape,
@@ -156,6 +157,7 @@ impl Opening {
 
     /// The keeper, and reader 1, and until one of them makes a step the table shows the opening world. Where memory ran
     /// out the right to start comes back.
+    #[tactic(auto, using(crate::proofs::Reseated::fresh_keeper))]
     pub fn start(self, pins: &Pins) -> Result<(Keeper, Reader), Opening>
         requires { self ≡ pins.now }
         ensures keeper { IfOk result (λ r. (r.0.table ≡ self)

@@ -1,4 +1,5 @@
-use Rattle.std.proofs.Common.{subst, sym, List, Option, ℕ}
+use Rattle.std.proofs.Common.{subst, sym, Option, ℕ}
+use Rattle.std.proofs.Common.{arith}
 use Rattle.least_due.specs.Dues.{IsLeast}
 use Rattle.least_due.proofs.BestLemmas.{least_at_root}
 use Rattle.least_due.proofs.Dues.least.Goals as goal
@@ -8,4 +9,4 @@ returns c =
     let at : IsLeast c.self.inside.dues.items c.moment_at.result =
     subst (λ (x : Option ℕ). IsLeast c.self.inside.dues.items x) (sym c.moment_at.ensures)
     (least_at_root c.self.inside.dues.items c.self.inside.best.items c.self.invariant.each) in
-    subst (λ (s : List (Option ℕ)). IsLeast s c.moment_at.result) c.self.view_is at
+    search arith

@@ -1,5 +1,4 @@
 use Rattle.std.proofs.Common.{◌∙◌, sym, arith, None}
-use Rattle.std.proofs.lemmas.Bool.Decides.{nat_tests}
 use Rattle.std.proofs.lemmas.List.{get_or_default}
 use Rattle.least_due.proofs.BestLemmas.{written, unwritten}
 use Rattle.least_due.proofs.best.renew.Goals as goal
@@ -12,7 +11,7 @@ returns-then-is_same-clause-done c _ = unwritten c.args.dues.now.items c.args.be
 
 pub returns-clause-more : goal.returns-clause-more
 returns-clause-more c some = (
-  grind (arith, nat_tests, some),
+  grind arith,
   λ n ne. written c.args.dues.now.items c.args.best.now.items c.args.place c.best_below-due.result c.requires.within
       c.best_below-due.ensures c.requires.others n (λ _. ne),
 )

@@ -13,7 +13,7 @@ loop-slot-preserved c =
     let above = c.loop-slot.invariant.above in
     let over = c.in-Some.ensures.least.above in
     record {
-      above = omega (arith, above, over);
+      above = omega arith;
       none = none_up_to c.args.phases.now.items c.args.free.now c.requires c.args.from c.loop-slot.at c.in-Some.slot
           c.loop-slot.invariant.above c.loop-slot.invariant.none c.in-Some.ensures.least
           c.index.result.now c.index.ensures (sym c.is_occupied.ensures ∙ c.if-is_occupied.false);

@@ -16,11 +16,7 @@ returns-clause-last c = by c.rposition.result refl
 pub returns-clause-found : goal.returns-clause-found
 returns-clause-found c = by c.rposition.result refl
   where
-    by : (o : Option ℕ) → c.rposition.result ≡ o
-        → IsTrue (is_some o) ↔ (0 < tally (same_id c.args.id) c.args.held.now)
+    by : (o : Option ℕ) → c.rposition.result ≡ o → IsTrue (is_some o) ↔ (0 < tally (same_id c.args.id) c.args.held.now)
     by None e = let none = none-at (same_id c.args.id) c.args.held.now c.args.id (search rules) in
         ((λ bad. absurd (let x : false ≡ true = bad in cc)), (λ some. absurd (omega arith)))
-    by (Some place) e = (
-      (λ _. some-at (same_id c.args.id) c.args.held.now place c.args.id (search rules) (search rules)),
-      (λ _. refl),
-    )
+    by (Some place) e = search (arith, some-at)

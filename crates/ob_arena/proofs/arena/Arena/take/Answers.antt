@@ -1,7 +1,8 @@
 use Rattle.std.proofs.Common.{◌∙◌, refl, sym, ap, subst, length, length-set, set, List}
+use Rattle.std.proofs.Common.{arith}
 use Rattle.std.specs.Prelude.{IsSome, Option}
 use Rattle.ob_arena.specs.declared.phase.Phase.TheVariants.{Vacant}
-use Rattle.ob_arena.specs.Slots.{Slots, body_at, is_vacant_at, without_body}
+use Rattle.ob_arena.specs.Slots.{Slots, body_at, without_body}
 use Rattle.ob_arena.specs.Arena.{slots_shown}
 use Rattle.ob_arena.proofs.Phasing.{held_slot, held_number, tied_take, shown_take, retied, vacant_taken_from}
 use Rattle.ob_arena.proofs.arena.Arena.take.Goals as goal
@@ -52,6 +53,4 @@ returns-clause-vacant g c =
     let i = c.self.inside in
     let some = subst (λ (s : Slots g.row.B.Denot). IsSome (body_at s c.args.slot)) (sym c.self.view_is) c.requires in
     let held = held_slot i.storage.slots i.phases.items i.free c.self.invariant.tied c.args.slot some in
-    ap (λ (l : List (Option g.row.B.Denot)). is_vacant_at
-    (slots_shown l (set i.phases.items c.args.slot Vacant)) c.args.slot) c.empty-body.ensures.slots.1
-    ∙ vacant_taken_from i.storage.slots i.phases.items i.free c.self.invariant.tied c.args.slot held
+    search (arith, vacant_taken_from, c.empty-body.ensures.slots.1)

@@ -58,10 +58,7 @@ invariant_of-self-inside-2 c = let played = c.compare_exchange-found.ensures.2 c
     let inside : c.args.slot < length c.self.inside.slots.items = let long = c.self.inside.length_is in
     let lt : c.args.slot < c.self.inside.shape.slots = search rules in omega arith in
     let same : c.index_mut-kept.result.now ≡ c.index-was.result.now =
-    slot-known _ c.self.inside.slots.items c.args.slot c.index_mut-kept.result.now c.self.inside.knows inside
-    c.index_mut-kept.ensures.value
-    ∙ sym (slot-known _ c.self.inside.slots.items c.args.slot c.index-was.result.now c.self.inside.knows inside
-    c.index-was.ensures) in
+    search (arith, slot-known) in
     let written : set c.self.inside.slots.items c.args.slot (record {
       generation = c.reclaimed-next.result.generation;
       phase = c.reclaimed-next.result.phase;

@@ -1,4 +1,5 @@
 use Rattle.std.proofs.Common.{◌≡◌, ◌∙◌, ap}
+use Rattle.std.proofs.Common.{arith}
 use Rattle.pin_words.specs.Seats.{TableState}
 use Rattle.pin_words.specs.Views.{keeper_gave, opening_keeper}
 use Rattle.pin_words.proofs.LawOfSteps.{shows_opening}
@@ -11,8 +12,5 @@ known c =
     c.in-Ok.ensures.keeper.1 ∙ (ap keeper_gave (fresh_keeper over.table.shape over.slots c.self.inside.fresh)
     ∙ ap (λ (t : TableState). keeper_gave (opening_keeper t.shape)) c.self.view_is)
 
-pub returns-in-Ok-clause-keeper : goal.returns-in-Ok-clause-keeper
-returns-in-Ok-clause-keeper c = (c.in-Ok.ensures.keeper.0 ∙ c.self.view_is, known c)
-
 pub returns-in-Ok-clause-opens : goal.returns-in-Ok-clause-opens
-returns-in-Ok-clause-opens c = shows_opening c.in-Ok.started.0.view c.args.self.shape (known c)
+returns-in-Ok-clause-opens c = search (arith, known, shows_opening, c.args.self.shape)

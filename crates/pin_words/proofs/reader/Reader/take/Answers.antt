@@ -1,4 +1,4 @@
-use Rattle.std.proofs.Common.{rules, ◌≡◌, ◌∙◌, sym, ap, subst, ◌<◌, ◌≢◌, refl, ◌∷◌, [], ℕ, ◌+◌, ◌-◌, length, length-append, take, arith}
+use Rattle.std.proofs.Common.{rules, ◌≡◌, ◌∙◌, sym, ap, subst, ◌<◌, ◌≢◌, refl, ℕ, ◌+◌, ◌-◌, length, arith}
 use Rattle.std.proofs.Math.Seq.{take-append_seam}
 use Rattle.pin_core.specs.declared.shape.Shape.{Shape}
 use Rattle.pin_core.specs.Words.{decoded}
@@ -35,11 +35,10 @@ invariant_of-self-inside c = let played = c.compare_exchange-seen.ensures.2 c.ar
     let one = read-one (λ r. reader_looked r c.args.id.slot c.compare_exchange-seen.result) c.self.inside.seat.me
     c.compare_exchange-seen.new.seat.me c.self.inside.reads (played.1 c.if-seen-found.true) in
     let counted : length c.push.new.self.items ≡ length c.self.inside.held.items + 1 =
-    ap length c.push.ensures.items ∙ length-append c.self.inside.held.items (c.args.id ∷ []) in
+    search arith in
     let less : length c.push.new.self.items - 1 ≡ length c.self.inside.held.items = omega arith in
     let popped : c.pop.new.self.items ≡ c.self.inside.held.items =
-    c.pop.ensures.rest ∙ ((λ i. take (less i) (c.push.ensures.items i))
-    ∙ take-append_seam c.self.inside.held.items (c.args.id ∷ [])) in search rules
+    search (arith, take-append_seam) in search rules
 
 pub returns-then-seen-found-clause-lost : goal.returns-then-seen-found-clause-lost
 returns-then-seen-found-clause-lost c = let played = c.compare_exchange-seen.ensures.2 c.args.id.slot c.place_of.ensures

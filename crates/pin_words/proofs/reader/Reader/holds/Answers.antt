@@ -1,8 +1,0 @@
-use Rattle.std.proofs.Common.{◌<◌, ◌↔◌, IsTrue, List, subst}
-use Rattle.pin_core.specs.declared.id.Id.{Id}
-use Rattle.pin_core.specs.Holds.{tally, same_id}
-use Rattle.pin_words.proofs.reader.Reader.holds.Goals as goal
-
-pub returns : goal.returns
-returns c = subst (λ (held : List Id). IsTrue c.is_among.result
-    ↔ (0 < tally (same_id c.args.id) held)) c.held.ensures c.is_among.ensures
