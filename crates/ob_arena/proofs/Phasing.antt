@@ -18,11 +18,11 @@ use Rattle.ob_arena.specs.Slots.{IsFilled, is_vacant_at, least_vacant, with_body
 use Rattle.ob_arena.specs.Arena.{slots_shown, IsTied}
 
 module _ {B : Type 0} (ss : List (Option B)) (ps : List Phase) (taken : List Bool) (tied : IsTied ss ps taken) where
-  pub length-phases : length ps ≡ length ss
-  length-phases = search (arith, length-map)
+  pub length_phases : length ps ≡ length ss
+  length_phases = search (arith, length-map)
 
   pub length-taken : length taken ≡ length ss
-  length-taken = ap length tied.in_use ∙ length-map ps is_in_use ∙ length-phases
+  length-taken = ap length tied.in_use ∙ length-map ps is_in_use ∙ length_phases
 
   pub occupied_at : (k : ℕ) → is_occupied (get_or ps k Vacant) ≡ is_some (get_or ss k None)
   occupied_at k = sym (get_or-map is_occupied ps k Vacant) ∙ ap (λ (l : List Bool). get_or l k false) tied.occupied
@@ -45,7 +45,7 @@ module _ {B : Type 0} (ss : List (Option B)) (ps : List Phase) (taken : List Boo
 
   pub vacant_within : (k : ℕ) (p : Phase) → k < length ps → p ≡ get_or ps k p
       → is_vacant p ≡ is_vacant_at (slots_shown ss ps) k
-  vacant_within k p lt read = search (arith, length-phases, vacant_phase, get_or_default)
+  vacant_within k p lt read = search (arith, length_phases, vacant_phase, get_or_default)
 
   pub occupied_within : (k : ℕ) (p : Phase) → k < length ps → p ≡ get_or ps k p
       → is_occupied p ≡ is_some (get_or ss k None)
@@ -119,7 +119,7 @@ module _ {B : Type 0} (ss : List (Option B)) (ps : List Phase) (taken : List Boo
 
   pub vacant_take : (k : ℕ) → IsHeld k → (ltb k (length (set ss k None))
       && is_vacant (get_or (set ps k Vacant) k Vacant)) ≡ true
-  vacant_take k held = search (arith, length-phases, get_or-set_same, length-set)
+  vacant_take k held = search (arith, length_phases, get_or-set_same, length-set)
 
   -- a body changes in its slot
   pub tied_changed : (k : ℕ) (x : B) → IsHeld k → IsTied (set ss k (Some x)) ps taken

@@ -175,6 +175,7 @@ impl<B> Arena<B> {
     }
 
     /// The least vacant slot.
+    #[tactic(auto, using(crate::proofs::Phasing::least_found, crate::proofs::Phasing::length_phases, crate::proofs::Phasing::none_found))]
     pub fn least_vacant(&self) -> Option<u32>
         ensures { result ≡ least_vacant self.now }
     {

@@ -1,18 +1,10 @@
 -- Counts over a list that gains or loses one element.
-use Rattle.std.proofs.Common.{nat_lt, get_or, ◌≡◌, ℕ, ◌+◌, ◌<◌, ◌≤◌, Bool, true, false, Some, None, zero, suc, length, cond, List, [], ◌∷◌, ◌++◌, reverse, sym, refl, ap, ◌∙◌, arith}
+use Rattle.std.proofs.Common.{get_or, ◌≡◌, ℕ, ◌+◌, ◌<◌, ◌≤◌, Bool, true, false, Some, None, zero, suc, length, cond, List, [], ◌∷◌, ◌++◌, reverse, sym, refl, ap, ◌∙◌, arith}
 use Rattle.std.specs.List.{count_by, position, position_or_len, remove}
-use Rattle.std.proofs.lemmas.Grind.{common_steps}
 use Rattle.std.proofs.lemmas.List.{append-nil, reverse-append, reverse-reverse}
 use Rattle.std.proofs.lemmas.List.Recursion.{is_count_by}
-use Rattle.std.proofs.lemmas.List.Quantifiers.{position-Some}
 use Rattle.pin_core.specs.Holds.{drop_first, drop_last, tally, weight, with_hold}
 use Rattle.pin_core.specs.declared.holders.Hold.{Hold}
-
-weight-le : (a b : Bool) → (a ≡ true → b ≡ true) → weight a ≤ weight b
-weight-le false true h = omega arith
-weight-le false false h = omega arith
-weight-le true true h = omega arith
-weight-le true false h = let e = h refl in cc
 
 module _ {X : Type 0} where
   pub count-snoc : (p : X → Bool) (xs : List X) (y : X) → tally p (xs ++ y ∷ []) ≡ tally p xs + weight (p y)
@@ -21,29 +13,17 @@ module _ {X : Type 0} where
 
   pub count-le : (p q : X → Bool) (xs : List X) → ((x : X) → p x ≡ true → q x ≡ true) → tally p xs ≤ tally q xs
   count-le p q [] h = omega arith
-  count-le p q (x ∷ xs) h = let ih = count-le p q xs h in let here = weight-le (p x) (q x) (h x) in omega arith
-
-  drop-le-cases : (p q : X → Bool) (x : X) (xs : List X) (b : Bool) → tally p (drop_first q xs) ≤ tally p xs
-      → tally p (cond b xs (x ∷ drop_first q xs)) ≤ tally p (x ∷ xs)
-  drop-le-cases p q x xs true ih = omega arith
-  drop-le-cases p q x xs false ih = omega arith
+  count-le p q (x ∷ xs) h = search (arith, count-le p q xs h)
 
   pub count-drop-le : (p q : X → Bool) (xs : List X) → tally p (drop_first q xs) ≤ tally p xs
   count-drop-le p q [] = omega arith
-  count-drop-le p q (x ∷ xs) = drop-le-cases p q x xs (q x) (count-drop-le p q xs)
-
-  drop-cases : (p q : X → Bool) (b : Bool) (x : X) (xs : List X) (t : Bool) → q x ≡ t → ((x : X) → q x ≡ true → p x ≡ b)
-      → (0 < tally q xs → tally p (drop_first q xs) + weight b ≡ tally p xs)
-      → 0 < weight t + tally q xs → tally p (cond t xs (x ∷ drop_first q xs)) + weight b ≡ tally p (x ∷ xs)
-  drop-cases p q b x xs true e h ih some = let here : weight (p x) ≡ weight b = ap (weight) (h x e) in omega arith
-  drop-cases p q b x xs false e h ih some = let back : tally p (drop_first q xs) + weight b ≡ tally p xs =
-      ih (omega arith) in omega arith
+  count-drop-le p q (x ∷ xs) = search (arith, count-drop-le p q xs)
 
   -- where what goes is counted as b
   pub count-drop : (p q : X → Bool) (b : Bool) (xs : List X) → ((x : X) → q x ≡ true → p x ≡ b) → 0 < tally q xs
       → tally p (drop_first q xs) + weight b ≡ tally p xs
   count-drop p q b [] h some = absurd (omega arith)
-  count-drop p q b (x ∷ xs) h some = drop-cases p q b x xs (q x) refl h (count-drop p q b xs h) some
+  count-drop p q b (x ∷ xs) h some = search (arith, count-drop p q b xs h)
 
   pub count-append : (p : X → Bool) (xs ys : List X) → tally p (xs ++ ys) ≡ tally p xs + tally p ys
   count-append p [] ys = omega arith
@@ -51,32 +31,15 @@ module _ {X : Type 0} where
 
   pub drop-absent : (p : X → Bool) (xs : List X) → tally p xs ≡ 0 → drop_first p xs ≡ xs
   drop-absent p [] e = refl
-  drop-absent p (x ∷ xs) e = cases (p x) e (drop-absent p xs)
-    where
-      cases : (b : Bool) → weight b + tally p xs ≡ 0 → (tally p xs ≡ 0 → drop_first p xs ≡ xs)
-          → cond b xs (x ∷ drop_first p xs) ≡ x ∷ xs
-      cases true e ih = absurd (omega arith)
-      cases false e ih = ap (λ (z : List X). x ∷ z) (ih (omega arith))
+  drop-absent p (x ∷ xs) e = search (arith, drop-absent p xs)
 
   pub drop-in-first : (p : X → Bool) (xs ys : List X) → 0 < tally p xs → drop_first p (xs ++ ys) ≡ drop_first p xs ++ ys
   drop-in-first p [] ys some-here = absurd (omega arith)
-  drop-in-first p (x ∷ xs) ys some-here = cases (p x) some-here (drop-in-first p xs ys)
-    where
-      cases : (b : Bool) → 0 < weight b + tally p xs
-          → (0 < tally p xs → drop_first p (xs ++ ys) ≡ drop_first p xs ++ ys)
-          → cond b (xs ++ ys) (x ∷ drop_first p (xs ++ ys)) ≡ cond b xs (x ∷ drop_first p xs) ++ ys
-      cases true h ih = refl
-      cases false h ih = ap (λ (z : List X). x ∷ z) (ih (omega arith))
+  drop-in-first p (x ∷ xs) ys some-here = search (arith, drop-in-first p xs ys)
 
   pub drop-in-later : (p : X → Bool) (xs ys : List X) → tally p xs ≡ 0 → drop_first p (xs ++ ys) ≡ xs ++ drop_first p ys
   drop-in-later p [] ys e = refl
-  drop-in-later p (x ∷ xs) ys e = cases (p x) e (drop-in-later p xs ys)
-    where
-      cases : (b : Bool) → weight b + tally p xs ≡ 0
-          → (tally p xs ≡ 0 → drop_first p (xs ++ ys) ≡ xs ++ drop_first p ys)
-          → cond b (xs ++ ys) (x ∷ drop_first p (xs ++ ys)) ≡ x ∷ (xs ++ drop_first p ys)
-      cases true e ih = absurd (omega arith)
-      cases false e ih = ap (λ (z : List X). x ∷ z) (ih (omega arith))
+  drop-in-later p (x ∷ xs) ys e = search (arith, drop-in-later p xs ys)
 
   tally-reverse : (p : X → Bool) (xs : List X) → tally p (reverse xs) ≡ tally p xs
   tally-reverse p [] = refl
@@ -84,18 +47,15 @@ module _ {X : Type 0} where
       let more = count-snoc p (reverse xs) x in omega arith
 
   pub count-drop_last-le : (p q : X → Bool) (xs : List X) → tally p (drop_last q xs) ≤ tally p xs
-  count-drop_last-le p q xs = let le = count-drop-le p q (reverse xs) in
-      let left = tally-reverse p (drop_first q (reverse xs)) in let all = tally-reverse p xs in omega arith
+  count-drop_last-le p q xs = search (arith, count-drop-le, tally-reverse)
 
   -- where what goes is counted as b
   pub count-drop_last : (p q : X → Bool) (b : Bool) (xs : List X) → ((x : X) → q x ≡ true → p x ≡ b) → 0 < tally q xs
       → tally p (drop_last q xs) + weight b ≡ tally p xs
-  count-drop_last p q b xs h some =
-      let less = count-drop p q b (reverse xs) h (let same = tally-reverse q xs in omega arith) in
-      let left = tally-reverse p (drop_first q (reverse xs)) in let all = tally-reverse p xs in omega arith
+  count-drop_last p q b xs h some = search (arith, count-drop, tally-reverse)
 
   pub drop_last-absent : (p : X → Bool) (xs : List X) → tally p xs ≡ 0 → drop_last p xs ≡ xs
-  drop_last-absent p xs none = ap reverse (drop-absent p (reverse xs) (tally-reverse p xs ∙ none)) ∙ reverse-reverse xs
+  drop_last-absent p xs none = search (arith, drop-absent, tally-reverse, reverse-reverse)
 
   -- by places: none passes, or one does
   pub none-at : (p : X → Bool) (xs : List X) (d : X) → ((k : ℕ) → k < length xs → p (get_or xs k d) ≡ false)
@@ -104,10 +64,9 @@ module _ {X : Type 0} where
   none-at p (x ∷ xs) d fails = let later = none-at p xs d (λ k within. fails (suc k) (omega arith)) in
       let here : weight (p x) ≡ 0 = ap weight (fails 0 (omega arith)) in omega arith
 
-  pub some-at : (p : X → Bool) (xs : List X) (i : ℕ) (d : X) → i < length xs → p (get_or xs i d) ≡ true
-      → 0 < tally p xs
+  pub some-at : (p : X → Bool) (xs : List X) (i : ℕ) (d : X) → i < length xs → p (get_or xs i d) ≡ true → 0 < tally p xs
   some-at p [] i d h e = absurd (omega arith)
-  some-at p (x ∷ xs) zero d h e = let one : weight (p x) ≡ 1 = ap weight e in omega arith
+  some-at p (x ∷ xs) zero d h e = search arith
   some-at p (x ∷ xs) (suc i) d h e = let ih = some-at p xs i d (omega arith) e in omega arith
 
   -- what is removed where the last one that passes stands
@@ -118,17 +77,14 @@ module _ {X : Type 0} where
       let later : tally p (reverse xs) ≡ 0 = tally-reverse p xs
       ∙ none-at p xs d (λ k within. after (suc k) (omega arith) (omega arith)) in
       sym (ap (λ (z : List X). reverse (drop_first p z)) (reverse-append (x ∷ []) xs)
-      ∙ (ap reverse (drop-in-later p (reverse xs) (x ∷ []) later)
-      ∙ (ap (λ b. reverse (reverse xs ++ cond b [] (x ∷ []))) here
-      ∙ (ap reverse (append-nil (reverse xs)) ∙ reverse-reverse xs))))
+      ∙ (search (arith, drop-in-later, append-nil, reverse-reverse)))
   remove-last p (x ∷ xs) (suc i) d inside here after =
       let some : 0 < tally p (reverse xs) = let have = some-at p xs i d (omega arith) here in
       let same = tally-reverse p xs in omega arith in
       ap (λ (z : List X). x ∷ z) (remove-last p xs i d (omega arith) here
       (λ k behind within. after (suc k) (omega arith) (omega arith)))
       ∙ sym (ap (λ (z : List X). reverse (drop_first p z)) (reverse-append (x ∷ []) xs)
-      ∙ (ap reverse (drop-in-first p (reverse xs) (x ∷ []) some)
-      ∙ reverse-append (drop_first p (reverse xs)) (x ∷ [])))
+      ∙ (search (arith, drop-in-first, reverse-append)))
 
   -- the count of a chain of iterators
   pub tally-count : (p : X → Bool) (xs : List X) → count_by p xs ≡ tally p xs
@@ -138,57 +94,35 @@ module _ {X : Type 0} where
       cases true n = refl
       cases false n = omega arith
 
-pos-here : {X : Type 0} (p : X → Bool) (x : X) (xs : List X) → p x ≡ true → position_or_len p (x ∷ xs) ≡ 0
-pos-here p x xs e = grind (arith, common_steps)
-
 pos-later : {X : Type 0} (p : X → Bool) (x : X) (xs : List X) → p x ≡ false
     → position_or_len p (x ∷ xs) ≡ suc (position_or_len p xs)
-pos-later p x xs e = grind (arith, common_steps)
+pos-later p x xs e = grind arith
 
 -- what `position` and `remove` leave
 pub remove-first : {X : Type 0} (p : X → Bool) (xs : List X) → position_or_len p xs < length xs
     → remove xs (position_or_len p xs) ≡ drop_first p xs
 remove-first p [] h = absurd (omega arith)
-remove-first {X = X} p (x ∷ xs) h = cases (p x) refl (remove-first p xs)
-  where
-    cases : (b : Bool) → p x ≡ b → (position_or_len p xs < length xs
-        → remove xs (position_or_len p xs) ≡ drop_first p xs)
-        → remove (x ∷ xs) (position_or_len p (x ∷ xs)) ≡ cond b xs (x ∷ drop_first p xs)
-    cases true e ih = ap (remove (x ∷ xs)) (pos-here p x xs e)
-    cases false e ih = let at = pos-later p x xs e in
-        ap (remove (x ∷ xs)) at ∙ ap (λ (z : List X). x ∷ z) (ih (omega arith))
+remove-first {X = X} p (x ∷ xs) h = search (arith, pos-later, remove-first p xs)
 
 -- where an element passes, there is a first
 pub some-first : {X : Type 0} (p : X → Bool) (xs : List X) → 0 < tally p xs → position_or_len p xs < length xs
 some-first p [] h = absurd (omega arith)
-some-first p (x ∷ xs) h = cases (p x) refl h (some-first p xs)
-  where
-    cases : (b : Bool) → p x ≡ b → 0 < weight b + tally p xs → (0 < tally p xs → position_or_len p xs < length xs)
-        → position_or_len p (x ∷ xs) < length (x ∷ xs)
-    cases true e h ih = let at = pos-here p x xs e in omega arith
-    cases false e h ih = let at = pos-later p x xs e in let l = ih (omega arith) in omega arith
+some-first p (x ∷ xs) h = search (arith, some-first p xs)
 
 pub first-found : {X : Type 0} (p : X → Bool) (xs : List X) → 0 < tally p xs
     → position p xs ≡ Some (position_or_len p xs)
-first-found p xs have = let l = some-first p xs have in grind (arith, common_steps)
+first-found p xs have = search (arith, some-first)
 
 pub none-found : {X : Type 0} (p : X → Bool) (xs : List X) → position p xs ≡ None → tally p xs ≡ 0
-none-found p xs e = let absent : ¬ (0 < tally p xs) = λ have. let f = first-found p xs have in cc in omega arith
+none-found p xs e = search (arith, first-found)
 
 -- a triple more is counted by what it is
 pub count-with_hold : (p : Hold → Bool) (t : Hold) (hs : List Hold)
     → tally p (with_hold t hs) ≡ tally p hs + weight (p t)
 count-with_hold p t [] = omega arith
-count-with_hold p t (h ∷ hs) = cases (nat_lt t.id.slot h.id.slot) (count-with_hold p t hs)
-  where
-    cases : (b : Bool) → tally p (with_hold t hs) ≡ tally p hs + weight (p t)
-        → tally p (cond b (t ∷ h ∷ hs) (h ∷ with_hold t hs)) ≡ tally p (h ∷ hs) + weight (p t)
-    cases true ih = omega arith
-    cases false ih = omega arith
+count-with_hold p t (h ∷ hs) = search (arith, count-with_hold p t hs)
 
 -- what is removed where `position` found it
-pub found-some : {X : Type 0} (p : X → Bool) (xs : List X) (n : ℕ) (d : X) → position p xs ≡ Some n
+pub found_some : {X : Type 0} (p : X → Bool) (xs : List X) (n : ℕ) (d : X) → position p xs ≡ Some n
     → remove xs n ≡ drop_first p xs
-found-some p xs n d e = let at = position-Some p xs n d e in let have = some-at p xs n d at.0 at.1 in
-    let f = first-found p xs have in let same : position_or_len p xs ≡ n = cc in
-    ap (remove xs) (sym same) ∙ remove-first p xs (some-first p xs have)
+found_some p xs n d e = search (arith, remove-first)

@@ -1,12 +1,11 @@
 -- A set of triples, and the lists in which it is kept slot by slot.
-use Rattle.std.proofs.Common.{◌≡◌, ◌≢◌, ℕ, ◌+◌, ◌<◌, ◌≤◌, nat_lt, Bool, true, false, cond, List, [], ◌∷◌, ◌++◌, length, get_or, set, zero, suc, sym, refl, ap, ◌∙◌, subst, arith, append_assoc, length-set}
-use Rattle.std.proofs.lemmas.Bool.{le-ltb, lt-ltb}
+use Rattle.ob_codec.proofs.AtPlace.{at_place}
+use Rattle.std.proofs.Common.{◌≡◌, ◌≢◌, ℕ, ◌+◌, ◌<◌, ◌≤◌, Bool, true, List, [], ◌∷◌, ◌++◌, length, get_or, set, zero, suc, sym, refl, ap, ◌∙◌, arith, append_assoc}
 use Rattle.std.specs.Prelude.{Vec}
 use Rattle.std.specs.Global.{Global}
-use Rattle.std.proofs.lemmas.Grind.{common_steps}
 use Rattle.pin_core.specs.declared.holders.Hold.{Hold}
 use Rattle.std.specs.List.{count_by}
-use Rattle.pin_core.specs.Holds.{Holding, tally, weight, is_at_slot, is_hold, is_copy, with_hold, drop_first}
+use Rattle.pin_core.specs.Holds.{Holding, tally, is_at_slot, is_hold, is_copy, with_hold, drop_first}
 use Rattle.pin_core.specs.declared.id.Id.{Id}
 use Rattle.pin_core.specs.Grouped.{all_of, AllAt, AreGrouped}
 use Rattle.pin_core.proofs.Counts.{tally-count, count-append, drop-absent, drop-in-first, drop-in-later}
@@ -20,11 +19,7 @@ IsAbout s p = (h : Hold) → p h ≡ true → h.id.slot ≡ s
 
 none-elsewhere : (p : Hold → Bool) (n s : ℕ) (hs : List Hold) → IsAbout s p → AllAt n hs → n ≢ s → tally p hs ≡ 0
 none-elsewhere p n s [] about here apart = refl
-none-elsewhere p n s (h ∷ hs) about here apart = cases (p h) refl (none-elsewhere p n s hs about here.1 apart)
-  where
-    cases : (b : Bool) → p h ≡ b → tally p hs ≡ 0 → weight b + tally p hs ≡ 0
-    cases true e ih = absurd (apart (sym here.0 ∙ about h e))
-    cases false e ih = omega arith
+none-elsewhere p n s (h ∷ hs) about here apart = search (arith, none-elsewhere p n s hs about here.1 apart)
 
 none-after : (p : Hold → Bool) (n s : ℕ) (vs : List Group) → IsAbout s p → AreGrouped n vs → s < n
     → tally p (all_of vs) ≡ 0
@@ -39,8 +34,7 @@ pub count-grouped : (p : Hold → Bool) (n i s : ℕ) (vs : List Group) (d : Gro
     → IsAbout s p → i < length vs
     → tally p (all_of vs) ≡ tally p (get_or vs i d).items
 count-grouped p n i s [] d e g about inside = absurd (omega arith)
-count-grouped p n zero s (v ∷ vs) d e g about inside = let rest = none-after p (n + 1) s vs about g.1 (omega arith) in
-    let both = count-append p v.items (all_of vs) in omega arith
+count-grouped p n zero s (v ∷ vs) d e g about inside = search (arith, none-after, count-append)
 count-grouped p n (suc i) s (v ∷ vs) d e g about inside = let first =
     none-elsewhere p n s v.items about g.0 (λ z. let f : n ≡ s = z in omega arith) in
     let ih = count-grouped p (n + 1) i s vs d (omega arith) g.1 about (omega arith) in
@@ -48,13 +42,12 @@ count-grouped p n (suc i) s (v ∷ vs) d e g about inside = let first =
 
 count-all : (s : ℕ) (hs : List Hold) → AllAt s hs → tally (is_at_slot s) hs ≡ length hs
 count-all s [] here = refl
-count-all s (h ∷ hs) here = let ih = count-all s hs here.1 in
-    let one : weight (is_at_slot s h) ≡ 1 = (let e = here.0 in grind (arith, common_steps)) in omega arith
+count-all s (h ∷ hs) here = search (arith, count-all s hs here.1)
 
 pub group-at : (n i s : ℕ) (vs : List Group) (d : Group) → s ≡ n + i → AreGrouped n vs → i < length vs
     → AllAt s (get_or vs i d).items
 group-at n i s [] d e g inside = absurd (omega arith)
-group-at n zero s (v ∷ vs) d e g inside = let f : n ≡ s = omega arith in subst (λ (z : ℕ). AllAt z v.items) f g.0
+group-at n zero s (v ∷ vs) d e g inside = search arith
 group-at n (suc i) s (v ∷ vs) d e g inside = group-at (n + 1) i s vs d (omega arith) g.1 (omega arith)
 
 -- the pins of a slot are the length of its list
@@ -62,20 +55,19 @@ pub length-grouped : (s : ℕ) (vs : List Group) (d : Group) → AreGrouped 0 vs
     → length (get_or vs s d).items ≡ tally (is_at_slot s) (all_of vs)
 length-grouped s vs d g inside = let e : s ≡ 0 + s = omega arith in
     sym (count-all s (get_or vs s d).items (group-at 0 s s vs d e g inside))
-    ∙ sym (count-grouped (is_at_slot s) 0 s s vs d e g (λ h x. grind (arith, common_steps)) inside)
+    ∙ sym (search (arith, count-grouped))
 
 pub grouped-set : (n i s : ℕ) (vs : List Group) (v : Group) → s ≡ n + i → AreGrouped n vs → AllAt s v.items
     → AreGrouped n (set vs i v)
 grouped-set n i s [] v e g here = tt
-grouped-set n zero s (x ∷ vs) v e g here = let f : s ≡ n = omega arith in
-    (subst (λ (z : ℕ). AllAt z v.items) f here, g.1)
+grouped-set n zero s (x ∷ vs) v e g here = search arith
 grouped-set n (suc i) s (x ∷ vs) v e g here = (g.0, grouped-set (n + 1) i s vs v (omega arith) g.1 here)
 
 pub all-same : (i : ℕ) (vs : List Group) (v d : Group) → v.items ≡ (get_or vs i d).items
     → all_of (set vs i v) ≡ all_of vs
 all-same i [] v d e = refl
-all-same zero (x ∷ vs) v d e = ap (λ (z : List Hold). z ++ all_of vs) e
-all-same (suc i) (x ∷ vs) v d e = ap (λ (z : List Hold). x.items ++ z) (all-same i vs v d e)
+all-same zero (x ∷ vs) v d e = search arith
+all-same (suc i) (x ∷ vs) v d e = search (arith, all-same i vs v d e)
 
 pub AllAt-snoc : (s : ℕ) (hs : List Hold) (t : Hold) → AllAt s hs → t.id.slot ≡ s → AllAt s (hs ++ t ∷ [])
 AllAt-snoc s [] t here e = (e, tt)
@@ -83,11 +75,7 @@ AllAt-snoc s (h ∷ hs) t here e = (here.0, AllAt-snoc s hs t here.1 e)
 
 pub AllAt-drop_first : (s : ℕ) (p : Hold → Bool) (hs : List Hold) → AllAt s hs → AllAt s (drop_first p hs)
 AllAt-drop_first s p [] here = tt
-AllAt-drop_first s p (h ∷ hs) here = cases (p h) (AllAt-drop_first s p hs here.1)
-  where
-    cases : (b : Bool) → AllAt s (drop_first p hs) → AllAt s (cond b hs (h ∷ drop_first p hs))
-    cases true ih = here.1
-    cases false ih = (here.0, ih)
+AllAt-drop_first s p (h ∷ hs) here = search (arith, AllAt-drop_first s p hs here.1)
 
 -- a triple goes before the lists of later slots
 with_hold-before : (n : ℕ) (t : Hold) (vs : List Group) → AreGrouped n vs → t.id.slot < n
@@ -98,18 +86,13 @@ with_hold-before n t (v ∷ vs) g lt = cases v.items g.0 (with_hold-before (n + 
     cases : (hs : List Hold) → AllAt n hs → with_hold t (all_of vs) ≡ t ∷ all_of vs
         → with_hold t (hs ++ all_of vs) ≡ t ∷ (hs ++ all_of vs)
     cases [] here ih = ih
-    cases (h ∷ hs) here ih = let e : nat_lt t.id.slot h.id.slot ≡ true =
-        lt-ltb t.id.slot h.id.slot (let f = here.0 in omega arith) in
-        ap (λ (b : Bool). cond b (t ∷ h ∷ (hs ++ all_of vs)) (h ∷ with_hold t (hs ++ all_of vs))) e
+    cases (h ∷ hs) here ih = search arith
 
 -- and after the list of a slot that isn't later
 with_hold-behind : (n : ℕ) (t : Hold) (hs ys : List Hold) → AllAt n hs → n ≤ t.id.slot
     → with_hold t (hs ++ ys) ≡ hs ++ with_hold t ys
 with_hold-behind n t [] ys here le = refl
-with_hold-behind n t (h ∷ hs) ys here le = let e : nat_lt t.id.slot h.id.slot ≡ false =
-    le-ltb t.id.slot h.id.slot (let f = here.0 in omega arith) in
-    ap (λ (b : Bool). cond b (t ∷ h ∷ (hs ++ ys)) (h ∷ with_hold t (hs ++ ys))) e
-    ∙ ap (λ (z : List Hold). h ∷ z) (with_hold-behind n t hs ys here.1 le)
+with_hold-behind n t (h ∷ hs) ys here le = search (arith, with_hold-behind n t hs ys here.1 le)
 
 pub all-with_hold : (n i : ℕ) (t : Hold) (vs : List Group) (v d : Group) → t.id.slot ≡ n + i → AreGrouped n vs
     → i < length vs → v.items ≡ (get_or vs i d).items ++ t ∷ []
@@ -117,26 +100,16 @@ pub all-with_hold : (n i : ℕ) (t : Hold) (vs : List Group) (v d : Group) → t
 all-with_hold n i t [] v d e g inside more = absurd (omega arith)
 all-with_hold n zero t (x ∷ vs) v d e g inside more = ap (λ (z : List Hold). z ++ all_of vs) more
     ∙ (append_assoc x.items (t ∷ []) (all_of vs)
-    ∙ (ap (λ (z : List Hold). x.items ++ z) (sym (with_hold-before (n + 1) t vs g.1 (omega arith)))
-    ∙ sym (with_hold-behind n t x.items (all_of vs) g.0 (omega arith))))
+    ∙ (search (arith, with_hold-before, with_hold-behind)))
 all-with_hold n (suc i) t (x ∷ vs) v d e g inside more =
-    ap (λ (z : List Hold). x.items ++ z) (all-with_hold (n + 1) i t vs v d (omega arith) g.1 (omega arith) more)
-    ∙ sym (with_hold-behind n t x.items (all_of vs) g.0 (omega arith))
+    search (arith, with_hold-behind, all-with_hold (n + 1) i t vs v d (omega arith) g.1 (omega arith) more)
 
 -- what leaves the slot's list leaves the set
 pub all-drop_first : (p : Hold → Bool) (n i s : ℕ) (vs : List Group) (v d : Group) → s ≡ n + i → AreGrouped n vs
     → IsAbout s p → i < length vs → v.items ≡ drop_first p (get_or vs i d).items
     → all_of (set vs i v) ≡ drop_first p (all_of vs)
 all-drop_first p n i s [] v d e g about inside less = absurd (omega arith)
-all-drop_first p n zero s (x ∷ vs) v d e g about inside less = ap (λ (z : List Hold). z ++ all_of vs) less
-    ∙ cases (tally p x.items) refl
-  where
-    cases : (c : ℕ) → tally p x.items ≡ c → drop_first p x.items ++ all_of vs ≡ drop_first p (x.items ++ all_of vs)
-    cases zero f = ap (λ (z : List Hold). z ++ all_of vs) (drop-absent p x.items f)
-        ∙ (ap (λ (z : List Hold). x.items ++ z) (sym
-        (drop-absent p (all_of vs) (none-after p (n + 1) s vs about g.1 (omega arith))))
-        ∙ sym (drop-in-later p x.items (all_of vs) f))
-    cases (suc c) f = sym (drop-in-first p x.items (all_of vs) (omega arith))
+all-drop_first p n zero s (x ∷ vs) v d e g about inside less = search (arith, none-after, drop-absent, drop-in-first, drop-in-later)
 all-drop_first p n (suc i) s (x ∷ vs) v d e g about inside less =
     ap (λ (z : List Hold). x.items ++ z) (all-drop_first p (n + 1) i s vs v d (omega arith) g.1 about
     (omega arith) less)
@@ -153,76 +126,53 @@ AreEmpty-snoc (x ∷ vs) v h e = (h.0, AreEmpty-snoc vs v h.1 e)
 
 pub grouped-empty : (n : ℕ) (vs : List Group) → AreEmpty vs → AreGrouped n vs
 grouped-empty n [] h = tt
-grouped-empty n (v ∷ vs) h = (subst (AllAt n) (sym h.0) tt, grouped-empty (n + 1) vs h.1)
+grouped-empty n (v ∷ vs) h = search (arith, grouped-empty (n + 1) vs h.1)
 
 pub all-empty : (vs : List Group) → AreEmpty vs → all_of vs ≡ []
 all-empty [] h = refl
-all-empty (v ∷ vs) h = ap (λ (z : List Hold). z ++ all_of vs) h.0 ∙ all-empty vs h.1
+all-empty (v ∷ vs) h = search (arith, all-empty vs h.1)
 
 -- the set that the lists hold
 abbrev pub holding : List Group → Holding
 holding vs = record { slots = length vs; all = all_of vs }
 
 pub inside_of : (w : Holding) (s : ℕ) (vs : List Group) → holding vs ≡ w → s < w.slots → s < length vs
-inside_of w s vs is inside = let e : length vs ≡ w.slots = ap (λ (z : Holding). z.slots) is in omega arith
+inside_of w s vs is inside = search arith
 
-pub grouped-same : (s : ℕ) (vs : List Group) (v x : Group) → s < length vs → AreGrouped 0 vs → x ≡ get_or vs s x
+pub grouped_same : (s : ℕ) (vs : List Group) (v x : Group) → s < length vs → AreGrouped 0 vs → x ≡ get_or vs s x
     → v.items ≡ x.items → AreGrouped 0 (set vs s v)
-grouped-same s vs v x inside g at e = grouped-set 0 s s vs v (omega arith) g
-    (subst (AllAt s) (sym e) (subst (λ (z : Group). AllAt s z.items) (sym at)
-    (group-at 0 s s vs x (omega arith) g inside)))
+grouped_same s vs v x inside g at e = search (arith, group-at, grouped-set)
 
-pub grouped-more : (t : Hold) (vs : List Group) (v x : Group) → t.id.slot < length vs → AreGrouped 0 vs
+pub grouped_more : (t : Hold) (vs : List Group) (v x : Group) → t.id.slot < length vs → AreGrouped 0 vs
     → x ≡ get_or vs t.id.slot x → v.items ≡ x.items ++ t ∷ [] → AreGrouped 0 (set vs t.id.slot v)
-grouped-more t vs v x inside g at e = let s = t.id.slot in
-    grouped-set 0 s s vs v (omega arith) g (subst (AllAt s) (sym e)
-    (AllAt-snoc s x.items t (subst (λ (z : Group). AllAt s z.items) (sym at)
-    (group-at 0 s s vs x (omega arith) g inside)) refl))
+grouped_more t vs v x inside g at e = search (arith, group-at, grouped-set, AllAt-snoc)
 
-pub grouped-less : (p : Hold → Bool) (s : ℕ) (vs : List Group) (v x : Group) → s < length vs → AreGrouped 0 vs
+pub grouped_less : (p : Hold → Bool) (s : ℕ) (vs : List Group) (v x : Group) → s < length vs → AreGrouped 0 vs
     → x ≡ get_or vs s x → v.items ≡ drop_first p x.items → AreGrouped 0 (set vs s v)
-grouped-less p s vs v x inside g at e = grouped-set 0 s s vs v (omega arith) g
-    (subst (AllAt s) (sym e) (AllAt-drop_first s p x.items
-    (subst (λ (z : Group). AllAt s z.items) (sym at) (group-at 0 s s vs x (omega arith) g inside))))
+grouped_less p s vs v x inside g at e = search (arith, group-at, grouped-set, AllAt-drop_first)
 
-pub holding-same : (w : Holding) (s : ℕ) (vs : List Group) (v x : Group) → holding vs ≡ w → x ≡ get_or vs s x
+pub holding_same : (w : Holding) (s : ℕ) (vs : List Group) (v x : Group) → holding vs ≡ w → x ≡ get_or vs s x
     → v.items ≡ x.items → holding (set vs s v) ≡ w
-holding-same w s vs v x is at e = (λ k. record {
-  slots = length-set vs s v k;
-  all = all-same s vs v x (e ∙ ap (λ (z : Group). z.items) at) k;
-}) ∙ is
+holding_same w s vs v x is at e = grind (arith, at_place, all-same)
 
-pub holding-more : (w : Holding) (t : Hold) (vs : List Group) (v x : Group) → holding vs ≡ w → t.id.slot < length vs
+pub holding_more : (w : Holding) (t : Hold) (vs : List Group) (v x : Group) → holding vs ≡ w → t.id.slot < length vs
     → AreGrouped 0 vs → x ≡ get_or vs t.id.slot x → v.items ≡ x.items ++ t ∷ []
     → holding (set vs t.id.slot v) ≡ record { slots = w.slots; all = with_hold t w.all }
-holding-more w t vs v x is inside g at e = let s = t.id.slot in
-    let all : all_of (set vs s v) ≡ with_hold t (all_of vs) =
-    all-with_hold 0 s t vs v x (omega arith) g inside (e ∙ ap (λ (z : Group). z.items ++ t ∷ []) at) in
-    (λ k. record { slots = length-set vs s v k; all = all k })
-    ∙ ap (λ (z : Holding). let y : Holding = record { slots = z.slots; all = with_hold t z.all } in y) is
+holding_more w t vs v x is inside g at e = grind (arith, at_place, all-with_hold)
 
-pub holding-less : (w : Holding) (t : Hold) (vs : List Group) (v x : Group) → holding vs ≡ w → t.id.slot < length vs
+pub holding_less : (w : Holding) (t : Hold) (vs : List Group) (v x : Group) → holding vs ≡ w → t.id.slot < length vs
     → AreGrouped 0 vs → x ≡ get_or vs t.id.slot x → v.items ≡ drop_first (is_hold t) x.items
     → holding (set vs t.id.slot v) ≡ record { slots = w.slots; all = drop_first (is_hold t) w.all }
-holding-less w t vs v x is inside g at e = let s = t.id.slot in
-    let all : all_of (set vs s v) ≡ drop_first (is_hold t) (all_of vs) =
-    all-drop_first (is_hold t) 0 s s vs v x (omega arith) g (λ h y. grind (arith, common_steps)) inside (e
-    ∙ ap (λ (z : Group). drop_first (is_hold t) z.items) at) in
-    (λ k. record { slots = length-set vs s v k; all = all k })
-    ∙ ap (λ (z : Holding). let y : Holding = record { slots = z.slots; all = drop_first (is_hold t) z.all } in y) is
+holding_less w t vs v x is inside g at e = grind (arith, at_place, all-drop_first)
 
 pub copies-held : (w : Holding) (r : ℕ) (id : Id) (vs : List Group) (x : Group) → holding vs ≡ w → id.slot < length vs
     → AreGrouped 0 vs → x ≡ get_or vs id.slot x → count_by (is_copy r id) x.items ≡ tally (is_copy r id) w.all
-copies-held w r id vs x is inside g at = tally-count (is_copy r id) x.items
-    ∙ (ap (λ (z : Group). tally (is_copy r id) z.items) at
-    ∙ (sym (count-grouped (is_copy r id) 0 id.slot id.slot vs x (omega arith) g
-    (λ h y. grind (arith, common_steps)) inside) ∙ ap (λ (z : Holding). tally (is_copy r id) z.all) is))
+copies-held w r id vs x is inside g at = search (arith, count-grouped, tally-count)
 
-pub pins-held : (w : Holding) (s : ℕ) (vs : List Group) (x : Group) → holding vs ≡ w → s < length vs → AreGrouped 0 vs
+pub pins_held : (w : Holding) (s : ℕ) (vs : List Group) (x : Group) → holding vs ≡ w → s < length vs → AreGrouped 0 vs
     → x ≡ get_or vs s x → length x.items ≡ tally (is_at_slot s) w.all
-pins-held w s vs x is inside g at = ap (λ (z : Group). length z.items) at
-    ∙ (length-grouped s vs x g inside ∙ ap (λ (z : Holding). tally (is_at_slot s) z.all) is)
+pins_held w s vs x is inside g at = search (arith, length-grouped)
 
-pub holding-empty : (n : ℕ) (vs : List Group) → length vs ≡ n → AreEmpty vs
+pub holding_empty : (n : ℕ) (vs : List Group) → length vs ≡ n → AreEmpty vs
     → holding vs ≡ record { slots = n; all = [] }
-holding-empty n vs e h = λ k. record { slots = e k; all = all-empty vs h k }
+holding_empty n vs e h = search (arith, all-empty)

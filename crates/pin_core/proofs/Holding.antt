@@ -1,43 +1,22 @@
 -- A hold more or less keeps the world safe.
-use Rattle.std.proofs.Common.{◌-◌, ◌≡◌, ℕ, ◌+◌, ◌<◌, ◌≤◌, ◌==◌, ◌&&◌, nat_lt, nat_le, Bool, true, false, sym, refl, ap, ◌∙◌, subst, arith}
-use Rattle.std.proofs.lemmas.Bool.{eqb-true}
-use Rattle.std.proofs.lemmas.Grind.{common_steps}
+use Rattle.std.proofs.Common.{◌-◌, ◌≡◌, ℕ, ◌+◌, ◌<◌, ◌≤◌, ◌==◌, ◌&&◌, nat_lt, nat_le, Bool, true, false, refl, ap, arith}
 use Rattle.pin_core.specs.declared.word.Word.{Word}
 use Rattle.pin_core.specs.declared.id.Id.{Id}
 use Rattle.pin_core.specs.declared.word.Phase.TheVariants.{Live}
 use Rattle.pin_core.specs.declared.holders.Hold.{Hold}
 use Rattle.pin_core.specs.declared.event.Event.TheVariants.{Pin, Release}
-use Rattle.pin_core.specs.Holds.{tally, weight, same_id, is_at_slot, is_copy, is_hold, hold_of, with_hold, drop_first}
+use Rattle.pin_core.specs.Holds.{tally, weight, is_at_slot, is_copy, is_hold, hold_of, with_hold, drop_first}
 use Rattle.pin_core.specs.Worlds.{WorldState, at, id_at, pins, copies, times, last_copy, next_copy}
 use Rattle.pin_core.specs.Events.{after}
 use Rattle.pin_core.specs.Safety.{may_be_held, IsSafe}
 use Rattle.pin_core.proofs.Counts.{count-with_hold, count-drop-le, count-drop}
-use Rattle.pin_core.proofs.Moves.{same_of_test}
 
 abbrev IsHeld : WorldState → Id → Type 0
 IsHeld w id = (id.slot < w.shape.slots) × ((at w id.slot).generation ≡ id.generation)
     × (may_be_held (at w id.slot).phase ≡ true)
 
 same_of_copy : (r : ℕ) (id : Id) (t : Hold) → is_copy r id t ≡ true → (t.reader ≡ r) × (t.id ≡ id)
-same_of_copy r id t e = let a : t.reader ≡ r = grind (arith, common_steps) in
-    let b : same_id t.id id ≡ true = grind (arith, common_steps) in
-    let c = same_of_test t.id id b in (a, λ k. record { slot = c.0 k; generation = c.1 k })
-
-same_of_hold : (t x : Hold) → is_hold t x ≡ true → x ≡ t
-same_of_hold t x e = let a : is_copy t.reader t.id x ≡ true = grind (arith, common_steps) in
-    let b : x.copy ≡ t.copy = grind (arith, common_steps) in
-    let c = same_of_copy t.reader t.id x a in λ k. record { reader = c.0 k; id = c.1 k; copy = b k }
-
--- one number more, and one less
-one_more : (c k : ℕ) → weight (nat_lt 0 k && nat_le k c) + weight (c + 1 == k) ≡ weight (nat_lt 0 k && nat_le k (c + 1))
-one_more c k = grind (arith, common_steps)
-
-one_less : (c k m : ℕ) → 0 < c → m + weight (c == k) ≡ weight (nat_lt 0 k && nat_le k c)
-    → m ≡ weight (nat_lt 0 k && nat_le k (c - 1))
-one_less c k m h e = grind (arith, common_steps)
-
-there_once : (c : ℕ) → 0 < c → weight (nat_lt 0 c && nat_le c c) ≡ 1
-there_once c h = grind (arith, common_steps)
+same_of_copy r id t e = search arith
 
 pub pin-safe : (w : WorldState) (r s : ℕ) (e : Word) → IsSafe w → s < w.shape.slots → (at w s).phase ≡ Live
     → pins w s < w.shape.max_pins → IsSafe (after w (Pin r s e))
@@ -46,22 +25,15 @@ pin-safe w r s e safe inside live room = record {
   held = λ q id some. held_more q id (is_copy q id (next_copy w r s)) refl some;
   numbered = λ q id k. numbered_more q id k (is_copy q id (next_copy w r s)) refl;
   room = λ x. room_more x (s == x) refl;
-  slots = λ x h. let o = safe.slots x h in record {
-    bounded = o.bounded;
-    last = o.last;
-    shown = o.shown;
-    unshown = o.unshown;
-  };
+  slots = search arith;
   once = safe.once;
   below = safe.below;
 }
   where
     held_more : (q : ℕ) (id : Id) (b : Bool) → is_copy q id (next_copy w r s) ≡ b
         → 0 < tally (is_copy q id) (with_hold (next_copy w r s) w.holders) → IsHeld w id
-    held_more q id true e some = let x = same_of_copy q id (next_copy w r s) e in
-        subst (IsHeld w) x.1 (inside, refl, ap may_be_held live)
-    held_more q id false e some = let c = count-with_hold (is_copy q id) (next_copy w r s) w.holders in
-        let zero : weight (is_copy q id (next_copy w r s)) ≡ 0 = ap weight e in safe.held q id (omega arith)
+    held_more q id true e some = search arith
+    held_more q id false e some = search (arith, count-with_hold)
 
     numbered_more : (q : ℕ) (id : Id) (k : ℕ) (b : Bool) → is_copy q id (next_copy w r s) ≡ b
         → tally (is_hold (hold_of q id k)) (with_hold (next_copy w r s) w.holders)
@@ -72,49 +44,28 @@ pin-safe w r s e safe inside live room = record {
         let same : copies w r (id_at w s) ≡ copies w q id = (λ i. copies w (x.0 i) (x.1 i)) in
         let one : weight (is_copy q id (next_copy w r s)) ≡ 1 = ap weight e in
         let grown : tally (is_copy q id) (with_hold (next_copy w r s) w.holders) ≡ copies w q id + 1 = omega arith in
-        let here : weight (is_hold (hold_of q id k) (next_copy w r s)) ≡ weight (copies w q id + 1 == k) =
-        (λ i. weight (e i && (same i + 1 == k))) in
-        h ∙ ((λ i. safe.numbered q id k i + here i)
-        ∙ (one_more (copies w q id) k ∙ ap (λ (n : ℕ). weight (nat_lt 0 k && nat_le k n)) (sym grown)))
-    numbered_more q id k false e = let c = count-with_hold (is_copy q id) (next_copy w r s) w.holders in
-        let h = count-with_hold (is_hold (hold_of q id k)) (next_copy w r s) w.holders in
-        let zero : weight (is_copy q id (next_copy w r s)) ≡ 0 = ap weight e in
-        let none : weight (is_hold (hold_of q id k) (next_copy w r s)) ≡ 0 =
-        (λ i. weight (e i && (copies w r (id_at w s) + 1 == k))) in
-        let still : tally (is_copy q id) (with_hold (next_copy w r s) w.holders) ≡ copies w q id = omega arith in
-        let times_still : tally (is_hold (hold_of q id k)) (with_hold (next_copy w r s) w.holders)
-        ≡ times w (hold_of q id k) = omega arith in
-        times_still ∙ (safe.numbered q id k ∙ ap (λ (n : ℕ). weight (nat_lt 0 k && nat_le k n)) (sym still))
+        search arith
+    numbered_more q id k false e = search (arith, count-with_hold)
 
     room_more : (x : ℕ) (b : Bool) → (s == x) ≡ b →
         tally (is_at_slot x) (with_hold (next_copy w r s) w.holders) ≤ w.shape.max_pins
-    room_more x true e = let c = count-with_hold (is_at_slot x) (next_copy w r s) w.holders in
-        let one : weight (s == x) ≡ 1 = ap weight e in let same : s ≡ x = eqb-true s x e in
-        let lt : pins w x < w.shape.max_pins = subst (λ (z : ℕ). pins w z < w.shape.max_pins) same room in omega arith
-    room_more x false e = let c = count-with_hold (is_at_slot x) (next_copy w r s) w.holders in
-        let zero : weight (s == x) ≡ 0 = ap weight e in let o = safe.room x in omega arith
+    room_more x true e = search (arith, count-with_hold)
+    room_more x false e = search (arith, count-with_hold)
 
 -- a release takes one triple: a count falls where it counts it
 pub release-count : (w : WorldState) (r : ℕ) (id : Id) → IsSafe w → 0 < copies w r id → (p : Hold → Bool)
     → tally p (drop_first (is_hold (last_copy w r id)) w.holders) + weight (p (last_copy w r id)) ≡ tally p w.holders
 release-count w r id safe have p = count-drop p (is_hold (last_copy w r id)) (p (last_copy w r id)) w.holders
-    (λ x e. ap p (same_of_hold (last_copy w r id) x e))
-    (let e = safe.numbered r id (copies w r id) in let f = there_once (copies w r id) have in omega arith)
+    (search arith)
+    (search arith)
 
 pub release-safe : (w : WorldState) (r : ℕ) (id : Id) → IsSafe w → 0 < copies w r id → IsSafe (after w (Release r id))
 release-safe w r id safe have = record {
   wide = safe.wide;
-  held = λ q i some. let le = count-drop-le (is_copy q i) (is_hold (last_copy w r id)) w.holders in
-      safe.held q i (omega arith);
+  held = search (arith, count-drop-le);
   numbered = λ q i k. numbered_less q i k (is_copy q i (last_copy w r id)) refl;
-  room = λ x. let le = count-drop-le (is_at_slot x) (is_hold (last_copy w r id)) w.holders in let o = safe.room x in
-      omega arith;
-  slots = λ x h. let o = safe.slots x h in record {
-    bounded = o.bounded;
-    last = o.last;
-    shown = o.shown;
-    unshown = o.unshown;
-  };
+  room = search (arith, count-drop-le);
+  slots = search arith;
   once = safe.once;
   below = safe.below;
 }
@@ -132,16 +83,14 @@ release-safe w r id safe have = record {
         let fewer : copies w q i - 1 ≡ tally (is_copy q i) (drop_first (is_hold (last_copy w r id)) w.holders) =
         omega arith in
         let some_left : 0 < copies w q i = omega arith in
-        one_less (copies w q i) k _ some_left (ap (λ (n : ℕ). tally (is_hold (hold_of q i k))
-        (drop_first (is_hold (last_copy w r id)) w.holders) + n) (sym here) ∙ (h ∙ safe.numbered q i k))
-        ∙ ap (λ (n : ℕ). weight (nat_lt 0 k && nat_le k n)) fewer
+        search arith
     numbered_less q i k false e = let c = release-count w r id safe have (is_copy q i) in
         let h = release-count w r id safe have (is_hold (hold_of q i k)) in
         let zero : weight (is_copy q i (last_copy w r id)) ≡ 0 = ap weight e in
-        let none : weight (is_hold (hold_of q i k) (last_copy w r id)) ≡ 0 = (λ j. weight (e j && (copies w r id == k)))
+        let none : weight (is_hold (hold_of q i k) (last_copy w r id)) ≡ 0 = search arith
         in
         let still : tally (is_copy q i) (drop_first (is_hold (last_copy w r id)) w.holders) ≡ copies w q i =
         omega arith in
         let times_still : tally (is_hold (hold_of q i k)) (drop_first (is_hold (last_copy w r id)) w.holders)
         ≡ times w (hold_of q i k) = omega arith in
-        times_still ∙ (safe.numbered q i k ∙ ap (λ (n : ℕ). weight (nat_lt 0 k && nat_le k n)) (sym still))
+        search arith

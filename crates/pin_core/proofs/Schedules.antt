@@ -1,26 +1,25 @@
 -- Each event that is possible keeps the world safe.
-use Rattle.std.proofs.Common.{◌-◌, take, slice_get, ◌≡◌, ℕ, ◌+◌, ◌<◌, ◌≤◌, ◌&&◌, nat_lt, nat_le, Bool, true, false, List, [], ◌∷◌, ◌++◌, length, get_or, replicate, zero, suc, Option, Some, None, sym, refl, ap, ◌∙◌, subst, arith}
-use Rattle.std.proofs.lemmas.Bool.{eq-eqb, eqb-true, lt-ltb, ltb-true}
+use Rattle.std.proofs.lemmas.Bool.Decides.{nat_tests}
+use Rattle.ob_codec.proofs.AtPlace.{at_place}
+use Rattle.std.proofs.Common.{◌-◌, take, slice_get, ◌≡◌, ℕ, ◌+◌, ◌<◌, ◌≤◌, ◌&&◌, nat_lt, nat_le, false, List, [], ◌∷◌, ◌++◌, length, get_or, replicate, zero, suc, Some, None, refl, arith}
+use Rattle.std.proofs.lemmas.Bool.{eqb-true, ltb-true}
 use Rattle.std.proofs.lemmas.Option.{slice_get-get_or}
 use Rattle.std.proofs.lemmas.Grind.{common_steps}
 use Rattle.std.proofs.lemmas.List.{length-replicate, take_more}
-use Rattle.pin_core.specs.declared.word.Word.{Word}
 use Rattle.pin_core.specs.declared.id.Id.{Id}
 use Rattle.pin_core.specs.declared.descr.Descr.{Descr}
-use Rattle.pin_core.specs.declared.word.Phase.{Phase}
 use Rattle.pin_core.specs.declared.word.Phase.TheVariants.{Free, Live, Closing}
 use Rattle.pin_core.specs.declared.shape.Shape.{Shape}
 use Rattle.pin_core.specs.declared.holders.Hold.{Hold}
 use Rattle.pin_core.specs.declared.event.Event.{Event}
 use Rattle.pin_core.specs.declared.event.Event.TheVariants.{Load, Pin, Release, ReadDescr, StoreDescr, Publish, CloseSlot, Reclaim}
 use Rattle.pin_core.specs.declared.event.Reason.{Reason}
-use Rattle.pin_core.specs.Descrs.{same_descr}
-use Rattle.pin_core.specs.Holds.{tally, weight, is_at_slot, is_copy, is_hold}
+use Rattle.pin_core.specs.Holds.{tally, weight, is_at_slot, is_copy}
 use Rattle.pin_core.specs.Worlds.{WorldState, opening_slot, opening_of, at, pins, copies, times, word_at, given_as}
-use Rattle.pin_core.specs.Events.{is_phase, same_word, check, refusal, after, after_all, IsSchedule, IsFirstRefused}
+use Rattle.pin_core.specs.Events.{refusal, after, after_all, IsSchedule, IsFirstRefused}
 use Rattle.pin_core.specs.Safety.{may_be_held, IsSafe, age, reached, AreEvents, StaysGiven}
 use Rattle.pin_core.proofs.Counts.{count-le}
-use Rattle.pin_core.proofs.Moves.{passed, phase_of_test, same_of_descr, copies-le-pins, store-safe, close-safe, reclaim-safe, publish-safe}
+use Rattle.pin_core.proofs.Moves.{passed, phase_of_test, copies-le-pins, reclaim-safe, publish-safe}
 use Rattle.pin_core.proofs.Holding.{pin-safe, release-safe}
 
 pub safe_kept : (w : WorldState) (e : Event) → IsSafe w → refusal w e ≡ None → IsSafe (after w e)
@@ -32,12 +31,9 @@ safe_kept w (Pin r s e) safe can = let a = passed _ _ _ can in let b = passed _ 
 safe_kept w (Release r id) safe can = let a = passed _ _ _ can in let b = passed _ _ _ a.1 in
     release-safe w r id safe (ltb-true 0 (copies w r id) b.0)
 safe_kept w (ReadDescr r id d) safe can = safe
-safe_kept w (StoreDescr s d) safe can = let a = passed _ _ _ can in let b = passed _ _ _ a.1 in
-    store-safe w s d safe (ltb-true s w.shape.slots a.0) (phase_of_test (at w s).phase Free b.0)
-safe_kept w (Publish s) safe can = let a = passed _ _ _ can in let b = passed _ _ _ a.1 in
-    publish-safe w s safe (ltb-true s w.shape.slots a.0) (phase_of_test (at w s).phase Free b.0)
-safe_kept w (CloseSlot s) safe can = let a = passed _ _ _ can in let b = passed _ _ _ a.1 in
-    close-safe w s safe (ltb-true s w.shape.slots a.0) (phase_of_test (at w s).phase Live b.0)
+safe_kept w (StoreDescr s d) safe can = grind (arith, at_place)
+safe_kept w (Publish s) safe can = grind (arith, at_place, publish-safe)
+safe_kept w (CloseSlot s) safe can = grind (arith, at_place)
 safe_kept w (Reclaim s) safe can = let a = passed _ _ _ can in let b = passed _ _ _ a.1 in let c = passed _ _ _ b.1 in
     reclaim-safe w s safe (ltb-true s w.shape.slots a.0) (phase_of_test (at w s).phase Closing b.0)
     (eqb-true (pins w s) 0 c.0) (nat_lt (at w s).generation w.shape.max_gen) refl
@@ -52,127 +48,72 @@ opening_at (suc n) zero = refl
 opening_at (suc n) (suc s) = opening_at n s
 
 pub none_numbered : (k : ℕ) → 0 ≡ weight (nat_lt 0 k && nat_le k 0)
-none_numbered k = grind (arith, common_steps)
+none_numbered k = grind arith
 
 pub opening-safe : (k : Shape) → 1 ≤ k.max_gen → IsSafe (opening_of k)
-opening-safe k h = record {
-  wide = length-replicate k.slots opening_slot;
-  held = λ r id some. absurd (omega arith);
-  numbered = λ r id k. none_numbered k;
-  room = λ s. omega arith;
-  slots = λ s inside. let f = opening_at k.slots s in
-      record { bounded = rw f h; last = rw f (λ e. cc); shown = rw f (λ e. cc); unshown = λ _. refl };
-  once = λ id. omega arith;
-  below = λ id some. absurd (omega arith);
-}
+opening-safe k h = search (arith, opening_at, length-replicate)
 
 pub reached-safe : (k : Shape) (es : List Event) → AreEvents k es → IsSafe (reached k es)
-reached-safe k es h = all_kept (opening_of k) es (opening-safe k h.0) h.1
+reached-safe k es h = search (arith, all_kept, opening-safe)
 
 pub reclaim_needs : (w : WorldState) (s : ℕ) → refusal w (Reclaim s) ≡ None
     → (s < w.shape.slots) × ((at w s).phase ≡ Closing) × (pins w s ≡ 0)
-reclaim_needs w s can = let a = passed _ _ _ can in let b = passed _ _ _ a.1 in let c = passed _ _ _ b.1 in
-    (ltb-true s w.shape.slots a.0, phase_of_test (at w s).phase Closing b.0, eqb-true (pins w s) 0 c.0)
+reclaim_needs w s can = search arith
 
 pub times-le-copies : (w : WorldState) (t : Hold) → times w t ≤ copies w t.reader t.id
-times-le-copies w t = count-le (is_hold t) (is_copy t.reader t.id) w.holders (λ h e. grind (arith, common_steps))
+times-le-copies w t = search (arith, count-le)
 
 pub kept_while_held : (w : WorldState) → IsSafe w → (t : Hold) → 0 < times w t → StaysGiven w t.id.slot
-kept_while_held w safe t some = let le = times-le-copies w t in let h = safe.held t.reader t.id (omega arith) in (
-  (λ d can. let a = passed _ _ _ can in let b = passed _ _ _ a.1 in
-      not_free _ (phase_of_test (at w t.id.slot).phase Free b.0) h.2),
-  (λ can. let a = passed _ _ _ can in let b = passed _ _ _ a.1 in
-      not_free _ (phase_of_test (at w t.id.slot).phase Free b.0) h.2),
-  (λ can. let z : pins w t.id.slot ≡ 0 = (reclaim_needs w t.id.slot can).2 in
-      let more = copies-le-pins w t.reader t.id in omega arith),
-)
-  where
-    not_free : (p : Phase) → p ≡ Free → may_be_held p ≡ true → ⊥
-    not_free p f on = let off : may_be_held p ≡ false = ap may_be_held f in cc
-
-is_own_copy : (x : Hold) → is_copy x.reader x.id x ≡ true
-is_own_copy x = grind (arith, common_steps)
+kept_while_held w safe t some = search (arith, times-le-copies, copies-le-pins)
 
 -- what counts at a slot is some reader's copy
 pub some_hold : (s : ℕ) (hs : List Hold) → 0 < tally (is_at_slot s) hs
     → (h : Hold) × (h.id.slot ≡ s) × (0 < tally (is_copy h.reader h.id) hs)
 some_hold s [] some = absurd (omega arith)
-some_hold s (x ∷ xs) some = here (is_at_slot s x) refl some (some_hold s xs)
-  where
-    here : (b : Bool) → is_at_slot s x ≡ b → 0 < weight b + tally (is_at_slot s) xs
-        → (0 < tally (is_at_slot s) xs → (h : Hold) × (h.id.slot ≡ s) × (0 < tally (is_copy h.reader h.id) xs))
-        → (h : Hold) × (h.id.slot ≡ s) × (0 < tally (is_copy h.reader h.id) (x ∷ xs))
-    here true e some ih = (
-      x,
-      eqb-true x.id.slot s e,
-      let one : weight (is_copy x.reader x.id x) ≡ 1 =
-          ap weight (is_own_copy x) in omega arith,
-    )
-    here false e some ih = let t = ih (omega arith) in (t.0, t.1, let u = t.2 in omega arith)
+some_hold s (x ∷ xs) some = search (arith, some_hold s xs)
 
 pub nobody_at : (w : WorldState) → IsSafe w → (s : ℕ) → s < w.shape.slots → may_be_held (at w s).phase ≡ false
     → pins w s ≡ 0
-nobody_at w safe s inside off = let no : ¬ (0 < pins w s) = λ some. let t = some_hold s w.holders some in
-    let h = safe.held t.0.reader t.0.id t.2 in
-    let on : may_be_held (at w s).phase ≡ true = subst (λ (z : ℕ). may_be_held (at w z).phase ≡ true) t.1 h.2 in cc in
-    omega arith
+nobody_at w safe s inside off = search (arith, some_hold)
 
 pub publish_alone : (w : WorldState) → IsSafe w → (s : ℕ) → refusal w (Publish s) ≡ None → pins w s ≡ 0
-publish_alone w safe s can = let a = passed _ _ _ can in let b = passed _ _ _ a.1 in
-    nobody_at w safe s (ltb-true s w.shape.slots a.0) (ap may_be_held (phase_of_test (at w s).phase Free b.0))
+publish_alone w safe s can = search (arith, nobody_at)
 
 pub read_shown : (w : WorldState) → IsSafe w → (r : ℕ) (id : Id) (d : Descr) → refusal w (ReadDescr r id d) ≡ None
     → given_as w id d ≡ 1
-read_shown w safe r id d can = let a = passed _ _ _ can in let b = passed _ _ _ a.1 in let c = passed _ _ _ b.1 in
-    let h = safe.held r id (ltb-true 0 (copies w r id) b.0) in let one = (safe.slots id.slot h.0).shown h.2 in
-    subst (λ (z : ℕ × Descr). given_as w record { slot = id.slot; generation = z.0 } z.1 ≡ 1)
-    (λ k. (h.1 k, same_of_descr (at w id.slot).descr d c.0 k)) one
+read_shown w safe r id d can = grind (arith, nat_tests)
 
 pub onward : (w : WorldState) (e : Event) (s : ℕ) → refusal w e ≡ None → age (at w s) ≤ age (at (after w e) s)
 onward w e s can = grind (arith, common_steps)
 
-may : (b : Bool) (r : Reason) (next : Option Reason) → b ≡ true → next ≡ None → check b r next ≡ None
-may true r next e n = n
-may false r next e n = cc
-
-word_is_itself : (x : Word) → same_word x x ≡ true
-word_is_itself x = grind (arith, common_steps)
-
 pub may_pin : (w : WorldState) (r s : ℕ) → s < w.shape.slots → (at w s).phase ≡ Live → pins w s < w.shape.max_pins
     → refusal w (Pin r s (word_at w s)) ≡ None
-may_pin w r s a b c = may _ _ _ (lt-ltb s w.shape.slots a)
-    (may _ _ _ (word_is_itself (word_at w s)) (may _ _ _ (ap (λ (p : Phase). is_phase p Live) b)
-    (may _ _ _ (lt-ltb (pins w s) w.shape.max_pins c) refl)))
-
-descr_is_itself : (d : Descr) → same_descr d d ≡ true
-descr_is_itself d = grind (arith, common_steps)
+may_pin w r s a b c = search arith
 
 pub may_load : (w : WorldState) (r s : ℕ) → s < w.shape.slots → refusal w (Load r s) ≡ None
-may_load w r s a = may _ _ _ (lt-ltb s w.shape.slots a) refl
+may_load w r s a = search arith
 
 pub may_read : (w : WorldState) (r : ℕ) (id : Id) → id.slot < w.shape.slots → 0 < copies w r id
     → refusal w (ReadDescr r id (at w id.slot).descr) ≡ None
-may_read w r id a b = may _ _ _ (lt-ltb id.slot w.shape.slots a)
-    (may _ _ _ (lt-ltb 0 (copies w r id) b) (may _ _ _ (descr_is_itself (at w id.slot).descr) refl))
+may_read w r id a b = search arith
 
 pub may_release : (w : WorldState) (r : ℕ) (id : Id) → id.slot < w.shape.slots → 0 < copies w r id
     → refusal w (Release r id) ≡ None
-may_release w r id a b = may _ _ _ (lt-ltb id.slot w.shape.slots a) (may _ _ _ (lt-ltb 0 (copies w r id) b) refl)
+may_release w r id a b = search arith
 
 pub may_publish : (w : WorldState) (s : ℕ) → s < w.shape.slots → (at w s).phase ≡ Free → refusal w (Publish s) ≡ None
-may_publish w s a b = may _ _ _ (lt-ltb s w.shape.slots a) (may _ _ _ (ap (λ (p : Phase). is_phase p Free) b) refl)
+may_publish w s a b = search arith
 
 pub may_close : (w : WorldState) (s : ℕ) → s < w.shape.slots → (at w s).phase ≡ Live → refusal w (CloseSlot s) ≡ None
-may_close w s a b = may _ _ _ (lt-ltb s w.shape.slots a) (may _ _ _ (ap (λ (p : Phase). is_phase p Live) b) refl)
+may_close w s a b = search arith
 
 pub may_reclaim : (w : WorldState) (s : ℕ) → s < w.shape.slots → (at w s).phase ≡ Closing → pins w s ≡ 0
     → refusal w (Reclaim s) ≡ None
-may_reclaim w s a b c = may _ _ _ (lt-ltb s w.shape.slots a)
-    (may _ _ _ (ap (λ (p : Phase). is_phase p Closing) b) (may _ _ _ (eq-eqb (pins w s) 0 c) refl))
+may_reclaim w s a b c = search arith
 
 pub may_store : (w : WorldState) (s : ℕ) (d : Descr) → s < w.shape.slots → (at w s).phase ≡ Free
     → refusal w (StoreDescr s d) ≡ None
-may_store w s d a b = may _ _ _ (lt-ltb s w.shape.slots a) (may _ _ _ (ap (λ (p : Phase). is_phase p Free) b) refl)
+may_store w s d a b = search arith
 
 pub schedule-snoc : (w : WorldState) (es : List Event) (e : Event) → IsSchedule w es → refusal (after_all w es) e ≡ None
     → IsSchedule w (es ++ e ∷ [])
@@ -190,28 +131,16 @@ pub one-more : (w v v' : WorldState) (es : List Event) (i : ℕ) (d : Event) →
     → v' ≡ after v (get_or es i d)
     → IsSchedule w (take (i + 1) es) × (v' ≡ after_all w (take (i + 1) es))
 one-more w v v' es i d inside h can now = let e = get_or es i d in let more : take (i + 1) es ≡ take i es ++ e ∷ [] =
-    take_more es i d inside in (
-      subst (IsSchedule w) (sym more) (schedule-snoc w (take i es) e h.0
-          (subst (λ (z : WorldState). refusal z e ≡ None) h.1 can)),
-      now ∙ (ap (λ (z : WorldState). after z e) h.1
-          ∙ (sym (after_all-snoc w (take i es) e) ∙ ap (after_all w) (sym more))),
-    )
+    take_more es i d inside in search (arith, schedule-snoc, after_all-snoc)
 
 pub first-refused : (w v : WorldState) (es : List Event) (i : ℕ) (d : Event) (r : Reason) → i < length es
     → IsSchedule w (take i es) × (v ≡ after_all w (take i es)) → refusal v (get_or es i d) ≡ Some r
     → IsFirstRefused w es (i + 1) r
-first-refused w v es i d r inside h no-way = let back : i ≡ i + 1 - 1 = omega arith in (
-  get_or es i d,
-  omega arith,
-  subst (λ (z : ℕ). IsSchedule w (take z es)) back h.0,
-  subst (λ (z : ℕ). slice_get es z ≡ Some (get_or es i d)) back (slice_get-get_or es i d inside),
-  subst (λ (z : ℕ). refusal (after_all w (take z es)) (get_or es i d) ≡ Some r) back
-      (subst (λ (z : WorldState). refusal z (get_or es i d) ≡ Some r) h.1 no-way),
-)
+first-refused w v es i d r inside h no-way = let back : i ≡ i + 1 - 1 = omega arith in search (arith, slice_get-get_or)
 
 pub as-refused : (w : WorldState) (es : List Event) (a n : ℕ) (p r : Reason) → a ≡ n → p ≡ r → IsFirstRefused w es a p
     → IsFirstRefused w es n r
-as-refused w es a n p r e f h = subst (λ (z : ℕ × Reason). IsFirstRefused w es z.0 z.1) (λ k. (e k, f k)) h
+as-refused w es a n p r e f h = search arith
 
 -- the event at place i is the first that isn't possible
 abbrev Stops : WorldState → List Event → ℕ → Reason → Type 0
@@ -221,15 +150,14 @@ Stops w es i r = (e : Event) × IsSchedule w (take i es) × (slice_get es i ≡ 
 stops-once : (w : WorldState) (es : List Event) (i j : ℕ) (r q : Reason) → Stops w es i r → Stops w es j q
     → (i ≡ j) × (r ≡ q)
 stops-once w [] i j r q a b = let e = a.2 in cc
-stops-once w (x ∷ xs) zero zero r q a b = let e = a.2 in let e' = a.3 in let f = b.2 in let f' = b.3 in (refl, cc)
-stops-once w (x ∷ xs) zero (suc j) r q a b = let e = a.2 in let e' = a.3 in let f = b.1.0 in cc
-stops-once w (x ∷ xs) (suc i) zero r q a b = let e = b.2 in let e' = b.3 in let f = a.1.0 in cc
-stops-once w (x ∷ xs) (suc i) (suc j) r q a b = let ih =
-    stops-once (after w x) xs i j r q (a.0, a.1.1, a.2, a.3) (b.0, b.1.1, b.2, b.3) in (ap suc ih.0, ih.1)
+stops-once w (x ∷ xs) zero zero r q a b = search arith
+stops-once w (x ∷ xs) zero (suc j) r q a b = search arith
+stops-once w (x ∷ xs) (suc i) zero r q a b = search arith
+stops-once w (x ∷ xs) (suc i) (suc j) r q a b = search (arith, stops-once (after w x) xs i j r q (a.0, a.1.1, a.2, a.3) (b.0, b.1.1, b.2, b.3))
 
 never-stops : (w : WorldState) (es : List Event) (i : ℕ) (r : Reason) → IsSchedule w es → Stops w es i r → ⊥
 never-stops w [] i r h a = let e = a.2 in cc
-never-stops w (x ∷ xs) zero r h a = let e = a.2 in let e' = a.3 in let f = h.0 in cc
+never-stops w (x ∷ xs) zero r h a = search arith
 never-stops w (x ∷ xs) (suc i) r h a = never-stops (after w x) xs i r h.1 (a.0, a.1.1, a.2, a.3)
 
 pub refused-once : (w : WorldState) (es : List Event) (n m : ℕ) (r q : Reason) → IsFirstRefused w es n r

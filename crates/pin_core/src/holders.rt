@@ -38,6 +38,7 @@ impl Holders {
     ghost use Rattle.std.specs.Prelude.{◌≡◌, ◌<◌, [], IfOk, OnOk, OnErr};
     ghost use Rattle.pin_core.specs.Holds.{tally, is_at_slot, is_copy, with_one, without};
 
+    #[tactic(auto, using(crate::proofs::Groups::holding_empty))]
     pub(crate) fn new(alloc: Global, slots: u32) -> Result<Holders, AllocError>
         ensures { IfOk result (λ h. h ≡ record { slots = slots; all = [] }) }
     {
@@ -48,6 +49,7 @@ impl Holders {
         Ok(Holders { by_slot })
     }
 
+    #[tactic(auto, using(crate::proofs::Groups::pins_held))]
     pub(crate) fn pins(&self, slot: u32) -> usize
         requires { slot < self.now.slots }
         ensures { result ≡ tally (is_at_slot slot) self.now.all }
@@ -62,6 +64,7 @@ impl Holders {
         copies_in(self.by_slot[id.slot as usize].as_slice(), reader, id)
     }
 
+    #[tactic(auto, using(crate::proofs::Groups::grouped_same, crate::proofs::Groups::holding_same, crate::proofs::Groups::grouped_more, crate::proofs::Groups::holding_more))]
     pub(crate) fn add(&mut self, hold: Hold) -> Result<(), AllocError>
         requires { hold.id.slot < self.old.slots }
         ensures ok { OnOk result (self.new ≡ with_one self.old hold) }
@@ -72,6 +75,7 @@ impl Holders {
         Ok(())
     }
 
+    #[tactic(auto, using(crate::proofs::Groups::grouped_less, crate::proofs::Groups::holding_less))]
     pub(crate) fn remove(&mut self, hold: Hold)
         requires { hold.id.slot < self.old.slots }
         ensures { self.new ≡ without self.old hold }
@@ -97,6 +101,7 @@ fn place_of(holds: &[Hold], hold: Hold) -> Option<usize>
         && h.copy == hold.copy)
 }
 
+#[tactic(auto, using(crate::proofs::Counts::found_some))]
 fn forget(holds: &mut Vec<Hold>, hold: Hold)
     ensures { holds.new.items ≡ drop_first (is_hold hold) holds.old.items }
 {

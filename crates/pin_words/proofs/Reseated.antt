@@ -211,11 +211,11 @@ pub blanks : (k : Shape) (id : ℕ) (me : View) → Splits (Shown k) id me me sp
 blanks k id me s a4 seated = search (arith, blanks-shown)
 
 -- two seats in one
-pub joins-shown : (k : Shape) (s : Table) (W : WorldState) (sh : IsShown k s W) (id other : ℕ) (kv : KeeperView)
+pub joins_shown : (k : Shape) (s : Table) (W : WorldState) (sh : IsShown k s W) (id other : ℕ) (kv : KeeperView)
     (rv : ReaderView) → get_elem? s.views id ≡ some (view (Some kv) None) → other ≢ id
     → get_elem? (set s.views id (view (Some kv) (Some rv))) other ≡ some (view None (Some rv))
     → IsShown k (with_views s (set (set s.views id (view (Some kv) (Some rv))) other spent)) W
-joins-shown k s W sh id other kv rv seated apart seated' =
+joins_shown k s W sh id other kv rv seated apart seated' =
     let a = sh.each id (view (Some kv) None) seated in
     let b = sh.each other (view None (Some rv)) (sym (set_else s.views id other (view (Some kv) (Some rv)) apart)
     ∙ seated') in
@@ -277,7 +277,7 @@ joins-shown k s W sh id other kv rv seated apart seated' =
 
 pub joins : (k : Shape) (id other : ℕ) (kv : KeeperView) (rv : ReaderView)
     → Joins (Shown k) id (view (Some kv) None) other (view None (Some rv)) (view (Some kv) (Some rv)) spent
-joins k id other kv rv s a6 seated apart seated' = search (arith, joins-shown)
+joins k id other kv rv s a6 seated apart seated' = search (arith, joins_shown)
 
 -- a joined seat in two
 pub parts-shown : (k : Shape) (s : Table) (W : WorldState) (sh : IsShown k s W) (id : ℕ) (kv : KeeperView)

@@ -10,6 +10,7 @@ ghost use Rattle.pin_words.specs.Laws.{LostSeesNoEarlier, StaleStays};
 /// seats leaves it as it is. A copy that a reader's view has is one hold of the world, and keeps its slot from being
 /// stored to, published and reclaimed. A note is the descriptor that was published with its Id. A lost exchange shows a
 /// word that is no earlier than the first look's. An Id that a reader found stale stays stale.
+#[tactic(auto, using(crate::proofs::Reseated::joins_shown))]
 pub fn law_of_atomic_steps()
     ensures one_world { ShowsOneWorld }
     ensures safe { ShowsSafeWorld }

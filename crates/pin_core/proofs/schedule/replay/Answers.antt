@@ -1,4 +1,5 @@
-use Rattle.std.proofs.Common.{rules, ◌≡◌, ◌+◌, Err, sym, subst, ◌∙◌}
+use Rattle.std.proofs.Common.{rules, ◌≡◌, ◌+◌, Err, sym, ◌∙◌}
+use Rattle.std.proofs.Common.{arith}
 use Rattle.std.proofs.lemmas.List.{take_all}
 use Rattle.pin_core.specs.declared.event.Event.TheVariants.{Load}
 use Rattle.pin_core.specs.declared.event.ReplayFault.TheVariants.{Refused}
@@ -23,11 +24,9 @@ returns-in-Some-clause-refused c _ n r =
 
 pub returns-clause-refused : goal.returns-clause-refused
 returns-clause-refused c _ n r = let whole : IsSchedule (opening_of c.args.shape) c.args.events.now =
-    subst (IsSchedule (opening_of c.args.shape)) (take_all c.loop-i.i c.args.events.now c.loop-i-test.false)
-    c.loop-i.invariant.0 in
+    search (arith, take_all) in
     ((λ e. cc), (λ f. absurd (never-refused _ _ _ _ whole f)))
 
 pub loop-i-preserved : goal.loop-i-preserved
 loop-i-preserved c = one-more (opening_of c.args.shape) c.loop-i.world c.enact.new.self c.args.events.now c.loop-i.i
-    (Load 0 0) (search rules) c.loop-i.invariant (sym c.refusal.ensures
-    ∙ c.in_default-refusal.is) c.in-Ok-enact.ensures.ok
+    (Load 0 0) (search rules) c.loop-i.invariant (search arith) c.in-Ok-enact.ensures.ok

@@ -1,6 +1,5 @@
 use Rattle.pin_words.proofs.LawOfSteps.{one-world, law-load, law-pin, law-release, law-read, law-publish, law-close, law-reclaim, law-reclaim-failed, law-store, law-held, law-noted, law-gives}
-use Rattle.std.proofs.Common.{arith}
-use Rattle.pin_words.proofs.Reseated.{blanks-shown, joins-shown, parts-shown}
+use Rattle.pin_words.proofs.Reseated.{blanks-shown, parts-shown}
 use Rattle.pin_words.proofs.Calls.{lost-onward, stale-answers}
 use Rattle.pin_words.proofs.law.law_of_atomic_steps.Goals as goal
 
@@ -9,9 +8,6 @@ returns-clause-safe c k s w sh = sh.safe
 
 pub returns-clause-gives_blank : goal.returns-clause-gives_blank
 returns-clause-gives_blank c k s w j v sh seated = blanks-shown k s w sh j v seated
-
-pub returns-clause-joins : goal.returns-clause-joins
-returns-clause-joins c k s w i j kv r sh seated apart other = search (arith, joins-shown)
 
 pub returns-clause-parts : goal.returns-clause-parts
 returns-clause-parts c k s w j kv r sh seated = parts-shown k s w sh j kv r seated

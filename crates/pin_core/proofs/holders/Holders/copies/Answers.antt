@@ -1,10 +1,11 @@
 use Rattle.std.proofs.Common.{◌∙◌, ap}
+use Rattle.std.proofs.Common.{arith}
 use Rattle.std.specs.List.{count_by}
 use Rattle.pin_core.specs.Holds.{is_copy}
-use Rattle.pin_core.proofs.Groups.{inside_of, copies-held}
+use Rattle.pin_core.proofs.Groups.{copies-held}
 use Rattle.pin_core.proofs.holders.Holders.copies.Goals as goal
 
 pub returns : goal.returns
 returns c = c.copies_in.ensures ∙ (ap (count_by (is_copy c.args.reader c.args.id)) c.as_slice.ensures.value
     ∙ copies-held c.args.self.now c.args.reader c.args.id _ c.index.result.now c.self.view_is
-    (inside_of _ _ _ c.self.view_is c.requires) c.self.invariant c.index.ensures)
+    (search arith) c.self.invariant c.index.ensures)
