@@ -1,8 +1,7 @@
 -- What a change of one word does to the level above, where no bit is set, and which set of numbers the leaves show.
 use Rattle.std.proofs.lemmas.Grind.{elements}
-use Rattle.std.proofs.Common.{◌≡◌, ◌≢◌, ℕ, zero, suc, ◌+◌, ◌*◌, ◌/◌, ◌<◌, ◌≤◌, List, [], ◌∷◌, ◌++◌, replicate, length, min, slice_index, arith, sym, refl, ◌∙◌, ap, ⊎_elim, get_or, set, Bool, true, false}
+use Rattle.std.proofs.Common.{◌≡◌, ◌≢◌, ℕ, zero, suc, ◌+◌, ◌*◌, ◌/◌, ◌<◌, ◌≤◌, List, [], ◌∷◌, ◌++◌, replicate, length, min, slice_index, arith, sym, refl, ◌∙◌, ap, get_or, set, Bool, true, false}
 use Rattle.std.specs.Prelude.{not, ◌==◌, slice_get, Some}
-use Rattle.std.proofs.lemmas.Bool.{cases_eq}
 use Rattle.std.proofs.lemmas.List.{get_or_past, length-set, length-replicate, get_or-replicate, ext_get_or, get_or-set_same, get_or-set_other}
 use Rattle.std.proofs.lemmas.List.FromFn.{get_or-map-range_with_len, length-map-range_with_len, map-range_with_len_more}
 use Rattle.std.proofs.lemmas.List.Sums.{position_or_len_is}
@@ -38,8 +37,8 @@ pub all_empty : (bits : ℕ → ℕ) (lo : List ℕ) → SumsUp bits lo → ((j 
 all_empty bits lo sums above k = grind arith
 
 -- how many numbers the leaves speak of
-pub length-taken_in : (ws : List ℕ) (n : ℕ) → length (taken_in ws n) ≡ n
-length-taken_in ws n = search (arith, length-map-range_with_len)
+pub length_taken_in : (ws : List ℕ) (n : ℕ) → length (taken_in ws n) ≡ n
+length_taken_in ws n = search (arith, length-map-range_with_len)
 
 -- a number is taken where its bit is clear
 pub get_or-taken_in : (ws : List ℕ) (n k : ℕ) (d : Bool) → k < n → get_or (taken_in ws n) k d ≡ (bit ws k == 0)
@@ -47,25 +46,15 @@ get_or-taken_in ws n k d lt = search (arith, get_or-map-range_with_len)
 
 -- the same bits below n show the same set
 pub taken_same : (ws ws' : List ℕ) (n : ℕ) → ((k : ℕ) → k < n → bit ws' k ≡ bit ws k) → taken_in ws' n ≡ taken_in ws n
-taken_same ws ws' n same = ext_get_or true (taken_in ws' n) (taken_in ws n) (length-taken_in ws' n
-    ∙ sym (length-taken_in ws n))
-    (λ k lt. let in' : k < n = simp length-taken_in at lt in
-    get_or-taken_in ws' n k true in' ∙ ap {B = Bool} (λ (x : ℕ). x == 0) (same k in')
-    ∙ sym (get_or-taken_in ws n k true in'))
+taken_same ws ws' n same = ext_get_or true (taken_in ws' n) (taken_in ws n) (search (arith, length_taken_in))
+    (search (arith, length_taken_in, get_or-taken_in))
 
 -- one bit changes
 pub taken_set : (ws ws' : List ℕ) (n k : ℕ) (b : Bool) → k < n → (bit ws' k == 0) ≡ b
     → ((j : ℕ) → j ≢ k → bit ws' j ≡ bit ws j) → taken_in ws' n ≡ set (taken_in ws n) k b
 taken_set ws ws' n k b lt here others = ext_get_or true (taken_in ws' n) (set (taken_in ws n) k b)
-    (length-taken_in ws' n ∙ sym (simp (length-set, length-taken_in)))
-    (λ j below. let in' : j < n = simp length-taken_in at below in let at' = get_or-taken_in ws' n j true in' in
-    ⊎_elim
-    (λ (e : j ≡ k). at' ∙ ap {B = Bool} (λ (x : ℕ). bit ws' x == 0) e ∙ here
-    ∙ sym (ap (λ (x : ℕ). get_or (set (taken_in ws n) k b) x true) e
-    ∙ get_or-set_same (taken_in ws n) k b true (simp length-taken_in lt)))
-    (λ (ne : j ≢ k). at' ∙ ap {B = Bool} (λ (x : ℕ). x == 0) (others j ne)
-    ∙ sym (get_or-set_other (taken_in ws n) k j b true ne ∙ get_or-taken_in ws n j true in'))
-    (cases_eq j k))
+    (search (arith, length_taken_in, length-set))
+    (search (arith, length_taken_in, get_or-taken_in, get_or-set_other, get_or-set_same))
 
 pub taken_cleared : (ws ws' : List ℕ) (n k : ℕ) → k < n → bit ws' k ≡ 0 → ((j : ℕ) → j ≢ k → bit ws' j ≡ bit ws j)
     → taken_in ws' n ≡ set (taken_in ws n) k true
@@ -83,20 +72,20 @@ taken_more ws n none = map-range_with_len_more (λ k. bit ws k == 0) 0 n n (omeg
 -- a free number has a bit
 pub free_bit : (ws : List ℕ) (n k : ℕ) (taken : List Bool) → taken_in ws n ≡ taken → slice_get taken k ≡ Some false
     → (k < n) × (bit ws k ≡ 1)
-free_bit ws n k taken shown is = grind (arith, elements, length-taken_in, get_or-taken_in)
+free_bit ws n k taken shown is = grind (arith, elements, length_taken_in, get_or-taken_in)
 
 -- the lowest bit is the least free number
 pub least_at : (ws : List ℕ) (n k : ℕ) → k < n → bit ws k ≡ 1 → ((j : ℕ) → j < k → bit ws j ≡ 0)
     → least_free (taken_in ws n) ≡ k
-least_at ws n k lt here below = position_or_len_is not (taken_in ws n) k true (simp length-taken_in (omega arith))
-    (λ j less. ap not (get_or-taken_in ws n j true (omega arith) ∙ ap {B = Bool} (λ (x : ℕ). x == 0) (below j less)))
-    (λ _. ap not (get_or-taken_in ws n k true lt ∙ ap {B = Bool} (λ (x : ℕ). x == 0) here))
+least_at ws n k lt here below = position_or_len_is not (taken_in ws n) k true (simp length_taken_in (omega arith))
+    (search (arith, get_or-taken_in))
+    (search (arith, get_or-taken_in))
 
 -- with no bit it is the length
 pub least_none : (ws : List ℕ) (n : ℕ) → ((j : ℕ) → bit ws j ≡ 0) → least_free (taken_in ws n) ≡ n
-least_none ws n none = position_or_len_is not (taken_in ws n) n true (simp length-taken_in (omega arith))
-    (λ j less. ap not (get_or-taken_in ws n j true less ∙ ap {B = Bool} (λ (x : ℕ). x == 0) (none j)))
-    (λ lt. absurd (omega (arith, length-taken_in ws n)))
+least_none ws n none = position_or_len_is not (taken_in ws n) n true (simp length_taken_in (omega arith))
+    (search (arith, get_or-taken_in))
+    (search (arith, length_taken_in))
 
 -- a bit is set for numbers below the length alone
 pub within_length : (ws : List ℕ) (n k : ℕ) → ((j : ℕ) → n ≤ j → bit ws j ≡ 0) → bit ws k ≡ 1 → k < n
@@ -125,8 +114,6 @@ no_bit w k = search (arith, no_word)
 
 -- without a bit every number is taken
 pub all_taken : (ws : List ℕ) (n : ℕ) → ((k : ℕ) → bit ws k ≡ 0) → taken_in ws n ≡ replicate n true
-all_taken ws n none = ext_get_or true (taken_in ws n) (replicate n true) (length-taken_in ws n
+all_taken ws n none = ext_get_or true (taken_in ws n) (replicate n true) (length_taken_in ws n
     ∙ sym (length-replicate n true))
-    (λ k lt. let in' : k < n = simp length-taken_in at lt in
-    get_or-taken_in ws n k true in' ∙ ap {B = Bool} (λ (x : ℕ). x == 0) (none k)
-    ∙ sym (get_or-replicate n k true true in'))
+    (search (arith, length_taken_in, get_or-taken_in, get_or-replicate))

@@ -12,7 +12,7 @@ use Rattle.least_free.specs.Bits.{bit}
 use Rattle.least_free.specs.From.{IsAtMost, IsLeastFrom}
 use Rattle.least_free.specs.Levels.{taken_in, SumsUp}
 use Rattle.least_free.specs.Taken.{is_free_within, is_taken}
-use Rattle.least_free.proofs.LevelLemmas.{get_or-taken_in, length-taken_in}
+use Rattle.least_free.proofs.LevelLemmas.{get_or-taken_in, length_taken_in}
 
 -- a number that passes, and none before it does
 pub first_found : (test : ℕ → Bool) (from n : ℕ) → from ≤ n → test n ≡ true
@@ -54,7 +54,7 @@ module _ (bits : ℕ → ℕ) (lo : List ℕ) (from : ℕ) (sums : SumsUp bits l
 -- the free numbers are those with a bit
 pub free_test : (ws : List ℕ) (n k : ℕ) → ((j : ℕ) → n ≤ j → bit ws j ≡ 0)
     → (bit ws k == 1) ≡ is_free_within (taken_in ws n) k
-free_test ws n k none_past = search (arith, get_or-taken_in, get_or_past, length-taken_in)
+free_test ws n k none_past = search (arith, get_or-taken_in, get_or_past, length_taken_in)
 
 -- the lowest bit that is clear is the lowest that is set in the word turned round
 module _ (word k : ℕ) (r : Option ℕ) (fits : word < 2 ^ 64)
@@ -66,12 +66,12 @@ module _ (word k : ℕ) (r : Option ℕ) (fits : word < 2 ^ 64)
           → IfSome r (λ i. bit_at word i ≡ 0)
       by None within passes = tt
       by (Some i) within passes = let e = bit_at_not w64 word i fits within in
-          let f = eqb-true (bit_at (bit_not w64 word) i) 1 passes in omega (arith, e, f)
+          let f = eqb-true (bit_at (bit_not w64 word) i) 1 passes in omega arith
 
   pub clear_least : (i : ℕ) → k ≤ i → i < 64 → bit_at word i ≡ 0 → IsAtMost r i
   clear_least i above within clear = is.least i above (eq-eqb (bit_at (bit_not w64 word) i) 1 (let e =
-      bit_at_not w64 word i fits within in omega (arith, e, clear)))
+      bit_at_not w64 word i fits within in omega arith))
 
 -- the numbers that are taken are those below the length whose bit is clear
 pub taken_test : (ws : List ℕ) (n k : ℕ) → ltb k n && (bit ws k == 0) ≡ is_taken (taken_in ws n) k
-taken_test ws n k = search (arith, get_or-taken_in, get_or_past, length-taken_in)
+taken_test ws n k = search (arith, get_or-taken_in, get_or_past, length_taken_in)

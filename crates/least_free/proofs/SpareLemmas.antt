@@ -46,9 +46,9 @@ pub still_spare : (taken : List Bool) (spare : Option ℕ) (n : ℕ) (b : Bool) 
     → IsSpare taken spare → IsSpare (set taken n b) spare
 still_spare a0 a1 a2 a3 a4 a5 = search (arith, get-set_other)
 
-pub with_spare-set : (taken : List Bool) (spare : Option ℕ) (n : ℕ) (b : Bool) → option_eq eqb spare (Some n) ≡ false
+pub with_spare_set : (taken : List Bool) (spare : Option ℕ) (n : ℕ) (b : Bool) → option_eq eqb spare (Some n) ≡ false
     → with_spare (set taken n b) spare ≡ set (with_spare taken spare) n b
-with_spare-set a0 a1 a2 a3 a4 = search (arith, set_comm)
+with_spare_set a0 a1 a2 a3 a4 = search (arith, set_comm)
 
 -- a number that is taken is another
 pub other_than_spare : (taken : List Bool) (spare : Option ℕ) (n : ℕ) → IsSpare taken spare
@@ -56,6 +56,6 @@ pub other_than_spare : (taken : List Bool) (spare : Option ℕ) (n : ℕ) → Is
 other_than_spare a0 a1 a2 a3 a4 = search (arith, get-set_same, slice_get_within)
 
 -- one more number
-pub with_spare-grown : (taken : List Bool) (spare : Option ℕ) → IsSpare taken spare
+pub with_spare_grown : (taken : List Bool) (spare : Option ℕ) → IsSpare taken spare
     → with_spare (taken ++ true ∷ []) spare ≡ with_spare taken spare ++ true ∷ []
-with_spare-grown a0 a1 a2 = search (arith, set-append_left, slice_get_within)
+with_spare_grown a0 a1 a2 = search (arith, set-append_left, slice_get_within)

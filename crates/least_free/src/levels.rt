@@ -98,6 +98,7 @@ impl Levels {
     }
 
     /// A set of length `n` in which every number is taken.
+    #[tactic(auto, using(crate::proofs::LevelLemmas::no_word, crate::proofs::LevelLemmas::all_taken, crate::proofs::LevelLemmas::no_bit))]
     pub fn with_taken(alloc: Global, n: usize) -> Result<Levels, AllocError>
         requires { n ≤ NUMBERS_MAX }
         ensures { IfOk result (λ s. s ≡ replicate n true) }
@@ -114,6 +115,7 @@ impl Levels {
 
     /// A set of length `n` in which every number is free. Taking these takes no memory. It takes a time that grows with
     /// `n`.
+    #[tactic(auto, using(crate::proofs::LevelLemmas::one_more_free))]
     pub fn with_free(alloc: Global, n: usize) -> Result<Levels, AllocError>
         requires { n ≤ NUMBERS_MAX }
         ensures { IfOk result (λ s. s ≡ replicate n false) }
@@ -127,6 +129,7 @@ impl Levels {
     }
 
     /// The least free number: one that was given back, or the length.
+    #[tactic(auto, using(crate::proofs::LevelLemmas::least_none, crate::proofs::LevelLemmas::length_taken_in))]
     pub fn least(&self) -> usize
         ensures value { result ≡ least_free self.now }
         ensures bound { result ≤ length self.now }
@@ -151,6 +154,7 @@ impl Levels {
     }
 
     /// The least number that is taken, from `from` on. It looks at 64 numbers at a time, one after another.
+    #[tactic(auto, using(crate::proofs::NextLemmas::taken_test))]
     pub fn next_taken(&self, from: usize) -> Option<usize>
         ensures least { IsLeastFrom from (is_taken self.now) result }
         ensures within { IfSome result (λ n. n < NUMBERS_MAX) }
@@ -160,6 +164,7 @@ impl Levels {
 
     /// Takes a free number below the length.
     #[inline]
+    #[tactic(auto, using(crate::proofs::LevelLemmas::free_bit, crate::proofs::LevelLemmas::taken_cleared))]
     pub fn take(&mut self, n: usize)
         requires { slice_get self.old n ≡ Some false }
         ensures { self.new ≡ slice_set self.old n true }
@@ -172,6 +177,7 @@ impl Levels {
 
     /// Makes a number below the length free.
     #[inline]
+    #[tactic(auto, using(crate::proofs::LevelLemmas::length_taken_in, crate::proofs::LevelLemmas::taken_freed))]
     pub fn give_back(&mut self, n: usize)
         requires { n < length self.old }
         ensures { self.new ≡ slice_set self.old n false }
@@ -184,6 +190,7 @@ impl Levels {
 
     /// Takes the number at the length, which is one more then. This is the one call that takes memory of a set that
     /// stands, and a set that lacks it stays as it was.
+    #[tactic(auto, using(crate::proofs::LevelLemmas::taken_more, crate::proofs::LevelLemmas::length_taken_in, crate::proofs::LevelLemmas::pushed_bit))]
     pub fn grow(&mut self) -> Result<(), AllocError>
         requires { length self.old < NUMBERS_MAX }
         ensures ok { OnOk result (self.new ≡ self.old ++ true ∷ []) }

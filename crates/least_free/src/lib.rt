@@ -87,6 +87,7 @@ impl LeastFree {
 
     /// Takes a free number below the length.
     #[inline]
+    #[tactic(auto, using(crate::proofs::SpareLemmas::spare_taken, crate::proofs::SpareLemmas::free_in_levels, crate::proofs::SpareLemmas::still_spare, crate::proofs::SpareLemmas::with_spare_set))]
     pub fn take(&mut self, n: usize)
         requires { slice_get self.old n ≡ Some false }
         ensures { self.new ≡ slice_set self.old n true }
@@ -100,6 +101,7 @@ impl LeastFree {
 
     /// Makes a number free that is taken.
     #[inline]
+    #[tactic(auto, using(crate::proofs::SpareLemmas::with_spare_set))]
     pub fn give_back(&mut self, n: usize)
         requires { slice_get self.old n ≡ Some true }
         ensures { self.new ≡ slice_set self.old n false }
@@ -118,6 +120,7 @@ impl LeastFree {
 
     /// Takes the number at the length, which is one more then. This is the one call that takes memory of a set that
     /// stands, and a set that lacks it stays as it was.
+    #[tactic(auto, using(crate::proofs::SpareLemmas::with_spare_grown))]
     pub fn grow(&mut self) -> Result<(), AllocError>
         requires { length self.old < NUMBERS_MAX }
         ensures ok { OnOk result (self.new ≡ self.old ++ true ∷ []) }

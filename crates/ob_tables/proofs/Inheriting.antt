@@ -49,8 +49,8 @@ pub inherited_some : (t : List (Option Entry)) (x : Option Entry) (e : Entry) �
     → length (inherited (t ++ x ∷ [])) ≡ length t + 1
 inherited_some t x e is = search (arith, trimmed_some, length-append, length-map, map-append)
 
-pub length-inherited : (t : List (Option Entry)) → length (inherited t) ≤ length t
-length-inherited t = search (arith, length-trimmed, length-map)
+pub length_inherited : (t : List (Option Entry)) → length (inherited t) ≤ length t
+length_inherited t = search (arith, length-trimmed, length-map)
 
 pub inherited_take : (t : List (Option Entry)) → map inheritable (take (length (inherited t)) t) ≡ inherited t
 inherited_take t = sym (take-map inheritable (length (inherited t)) t) ∙ sym (trimmed_take (map inheritable t))

@@ -107,6 +107,7 @@ impl Table {
 
     /// Whether there are as many entries as the limit lets.
     #[inline]
+    #[tactic(auto, using(crate::proofs::Places::least_place))]
     pub(crate) fn is_full(&self, limit: u32) -> bool
         ensures { result ≡ nat_le limit (free_place self.now) }
     {
@@ -192,6 +193,7 @@ impl Table {
     }
 
     /// The table of a child of a process with these places: just the inheritable entries.
+    #[tactic(auto, using(crate::proofs::Inheriting::copied_all))]
     pub(crate) fn inheriting(alloc: Global, places: &[Option<Entry>]) -> Result<Table, AllocError>
         requires { length places.now ≤ HANDLES_MAX }
         ensures { IfOk result (λ child. child ≡ inherited places.now) }
@@ -210,6 +212,7 @@ impl Table {
 }
 
 /// How many places a child inherits: those up to the last inheritable entry.
+#[tactic(auto, using(crate::proofs::Inheriting::inherited_end, crate::proofs::Inheriting::inherited_back))]
 fn inherited_len(places: &[Option<Entry>]) -> usize
     ensures value { result ≡ length (inherited places.now) }
     ensures bound { result ≤ length places.now }
@@ -223,6 +226,7 @@ fn inherited_len(places: &[Option<Entry>]) -> usize
 }
 
 /// Gives the number of a place back where it has no entry.
+#[tactic(auto, using(crate::proofs::Places::stays_taken))]
 fn free_at(places: &[Option<Entry>], free: &mut LeastFree, place: usize)
     requires within { place < length places.now }
     requires held { slice_get free.old place ≡ Some true }
@@ -235,6 +239,7 @@ fn free_at(places: &[Option<Entry>], free: &mut LeastFree, place: usize)
 }
 
 /// Leaves the entry of a place out where it isn't inheritable, and gives its number back.
+#[tactic(auto, using(std::proofs::lemmas::List::get_or_read, crate::proofs::Places::stays_taken))]
 fn inherit_at(copies: &mut Vec<Option<Entry>>, free: &mut LeastFree, place: usize)
     requires within { place < length copies.old.items }
     requires held { slice_get free.old place ≡ Some true }

@@ -143,6 +143,7 @@ impl Tables {
     /// is this profile's choice). 1450 where the numbers are used up, and 8 for want of memory.
     ///
     /// [Handle inheritance]: https://learn.microsoft.com/windows/win32/sysinfo/handle-inheritance
+    #[tactic(auto, using(std::proofs::lemmas::List::get_or_read, crate::proofs::Inheriting::length_inherited, crate::proofs::Limits::short_pushed))]
     pub fn copy_inheritable(&mut self, from: u32) -> Result<u32, Fault>
         requires { from < length self.old.tables }
         ensures number { IfOk result (λ process. process ≡ length self.old.tables) }
@@ -198,6 +199,7 @@ impl Tables {
 
     /// Whether a process has as many entries as it may, so that [`place`](Tables::place) answers 1450.
     #[inline]
+    #[tactic(auto, using(crate::proofs::Limits::full_test, std::proofs::lemmas::List::get_or_read))]
     pub fn is_full(&self, process: u32) -> bool
         requires { process < length self.now.tables }
         ensures { IsTrue result ↔ (entries_in (table_of self.now.tables process) ≡ self.now.handle_limit) }

@@ -10,7 +10,6 @@ returns-in-Some-clause-value c =
       ap least_free c.self.view_is,
       least-with_spare c.self.inside.levels c.self.inside.spare
           c.in-Some.spare c.self.invariant c.in-Some.is,
-      c.least-least.ensures.value,
     )
 
 pub returns-in_default-clause-value : goal.returns-in_default-clause-value
@@ -20,5 +19,4 @@ returns-in_default-clause-value c =
       ap least_free c.self.view_is,
       least-with_spare c.self.inside.levels c.self.inside.spare
           c.in-Some.spare c.self.invariant c.in-Some.is,
-      c.least-least.ensures.value,
     )

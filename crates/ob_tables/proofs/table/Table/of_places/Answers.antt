@@ -1,4 +1,4 @@
-use Rattle.std.proofs.Common.{arith, ◌<◌, ◌∙◌, sym, ap, ◌+◌, ◌-◌, List, ◌++◌, Option, None, true, map, take, length, replicate, set, length-take-le}
+use Rattle.std.proofs.Common.{arith, ◌<◌, ◌∙◌, sym, ap, ◌+◌, ◌-◌, List, ◌++◌, Option, None, true, map, take, length, replicate, length-take-le}
 use Rattle.std.specs.Prelude.{is_some}
 use Rattle.std.proofs.lemmas.List.{take_more}
 use Rattle.ob_tables.specs.declared.entry.Entry.{Entry}
@@ -14,7 +14,6 @@ loop-i-preserved c =
     let within : i < length places = omega arith in
     one_more_place c.loop-i.free c.free_at.new.free (take i places) (at places i) i c.len-len.result lt
     (length-take-le i places (omega arith)) c.loop-i.invariant
-    (c.free_at.ensures ∙ ap (λ (s : List (Option Entry)). set c.loop-i.free i (is_some (at s i)))
-    c.as_slice.ensures.value)
+    (search arith)
     ∙ ap (λ (t : List (Option Entry)). map is_some t ++ replicate (c.len-len.result - (i + 1)) true)
     (sym (take_more places i None within))
