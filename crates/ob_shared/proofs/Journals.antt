@@ -8,7 +8,7 @@ use Rattle.ob_manager.specs.Steps.{Step}
 use Rattle.ob_manager.proofs.LimitLaws.{step_limits}
 use Rattle.ob_manager.proofs.StepLaws.{step_next}
 use Rattle.ob_shared.specs.declared.book.Entry.{Entry}
-use Rattle.ob_shared.specs.Journal.{IsOrigin, Continues, Replays, replay}
+use Rattle.ob_shared.specs.Journal.{IsHistory, IsOrigin, Continues, IsHistoryFrom, Replays, replay}
 
 replays_next : (w u v : Whole) (entries : List Entry) (entry : Entry) → Replays w entries u
     → Step u entry.call entry.reply v → IsConsistent v → Replays w (entries ++ entry ∷ []) v
@@ -25,11 +25,15 @@ replays_next w u v (e ∷ entries) entry replays step kept =
 pub history_next : (saved : List ℕ) (journal : List Entry) (w v : Whole) (entry : Entry) → Continues saved journal w
     → Step w entry.call entry.reply v → IsConsistent v → Continues saved (journal ++ entry ∷ []) v
 history_next saved journal w v entry h step kept = record {
-  first = h.first;
-  opens = subst (λ (limits : Limits). IsOrigin limits saved h.first.state)
+  from = h.from;
+  opens = subst (λ (limits : Limits). IsOrigin limits saved h.from)
       (sym (step_limits w v entry.call entry.reply step)) h.opens;
-  kept = h.kept;
-  replays = replays_next h.first w v journal entry h.replays step kept;
+  history = record {
+    first = h.history.first;
+    opens = h.history.opens;
+    kept = h.history.kept;
+    replays = replays_next h.history.first w v journal entry h.history.replays step kept;
+  };
 }
 
 replays_state : (w v : Whole) (entries : List Entry) → Replays w entries v → v.state ≡ replay w.state entries
@@ -38,14 +42,26 @@ replays_state w v (e ∷ entries) replays = replays_state replays.0 v entries re
     ∙ ap (λ (s : State). replay s entries) (step_next w replays.0 e.call e.reply replays.1)
 
 -- the state is the one after the calls
+pub history_from_state : (from : State) (journal : List Entry) (w : Whole) → IsHistoryFrom from journal w → w.state ≡ replay from journal
+history_from_state from journal w h =
+    replays_state h.first w journal h.replays ∙ ap (λ (s : State). replay s journal) h.opens
+
 pub history_state : (saved : List ℕ) (journal : List Entry) (w : Whole) → Continues saved journal w
     → (first : State) × IsOrigin w.state.limits saved first × (w.state ≡ replay first journal)
-history_state saved journal w h = (h.first.state, h.opens, replays_state h.first w journal h.replays)
+history_state saved journal w h = (h.from, h.opens, history_from_state h.from journal w h.history)
+
+-- what goes on from a new manager is a history
+pub is_history : (journal : List Entry) (w : Whole) → Continues [] journal w → IsHistory journal w
+is_history journal w h = subst (λ (s : State). IsHistoryFrom s journal w) h.opens h.history
 
 -- a manager as it begins
 pub history_opens : (saved : List ℕ) (w : Whole) → IsOrigin w.state.limits saved w.state → IsConsistent w
     → Continues saved [] w
-history_opens saved w opens kept = record { first = w; opens = opens; kept = kept; replays = refl }
+history_opens saved w opens kept = record {
+  from = w.state;
+  opens = opens;
+  history = record { first = w; opens = refl; kept = kept; replays = refl };
+}
 
 -- what a savestate gives is what a manager begins with: no bytes are none
 pub origin_loads : (limits : Limits) (bytes : List ℕ) (w : Whole) (s : State) → load bytes ≡ Ok w → w.state ≡ s

@@ -24,6 +24,17 @@ abbrev pub replay : State → List Entry → State
 replay s [] = s
 replay s (entry ∷ entries) = replay (next s entry.call entry.reply) entries
 
+-- a journal of all calls since the manager was kept and had this state
+pub record IsHistoryFrom (from : State) (journal : List Entry) (w : Whole) : Type 0 where
+  pub first : Whole
+  pub opens : first.state ≡ from
+  pub kept : IsConsistent first
+  pub replays : Replays first journal w
+
+-- a journal of all calls since the manager was made
+abbrev pub IsHistory : List Entry → Whole → Type 0
+IsHistory journal w = IsHistoryFrom (opening w.state.limits) journal w
+
 -- the state with which a manager began: that of a savestate, or of a new manager where there are no bytes
 abbrev pub IsOrigin : Limits → List ℕ → State → Type 0
 IsOrigin limits [] s = s ≡ opening limits
@@ -31,11 +42,6 @@ IsOrigin limits (byte ∷ bytes) s = (w : Whole) × (load (byte ∷ bytes) ≡ O
 
 -- a journal of all calls since the manager began with a savestate
 pub record Continues (saved : List ℕ) (journal : List Entry) (w : Whole) : Type 0 where
-  pub first : Whole
-  pub opens : IsOrigin w.state.limits saved first.state
-  pub kept : IsConsistent first
-  pub replays : Replays first journal w
-
--- a journal of all calls since the manager was made
-abbrev pub IsHistory : List Entry → Whole → Type 0
-IsHistory = Continues []
+  pub from : State
+  pub opens : IsOrigin w.state.limits saved from
+  pub history : IsHistoryFrom from journal w

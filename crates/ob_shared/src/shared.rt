@@ -296,6 +296,7 @@ impl Shared {
     /// given, each once; each entry of the journal is of one of them; and the list of each is its part of the journal.
     /// Otherwise all is handed back with the first cause why they aren't, which is what [`Book::cause`] says of the
     /// book under the lock.
+    #[tactic(auto, using(crate::proofs::Journals::is_history))]
     pub fn close(self, lanes: Vec<Lane>) -> Result<Closed, NotClosed>
         ensures kept { IfOk result (λ closed. IsConsistent closed.manager) }
         ensures history { IfOk result (λ closed. IsHistory closed.journal.items closed.manager) }

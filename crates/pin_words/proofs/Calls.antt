@@ -29,10 +29,11 @@ use Rattle.pin_words.specs.declared.fault.Verdict.TheVariants.{Stale, Go}
 use Rattle.pin_words.specs.Verdicts.{verdict_of}
 use Rattle.std.specs.Prelude.{Err, IfSome, option_map}
 use Rattle.pin_words.specs.declared.fault.PinFault.TheVariants as fault
-use Rattle.pin_words.specs.Laws.{LostSeesNoEarlier, StaleStays}
+use Rattle.pin_words.specs.Laws.{StaleStays}
 use Rattle.pin_words.specs.Tries.{HasOnlyLooked, WasStale, Tries}
 use Rattle.pin_words.proofs.ReaderSteps.{notes-step}
 use Rattle.pin_words.proofs.KeeperSteps.{stores-step}
+use Rattle.pin_words.proofs.Losing.{lost-onward}
 
 pub go-means : (max : ℕ) (id : Id) (w : Word) → verdict_of max id w ≡ Go
     → (w.phase ≡ Live) × (w.generation ≡ id.generation) × (w.pins ≢ max)
@@ -129,10 +130,6 @@ stays-stale max id [] n h b = absurd h
 stays-stale max id (l ∷ ls) n h b = ⊎_elim (λ (t : (l.slot ≡ id.slot)
     × (verdict_of max id (decoded l.word) ≡ Stale)). grind (arith, nat_tests))
     (λ (t : WasStale max id ls). stays-stale max id ls n t b.1) h
-
--- what a try that lost its exchange found
-pub lost-onward : LostSeesNoEarlier
-lost-onward r r' id seen t = search arith
 
 pub busy-looked : (r r' : ReaderView) (id : Id) (seen : Word) → Tries r id (Err (fault.Busy seen)) r'
     → HasOnlyLooked r r'

@@ -35,11 +35,12 @@ use Rattle.pin_words.specs.declared.view.View.{View}
 use Rattle.pin_words.specs.Places.{place_of, descr_place}
 use Rattle.pin_words.specs.Views.{M, view, look, id_in, notes_of, reader_with, reader_got, reader_released, reader_noted}
 use Rattle.pin_words.specs.Laws.{after_step, descr_word, word}
+use Rattle.pin_words.specs.Stepped.{Stands}
 use Rattle.pin_words.specs.Shown.{Table, NotAhead, AreNoted, OfReader, IsShown, Shown}
 use Rattle.pin_words.specs.Plays.{TellsReader, looked_view, got_view, released_view, LookedAt, looked, PinnedAt, pinned, ReleasedAt, released, noted}
 use Rattle.pin_words.proofs.Bits.{sub_one}
 use Rattle.pin_words.proofs.Holdings.{holds-more, holds-same-more, holds-less, holds-same-less, has-copies, noted-left}
-use Rattle.pin_words.proofs.Steps.{reader-at, placed, in-list, step-shown, still-shown, found-is, in-shape, told, met, reader-looks, turn-reader, turn-to, looks-agree, keeper-stays, reader-stays, behind, at-slot}
+use Rattle.pin_words.proofs.Steps.{reader-at, placed, in-list, step-shown, still-shown, found-is, in-shape, when-here, held-found, stood, told, met, reader-looks, turn-reader, turn-to, looks-agree, keeper-stays, reader-stays, behind, at-slot}
 
 -- the words where the holds change at the slot i alone
 hold-words : (k : Shape) (s : Table) (W : WorldState) (sh : IsShown k s W) (i n : ℕ) (hs : List Hold) → i < k.slots
@@ -127,8 +128,8 @@ reader-pins k s W sh id i v r seated at-reader inside live room =
 
 tells-all : (k : Shape) (s : Table) (W : WorldState) (sh : IsShown k s W) (id i : ℕ) (v : View)
     → get_elem? s.views id ≡ some v → i < k.slots → IfSome v.reader (λ r. TellsReader r i (word s i))
-tells-all k s W sh id i v seated inside = IfSome_then v.reader (sh.each id v seated).1
-    (λ r o. told k s W sh id i r inside o)
+tells-all k s W sh id i v seated inside = when-here (OfReader W sh.next sh.owner id) (λ r. TellsReader r i (word s i))
+    v.reader (λ r is o. told k s W sh id i v r seated is inside o) (sh.each id v seated).1
 
 pub looks-shown : (k : Shape) (s : Table) (W : WorldState) (sh : IsShown k s W) (id i : ℕ) (v : View)
     → get_elem? s.views id ≡ some v → i < k.slots
@@ -230,7 +231,7 @@ pub releases-step : (k : Shape) (slots id p : ℕ) (me : M) (r : ReaderView) (y 
 releases-step k slots id p me r y at is inside have =
     placed k slots id p (place_of y.slot) 1 0 me (λ n. (n + (2 ^ 64 - 1)) % 2 ^ 64) released at
     (λ s known deep seated small. let W = known.0 in let sh = known.1 in let i = y.slot in let n : ℕ = word s i in
-    let gen = ((told k s W sh id i r inside (reader-at k s W sh id me.0 r seated is)).held y have refl).0 in
+    let gen = (held-found k s W sh id i r inside (reader-at k s W sh id me.0 r seated is) y have refl).0 in
     let x : Id = id_in i n in
     let have' : 0 < tally (same_id x) r.held =
     search arith in (
@@ -308,5 +309,7 @@ notes-step k slots id i me r y is here inside have s (W, sh) deep seated small =
               } d)),
               me.1,
             ),
+            subst (λ (z : ReaderView × ℕ). Stands z.0 (descr_place z.1) n) (λ c. (same c, index c))
+                (stood k s W sh id (descr_place i) me.0 r seated is),
           ),
     )

@@ -1,7 +1,7 @@
 -- What a step of one seat owes the rule of the table.
 use Rattle.std.specs.Prelude.{IfSome, option_map}
-use Rattle.std.proofs.Common.{◌≡◌, ◌≢◌, ◌⊎◌, inl, inr, ⊎_elim, ℕ, ◌<◌, ◌≤◌, List, [], ◌∷◌, length, get_or, set, length-set, zero, suc, Option, Some, sym, refl, ap, ◌∙◌, subst, arith}
-use mathlib.Core.Option.{none, some, some-ne-none}
+use Rattle.std.proofs.Common.{◌≡◌, ◌≢◌, ◌⊎◌, inl, inr, ⊎_elim, ℕ, ◌<◌, ◌≤◌, List, [], ◌∷◌, length, get_or, set, length-set, zero, suc, Option, Some, None, sym, refl, ap, ◌∙◌, subst, arith, true}
+use mathlib.Core.Option.{none, some, some-ne-none, some-injective}
 use native.Mathlib.Decide.{ℕ_discrete}
 use mathlib.Core.Logic.{dite}
 use lib.ListN.{get_elem?}
@@ -15,7 +15,7 @@ use Rattle.pin_core.specs.declared.shape.Shape.{Shape}
 use Rattle.pin_core.specs.declared.holders.Hold.{Hold}
 use Rattle.pin_core.specs.Words.{encoded, decoded}
 use Rattle.pin_core.specs.Descrs as descr_code
-use Rattle.pin_core.specs.Holds.{tally, is_copy}
+use Rattle.pin_core.specs.Holds.{tally, is_copy, same_id}
 use Rattle.pin_core.specs.Worlds.{WorldState, at, pins, copies, word_at, given, given_as}
 use Rattle.pin_core.specs.Events.{with_holders}
 use Rattle.pin_core.specs.Safety.{IsSafe, may_be_held, age}
@@ -27,7 +27,7 @@ use Rattle.pin_words.specs.declared.view.View.{View}
 use Rattle.pin_words.specs.Places.{place_of, descr_place, AtSlot}
 use Rattle.pin_words.specs.Views.{M, view, look, reader_looked}
 use Rattle.pin_words.specs.Shown.{Table, word_age, IsPast, NotAhead, AreNoted, HoldsJust, OfKeeper, OfReader, Agrees, HasKeeper, HasReader, IsShown, Shown}
-use Rattle.pin_words.specs.Laws.{after_step, word}
+use Rattle.pin_words.specs.Stepped.{after_step, word, Stands}
 use Rattle.pin_words.specs.Plays.{Behind, TellsReader, AreListed, Show, MeetsBoth, looked_view}
 use Rattle.pin_words.proofs.Holdings.{held-le-pins, has-copies, one-descr}
 
@@ -36,6 +36,11 @@ of-here a0 x a is h = search arith
 
 pub of-put : {A : Type 0} (P : A → Type 0) (x : Option A) (a : A) → x ≡ Some a → P a → IfSome x P
 of-put a0 x a is h = search arith
+
+pub when-here : {A : Type 0} (P Q : A → Type 0) (x : Option A) → ((a : A) → x ≡ Some a → P a → Q a) → IfSome x P
+    → IfSome x Q
+when-here P Q None f h = tt
+when-here P Q (Some a) f h = f a refl h
 
 -- a seat's part as the world has it
 pub keeper-at : (k : Shape) (s : Table) (W : WorldState) (sh : IsShown k s W) (id : ℕ) (v : View) (kv : KeeperView)
@@ -146,21 +151,42 @@ pub behind : (w : WorldState) (ls : List Look) (s n : ℕ) → word_age n ≡ ag
 behind w [] s n is phase bounded h = tt
 behind w (l ∷ ls) s n is phase bounded h = search (arith, behind w ls s n is phase bounded h.1)
 
-pub told : (k : Shape) (s : Table) (W : WorldState) (sh : IsShown k s W) (id i : ℕ) (r : ReaderView) → i < k.slots
+pub held-found : (k : Shape) (s : Table) (W : WorldState) (sh : IsShown k s W) (id i : ℕ) (r : ReaderView) → i < k.slots
+    → OfReader W sh.next sh.owner id r → (x : Id) → 0 < tally (same_id x) r.held → x.slot ≡ i
+    → ((decoded (word s i)).generation ≡ x.generation) × (may_be_held (decoded (word s i)).phase ≡ true)
+held-found k s W sh id i r inside mine x have here = let is = found-is k s W sh i inside in
+    let h = sh.safe.held r.number x (has-copies W r x mine.held have) in (
+      ap (λ (y : Word). y.generation) is ∙ (ap (λ (z : ℕ). (at W z).generation) (sym here) ∙ h.1),
+      ap (λ (y : Word). may_be_held y.phase) is ∙ (ap (λ (z : ℕ). may_be_held (at W z).phase) (sym here) ∙ h.2),
+    )
+
+-- what stood at a place of the table is in sight of each of its readers
+pub stood : (k : Shape) (s : Table) (W : WorldState) (sh : IsShown k s W) (id p : ℕ) (v : View) (r : ReaderView)
+    → get_elem? s.views id ≡ some v → v.reader ≡ Some r → Stands r p (get_or s.words p 0)
+stood k s W sh id p v r seated is = record {
+  table = s;
+  world = W;
+  seat = id;
+  view = v;
+  shown = subst (λ (z : Shape). IsShown z s W) (sym ((reader-at k s W sh id v r seated is).shape ∙ sh.shape)) sh;
+  here = record { seated = seated; part = is };
+  found = refl;
+}
+
+pub told : (k : Shape) (s : Table) (W : WorldState) (sh : IsShown k s W) (id i : ℕ) (v : View) (r : ReaderView)
+    → get_elem? s.views id ≡ some v → v.reader ≡ Some r → i < k.slots
     → OfReader W sh.next sh.owner id r → TellsReader r i (word s i)
-told k s W sh id i r inside mine = let is = found-is k s W sh i inside in record {
+told k s W sh id i v r seated at-reader inside mine = let is = found-is k s W sh i inside in record {
   pins = let le = held-le-pins W r.number i r.held sh.safe mine.held in
       let count : (decoded (word s i)).pins ≡ pins W i = ap (λ (x : Word). x.pins) is in
       omega arith;
   room = let le = sh.safe.room i in let count : (decoded (word s i)).pins ≡ pins W i =
       ap (λ (x : Word). x.pins) is in let max : r.shape.max_pins ≡ W.shape.max_pins =
       ap (λ (z : Shape). z.max_pins) mine.shape in omega arith;
-  held = λ x have here. let h = sh.safe.held r.number x (has-copies W r x mine.held have) in (
-    ap (λ (y : Word). y.generation) is ∙ (ap (λ (z : ℕ). (at W z).generation) (sym here) ∙ h.1),
-    ap (λ (y : Word). may_be_held y.phase) is ∙ (ap (λ (z : ℕ). may_be_held (at W z).phase) (sym here) ∙ h.2),
-  );
+  held = held-found k s W sh id i r inside mine;
   looks = behind W r.looks i (word s i) (found-age k s W sh i inside)
       (ap (λ (x : Word). x.phase) is) (sh.safe.slots i (in-shape k s W sh i inside)).bounded mine.looks;
+  stands = stood k s W sh id (place_of i) v r seated at-reader;
 }
 
 listed : (w : WorldState) (ps : List (Id × Descr)) (xs : List Note) → ps ≡ w.published → AreNoted w xs → AreListed ps xs

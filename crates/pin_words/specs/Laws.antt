@@ -1,5 +1,5 @@
 -- What each atomic step does to the world that the seats make.
-use Rattle.std.specs.Prelude.{◌≡◌, ◌≢◌, ◌⊎◌, ℕ, ◌+◌, ◌-◌, ◌<◌, ◌≤◌, List, [], ◌∷◌, ◌++◌, slice_index, slice_set, bit_or, Some, None, Result, Err}
+use Rattle.std.specs.Prelude.{◌≡◌, ◌≢◌, ◌⊎◌, ℕ, ◌+◌, ◌-◌, ◌<◌, ◌≤◌, List, [], ◌∷◌, ◌++◌, slice_set, bit_or, Some, None, Result, Ok, Err}
 use mathlib.Core.Option.{some}
 use lib.ListN.{get_elem?}
 use Rattle.pin_core.specs.declared.word.Phase.TheVariants.{Free, Live, Closing}
@@ -7,15 +7,12 @@ use Rattle.pin_core.specs.declared.id.Id.{Id}
 use Rattle.pin_core.specs.declared.word.Word.{Word}
 use Rattle.pin_core.specs.declared.descr.Descr.{Descr}
 use Rattle.pin_core.specs.declared.shape.Shape.{Shape}
-use Rattle.pin_core.specs.declared.world.Slot.{Slot}
 use Rattle.pin_core.specs.declared.holders.Hold.{Hold}
-use Rattle.pin_core.specs.declared.event.Event.{Event}
 use Rattle.pin_core.specs.declared.event.Event.TheVariants as event
 use Rattle.pin_core.specs.Words.{decoded}
 use Rattle.pin_core.specs.Descrs as descr_code
 use Rattle.pin_core.specs.Holds.{tally, hold_of, same_id}
 use Rattle.pin_core.specs.Worlds.{WorldState, opening_of, slot_of, times, given_as}
-use Rattle.pin_core.specs.Events.{Transition, after, in_phase, reclaimed}
 use Rattle.pin_core.specs.Safety.{IsSafe, StaysGiven}
 use Rattle.pin_words.specs.declared.fault.PinFault.{PinFault}
 use Rattle.pin_words.specs.declared.fault.PinFault.TheVariants as fault
@@ -23,54 +20,12 @@ use Rattle.pin_words.specs.declared.view.Note.{Note}
 use Rattle.pin_words.specs.declared.view.KeeperView.{KeeperView}
 use Rattle.pin_words.specs.declared.view.ReaderView.{ReaderView}
 use Rattle.pin_words.specs.declared.view.View.{View}
-use Rattle.pin_words.specs.Places.{place_of, descr_place, pin_word}
+use Rattle.pin_words.specs.Places.{place_of, descr_place}
 use Rattle.pin_words.specs.Views.{view, id_in, reader_looked, reader_got, reader_released, reader_noted, keeper_looked, keeper_stored, keeper_published, keeper_closed, keeper_reclaimed}
 use Rattle.pin_words.specs.Shown.{Table, IsShown}
+pub use Rattle.pin_words.specs.Stepped.{ReaderAt, KeeperAt, with_reader, with_keeper, word, descr_word, after_step, with_views, StepsBy, closing_word, next_word, Stands, LoadStep, PinStep, Pinned, IsHold}
 use Rattle.pin_words.specs.Plays.{NoLater, gave, given, spent}
 use Rattle.pin_words.specs.Tries.{Tries, WasStale}
-
--- the seat j has the view v, with this part of a reader, or of the keeper
-pub record ReaderAt (s : Table) (j : ℕ) (v : View) (r : ReaderView) : Type 0 where
-  pub seated : get_elem? s.views j ≡ some v
-  pub part : v.reader ≡ Some r
-
-pub record KeeperAt (s : Table) (j : ℕ) (v : View) (k : KeeperView) : Type 0 where
-  pub seated : get_elem? s.views j ≡ some v
-  pub part : v.keeper ≡ Some k
-
--- the view with another part
-abbrev pub with_reader : View → ReaderView → View
-with_reader v r = view v.keeper (Some r)
-
-abbrev pub with_keeper : View → KeeperView → View
-with_keeper v k = view (Some k) v.reader
-
--- the pin word of the slot i, and its descriptor's
-abbrev pub word : Table → ℕ → ℕ
-word s i = slice_index s.words (place_of i)
-
-abbrev pub descr_word : Table → ℕ → ℕ
-descr_word s i = slice_index s.words (descr_place i)
-
--- the table after the word at the place i became n, and the seat j got the view v
-abbrev pub after_step : Table → ℕ → ℕ → ℕ → View → Table
-after_step s i n j v = record s { words = slice_set s.words i n; views = slice_set s.views j v }
-
-abbrev pub with_views : Table → List View → Table
-with_views s views = record s { views = views }
-
--- the step takes the world to its successor by the event: the event is possible, and the table then shows the world
--- after it
-pub record StepsBy (k : Shape) (w : WorldState) (e : Event) (s' : Table) : Type 0 where
-  pub can : Transition w e (after w e)
-  pub shown : IsShown k s' (after w e)
-
--- the word of a closing slot without pins, and the word that it is exchanged for
-abbrev pub closing_word : Slot → ℕ
-closing_word x = pin_word (in_phase x Closing)
-
-abbrev pub next_word : ℕ → Slot → ℕ
-next_word max_gen x = pin_word (reclaimed max_gen x)
 
 -- each note is the descriptor that was published with its Id
 abbrev pub ArePublished : WorldState → List Note → Type 0
@@ -199,6 +154,10 @@ NotesArePublished = (k : Shape) (s : Table) (w : WorldState) (j : ℕ) (v : View
 abbrev pub LostSeesNoEarlier : Type 0
 LostSeesNoEarlier = (r r' : ReaderView) (id : Id) (seen : Word) → Tries r id (Err (fault.Busy seen)) r'
     → (n : ℕ) × (m : ℕ) × (r' ≡ reader_looked (reader_looked r id.slot n) id.slot m) × (seen ≡ decoded m) × NoLater n m
+
+-- a try to pin that went through made two steps, each on a table that shows a safe world, and its copy is a hold of one
+abbrev pub TriesPin : Type 0
+TriesPin = (r r' : ReaderView) (id : Id) → Tries r id (Ok tt) r' → Pinned r id r' × IsHold r' id
 
 -- a try to pin an Id that an earlier look found stale is refused as stale, or since 16 copies are held
 abbrev pub StaleStays : Type 0

@@ -1,6 +1,7 @@
 pub mod Verdicts
 pub mod Views
 pub mod Shown
+pub mod Stepped
 pub mod Plays
 pub mod Tries
 pub mod Seats

@@ -18,8 +18,9 @@ use Rattle.pin_words.specs.declared.view.KeeperView.{KeeperView}
 use Rattle.pin_words.specs.declared.view.ReaderView.{ReaderView}
 use Rattle.pin_words.specs.declared.view.View.{View}
 use Rattle.pin_words.specs.Views.{M, view, is_of_slot, id_of, id_in, reader_looked, reader_got, reader_released, reader_noted, reader_given, keeper_looked, keeper_stored, keeper_published, keeper_closed, keeper_reclaimed, keeper_gave}
-use Rattle.pin_words.specs.Places.{AtSlot, descr_place}
+use Rattle.pin_words.specs.Places.{AtSlot, place_of, descr_place}
 use Rattle.pin_words.specs.Shown.{word_age}
+use Rattle.pin_words.specs.Stepped.{Stands}
 
 -- the word m is no later than the word n, and retired is for good
 abbrev pub NoLater : ℕ → ℕ → Type 0
@@ -31,13 +32,14 @@ Behind [] s n = Unit {0}
 Behind (l ∷ ls) s n = (l.slot ≡ s → NoLater l.word n) × Behind ls s n
 
 -- what the word n of the slot s tells a reader: it has at least its own pins, what it holds there is of this
--- generation, and live or closing, and no earlier look is ahead of it
+-- generation, and live or closing, no earlier look is ahead of it, and it stood in a table that shows a safe world
 pub record TellsReader (r : ReaderView) (s n : ℕ) : Type 0 where
   pub pins : tally (is_of_slot s) r.held ≤ (decoded n).pins
   pub room : (decoded n).pins ≤ r.shape.max_pins
   pub held : (id : Id) → 0 < tally (same_id id) r.held → id.slot ≡ s
       → ((decoded n).generation ≡ id.generation) × (may_be_held (decoded n).phase ≡ true)
   pub looks : Behind r.looks s n
+  pub stands : Stands r (place_of s) n
 
 -- what the word n of the slot s tells the keeper: it is the word of that slot, with no more pins than there may be
 pub record TellsKeeper (shape : Shape) (slots : List Slot) (s n : ℕ) : Type 0 where
@@ -113,6 +115,7 @@ abbrev pub noted : St → M → ℕ → M → Type 0
 noted st m n m' = (r : ReaderView) (id : Id) → m.0.reader ≡ Some r → 0 < tally (same_id id) r.held
     → st.word ≡ descr_place id.slot
     → (d : Descr) × (descr_code.decoded n ≡ Some d) × (m' ≡ (view m.0.keeper (Some (reader_noted r id d)), m.1))
+    × Stands r (descr_place id.slot) n
 
 -- the keeper changes what it knows of the slot s
 abbrev pub KeptAs : (KeeperView → ℕ → KeeperView) → M → M → ℕ → Type 0

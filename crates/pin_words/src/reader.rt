@@ -120,6 +120,7 @@ impl Reader {
     ghost use Rattle.pin_words.specs.Places.{words_a_slot};
     ghost use Rattle.pin_words.specs.Views.{view, reader_looked, reader_got, reader_released, reader_noted};
     ghost use Rattle.pin_words.specs.Plays.{TellsReader};
+    ghost use Rattle.pin_words.specs.Stepped.{Pinned, IsHold, ReleaseStep, DescrStep};
     ghost use Rattle.pin_words.specs.Tries.{Tries, TriesUntilSettled, HasOnlyLooked};
 
     pub(crate) fn of_parts(words: Arc<Words, Global>, shape: Shape, seat: Seat<(), View>) -> Reader
@@ -189,10 +190,15 @@ impl Reader {
     /// Refused, in this order: 1 where there is no such slot; 6 where 16 copies are held; then, by the word that the
     /// look found, 2 where the Id isn't published yet, 3 where its object is given up, which stays so, and 5 where the
     /// slot has all its pins; 4 where the exchange found another word.
+    ///
+    /// Where it goes through, the look and the exchange were each made on words that show a safe world, and the new copy
+    /// is one hold of the world behind them.
     #[inline]
     pub fn try_pin(&mut self, id: Id) -> Result<(), PinFault>
         ensures tries { Tries self.old.view id result self.new.view }
         ensures held { OnOk result (0 < tally (same_id id) self.new.view.held) }
+        ensures pinned { OnOk result (Pinned self.old.view id self.new.view) }
+        ensures hold { OnOk result (IsHold self.new.view id) }
         ensures shape { self.new.view.shape ≡ self.old.view.shape }
         ensures table { self.new.table ≡ self.old.table }
     {
@@ -228,6 +234,7 @@ impl Reader {
         ensures last { (r : ReaderView) × HasOnlyLooked self.old.view r
             × Tries r id result self.new.view }
         ensures held { OnOk result (0 < tally (same_id id) self.new.view.held) }
+        ensures hold { OnOk result (IsHold self.new.view id) }
         ensures shape { self.new.view.shape ≡ self.old.view.shape }
         ensures settled { (w : Word) → result ≢ Err (fault.Busy w) }
         ensures table { self.new.table ≡ self.old.table }
@@ -249,6 +256,7 @@ impl Reader {
     pub fn release(&mut self, id: Id)
         requires { 0 < tally (same_id id) self.old.view.held }
         ensures view { self.new.view ≡ reader_released self.old.view id }
+        ensures steps { ReleaseStep self.old.view id }
         ensures table { self.new.table ≡ self.old.table }
     {
         // First of all, so that what is held is looked through while the next step waits.
@@ -264,6 +272,7 @@ impl Reader {
     pub fn release_if_held(&mut self, id: Id) -> bool
         ensures held { IsTrue result ↔ (0 < tally (same_id id) self.old.view.held) }
         ensures view { IsTrue result → self.new.view ≡ reader_released self.old.view id }
+        ensures steps { IsTrue result → ReleaseStep self.old.view id }
         ensures none { result ≡ false → self.new.view ≡ self.old.view }
         ensures table { self.new.table ≡ self.old.table }
     {
@@ -281,6 +290,7 @@ impl Reader {
     pub fn descr(&mut self, id: Id) -> Descr
         requires { 0 < tally (same_id id) self.old.view.held }
         ensures view { self.new.view ≡ reader_noted self.old.view id result }
+        ensures steps { DescrStep self.old.view id result }
         ensures table { self.new.table ≡ self.old.table }
     {
         let word = self

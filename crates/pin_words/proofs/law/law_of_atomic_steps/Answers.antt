@@ -1,6 +1,8 @@
 use Rattle.pin_words.proofs.LawOfSteps.{one-world, law-load, law-pin, law-release, law-read, law-publish, law-close, law-reclaim, law-reclaim-failed, law-store, law-held, law-noted, law-gives}
 use Rattle.pin_words.proofs.Reseated.{blanks-shown, parts-shown}
-use Rattle.pin_words.proofs.Calls.{lost-onward, stale-answers}
+use Rattle.pin_words.proofs.Calls.{stale-answers}
+use Rattle.pin_words.proofs.Losing.{lost-onward}
+use Rattle.pin_words.proofs.Stepping.{tries-pin}
 use Rattle.pin_words.proofs.law.law_of_atomic_steps.Goals as goal
 
 pub returns-clause-safe : goal.returns-clause-safe
@@ -56,3 +58,6 @@ returns-clause-lost c = lost-onward
 
 pub returns-clause-stale : goal.returns-clause-stale
 returns-clause-stale c = stale-answers
+
+pub returns-clause-pinned : goal.returns-clause-pinned
+returns-clause-pinned c = tries-pin

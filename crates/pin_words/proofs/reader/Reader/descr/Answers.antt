@@ -3,6 +3,11 @@ use Rattle.pin_core.specs.Holds.{tally, same_id}
 use Rattle.pin_words.specs.Views.{reader_of}
 use Rattle.pin_words.proofs.Calls.{notes-there}
 use Rattle.pin_words.proofs.Owned.{key_at, wide_at}
+use Rattle.std.proofs.Common.{◌≡◌, Some, subst}
+use Rattle.pin_core.specs.Descrs as descr_code
+use Rattle.pin_words.specs.declared.view.ReaderView.{ReaderView}
+use Rattle.pin_words.specs.Stepped.{DescrStep}
+use Rattle.pin_words.proofs.Stepping.{descr-step}
 use Rattle.pin_words.proofs.reader.Reader.descr.Goals as goal
 
 pub load-word-requires : goal.load-word-requires
@@ -14,3 +19,11 @@ load-word-requires c = let have : 0 < tally (same_id c.args.id) (reader_of c.sel
       notes-there _ _ _ _ _ (reader_of c.self.inside.seat.me.0) c.args.id c.self.inside.shape c.descr_place.ensures
           (key_at c.deref.ensures c.self.inside.keyed) (ap (λ m. m.0.reader) c.self.inside.reads) lt have,
     )
+
+pub returns-clause-steps : goal.returns-clause-steps
+returns-clause-steps c = let r : ReaderView = reader_of c.self.inside.seat.me.0 in
+    let have : 0 < tally (same_id c.args.id) r.held = search rules in
+    let did = c.load-word.ensures.2 r c.args.id (ap (λ m. m.0.reader) c.self.inside.reads) have c.descr_place.ensures in
+    let is : descr_code.decoded c.load-word.result ≡ Some c.in-Some.descr = search rules in
+    subst (λ (z : ReaderView). DescrStep z c.args.id c.in-Some.descr) (ap (λ w. w.view) c.self.view_is)
+    (descr-step r c.args.id c.load-word.result c.in-Some.descr have is did.3)

@@ -5,6 +5,9 @@ use Rattle.pin_words.specs.Views.{reader_of}
 use Rattle.pin_words.proofs.ReaderSteps.{releases-step}
 use Rattle.pin_words.proofs.Calls.{inside-less, released-one}
 use Rattle.pin_words.proofs.Owned.{key_at, wide_at}
+use Rattle.pin_words.specs.declared.view.ReaderView.{ReaderView}
+use Rattle.pin_words.specs.Stepped.{ReleaseStep}
+use Rattle.pin_words.proofs.Stepping.{released-step}
 use Rattle.pin_words.proofs.reader.Reader.release.Goals as goal
 
 pub fetch_sub-requires : goal.fetch_sub-requires
@@ -24,6 +27,11 @@ invariant_of-self-inside c = let one = released-one c.fetch_sub.result c.place_o
     let less = inside-less c.self.inside.shape.slots c.args.id c.self.inside.held.items c.self.inside.inside in
     search rules
 
-pub returns : goal.returns
-returns c = let one = released-one c.fetch_sub.result c.place_of.result c.self.inside.seat.me c.fetch_sub.new.seat.me
+pub returns-clause-view : goal.returns-clause-view
+returns-clause-view c = let one = released-one c.fetch_sub.result c.place_of.result c.self.inside.seat.me c.fetch_sub.new.seat.me
     c.args.id c.place_of.ensures c.self.inside.reads c.fetch_sub.ensures.2 (search rules) in search rules
+
+pub returns-clause-steps : goal.returns-clause-steps
+returns-clause-steps c = subst (λ (z : ReaderView). ReleaseStep z c.args.id) (ap (λ w. w.view) c.self.view_is)
+    (released-step c.fetch_sub.result c.place_of.result c.self.inside.seat.me c.fetch_sub.new.seat.me c.args.id
+    c.place_of.ensures c.self.inside.reads c.fetch_sub.ensures.2 (search rules))

@@ -1,0 +1,6 @@
+pub mod RefusalLaws
+pub mod Rest
+pub mod PinLaws
+pub mod Histories
+pub mod Running
+pub mod Saving

@@ -1,0 +1,141 @@
+-- What the steps of a reader were, by what they told it.
+use Rattle.std.proofs.Common.{⊎_elim, ◌≤◌, length, ◌≡◌, ℕ, ◌+◌, ◌-◌, ◌<◌, Some, sym, refl, ap, ◌∙◌, subst, arith}
+use Rattle.pin_core.specs.declared.id.Id.{Id}
+use Rattle.pin_core.specs.declared.event.Event.TheVariants.{Load, Pin, Release, ReadDescr}
+use Rattle.pin_core.specs.Words.{decoded}
+use Rattle.pin_core.specs.Holds.{tally, same_id}
+use Rattle.pin_words.specs.declared.fault.Verdict.TheVariants.{Unborn, Stale, PinsFull, Go}
+use Rattle.pin_words.specs.declared.fault.Verdict.{Verdict}
+use Rattle.pin_words.specs.Tries.{FollowsLook}
+use Rattle.pin_words.specs.Laws.{TriesPin}
+use Rattle.std.proofs.lemmas.Bool.{cases_lt}
+use native.Mathlib.Decide.{ℕ_discrete}
+use mathlib.Core.Logic.{dite}
+use Rattle.pin_words.specs.declared.view.ReaderView.{ReaderView}
+use Rattle.pin_words.specs.Places.{place_of, descr_place}
+use Rattle.pin_words.specs.Verdicts.{verdict_of}
+use Rattle.pin_words.specs.Views.{M, IsReaders, reader_of, id_in, reader_looked, reader_got, reader_released, reader_noted}
+use Rattle.pin_words.specs.declared.view.View.{View}
+use Rattle.std.specs.Prelude.{IfSome, Ok}
+use mathlib.Core.Option.{none}
+use Rattle.atomic_table.specs.Table.{step}
+use Rattle.pin_core.specs.declared.descr.Descr.{Descr}
+use Rattle.pin_core.specs.Descrs as descr_code
+use Rattle.pin_words.specs.Stepped.{ReaderAt, StepsBy, with_reader, after_step, Stands, LoadStep, PinStep, ReleaseStep, DescrStep, Pinned, IsHold}
+use Rattle.pin_words.specs.Plays.{TellsReader, released}
+use Rattle.atomic_table.proofs.Lists.{set_here}
+use Rattle.pin_words.proofs.Steps.{in-list}
+use Rattle.pin_words.proofs.Calls.{go-means}
+use Rattle.pin_words.proofs.LawOfSteps.{law-load, law-pin, law-held, law-release, law-read}
+use Rattle.pin_words.proofs.Holdings.{got-held}
+
+pub load-step : (r : ReaderView) (s n : ℕ) → s < r.shape.slots → TellsReader r s n → LoadStep r s n
+load-step r s n inside t = let st = t.stands in record {
+  stands = st;
+  steps = subst (λ (z : ℕ). StepsBy r.shape st.world (Load r.number s) (after_step st.table (place_of s) z st.seat
+      (with_reader st.view (reader_looked r s z)))) st.found
+      (law-load r.shape st.table st.world st.seat s st.view r st.shown st.here inside);
+}
+
+pub pin-step : (r : ReaderView) (id : Id) (n : ℕ) → id.slot < r.shape.slots
+    → verdict_of r.shape.max_pins id (decoded n) ≡ Go → TellsReader r id.slot n → PinStep r id n
+pin-step r id n inside go t = let st = t.stands in let means = go-means r.shape.max_pins id (decoded n) go in record {
+  stands = st;
+  steps = subst (λ (g : ℕ). StepsBy r.shape st.world (Pin r.number id.slot (decoded n)) (after_step st.table
+      (place_of id.slot) (n + 1) st.seat
+      (with_reader st.view (reader_got r (record { slot = id.slot; generation = g }) n)))) means.1
+      (subst (λ (z : ℕ). StepsBy r.shape st.world (Pin r.number id.slot (decoded z)) (after_step st.table
+      (place_of id.slot) (z + 1) st.seat (with_reader st.view (reader_got r (id_in id.slot z) z)))) st.found
+      (law-pin r.shape st.table st.world st.seat id.slot st.view r st.shown st.here inside
+      (ap (λ (z : ℕ). (decoded z).phase) st.found ∙ means.0)
+      (λ e. means.2 (ap (λ (z : ℕ). (decoded z).pins) (sym st.found) ∙ e))));
+}
+
+-- after an exchange that went through, the new copy is a hold
+pub hold-after : (r : ReaderView) (id : Id) (n : ℕ) → PinStep r id n → IsHold (reader_got r id n) id
+hold-after r id n p =
+    let st = p.stands in
+    let r' = reader_got r id n in
+    let v' = with_reader st.view r' in
+    let s' = after_step st.table (place_of id.slot) (n + 1) st.seat v' in
+    let here : ReaderAt s' st.seat v' r' = record {
+      seated = set_here st.table.views st.seat v' (in-list st.table.views st.seat st.view st.here.seated);
+      part = refl;
+    } in
+    let have : 0 < tally (same_id id) r'.held = got-held id r.held in
+    let stays = law-held r.shape s' _ st.seat v' r' id (tally (same_id id) r'.held) p.steps.shown here (omega arith)
+    (omega arith) in record {
+      table = s';
+      world = _;
+      seat = st.seat;
+      view = v';
+      shown = p.steps.shown;
+      safe = p.steps.shown.safe;
+      here = here;
+      hold = stays.0;
+      stays = stays.1;
+    }
+
+pub release-step : (r : ReaderView) (id : Id) (n : ℕ) → 0 < tally (same_id id) r.held → TellsReader r id.slot n
+    → ReleaseStep r id
+release-step r id n have t = let st = t.stands in (
+  n,
+  record {
+    stands = st;
+    steps = subst (λ (z : ℕ). StepsBy r.shape st.world (Release r.number id) (after_step st.table (place_of id.slot)
+        (z - 1) st.seat (with_reader st.view (reader_released r id)))) st.found
+        (law-release r.shape st.table st.world st.seat st.view r id st.shown st.here have);
+  },
+)
+
+pub released-step : (n p : ℕ) (m m' : M) (id : Id) → p ≡ place_of id.slot → IsReaders m
+    → released (step 0 p 1 0 none) m n m' → 0 < tally (same_id id) (reader_of m.0).held
+    → ReleaseStep (reader_of m.0) id
+released-step n p m m' id at reads does have = release-step (reader_of m.0) id n have
+    (subst (λ (v : View). IfSome v.reader (λ r. TellsReader r id.slot n)) (ap (λ (z : M). z.0) reads)
+    (does id.slot at).1)
+
+pub descr-step : (r : ReaderView) (id : Id) (n : ℕ) (d : Descr) → 0 < tally (same_id id) r.held
+    → descr_code.decoded n ≡ Some d → Stands r (descr_place id.slot) n → DescrStep r id d
+descr-step r id n d have is st = (
+  n,
+  record {
+    stands = st;
+    steps = subst (λ (z : ℕ). StepsBy r.shape st.world (ReadDescr r.number id d) (after_step st.table
+        (descr_place id.slot) z st.seat (with_reader st.view (reader_noted r id d)))) st.found
+        (law-read r.shape st.table st.world st.seat st.view r id d st.shown st.here have
+        (ap descr_code.decoded st.found ∙ is));
+  },
+)
+
+pub pinned-held : (r r' : ReaderView) (id : Id) → Pinned r id r' → IsHold r' id
+pinned-held r r' id p = subst (λ (z : ReaderView). IsHold z id) (sym p.now)
+    (hold-after (reader_looked r id.slot p.word_found) id p.word_found p.pins)
+
+pub tries-pin : TriesPin
+tries-pin r r' id t = let did = both in (did, pinned-held r r' id did)
+  where
+    answer : id.slot < r.shape.slots → (v : Verdict) (n : ℕ) → verdict_of r.shape.max_pins id (decoded n) ≡ v
+        → TellsReader r id.slot n → FollowsLook v r id n (Ok tt) r' → Pinned r id r'
+    answer inside Unborn n is told a = absurd (let e = a.0 in cc)
+    answer inside Stale n is told a = absurd (let e = a.0 in cc)
+    answer inside PinsFull n is told a = absurd (let e = a.0 in cc)
+    answer inside Go n is told a = dite (ℕ_discrete a.0 n)
+        (λ same. record {
+          word_found = n;
+          loads = load-step r id.slot n inside told;
+          pins = pin-step (reader_looked r id.slot n) id n inside is
+              (subst (λ (z : ℕ). TellsReader (reader_looked r id.slot n) id.slot z) same a.1);
+          now = (a.2 same).1 ∙ ap (λ (z : ℕ). reader_got (reader_looked r id.slot n) id z) same;
+        })
+        (λ other. absurd (let e = (a.3 other).0 in cc))
+
+    both : Pinned r id r'
+    both = ⊎_elim
+        (λ (inside : id.slot < r.shape.slots). ⊎_elim
+        (λ (room : length r.held < 16). let tried = t.tried inside room in
+        answer inside (verdict_of r.shape.max_pins id (decoded tried.0)) tried.0 refl tried.1 tried.2)
+        (λ (full : 16 ≤ length r.held). absurd (let e = (t.full inside full).0 in cc))
+        (cases_lt (length r.held) 16))
+        (λ (out : r.shape.slots ≤ id.slot). absurd (let e = (t.no_slot out).0 in cc))
+        (cases_lt id.slot r.shape.slots)
