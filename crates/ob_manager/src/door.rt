@@ -18,7 +18,9 @@ use std::convert::AsSlice;
 
 impl<K: PinKeeper> Manager<K> {
     /// Makes a call, whose name and handles may be borrowed. A refusal is an error.
-    // A call is a row: the layout is by hand.
+    // A call is a row: the layout is by hand. Six of the functions are always inlined, here and so in whoever names a
+    // call (`wait`, `wait_result`, `set_event`, `reset_event`, `release_semaphore`, `set_timer`): they are short, and
+    // would else have a frame each, and a reply that goes through memory.
     #[inline(always)]
     #[rattlefmt::skip]
     pub fn try_call<M: AsMake, T: AsSlice<u8>, H: AsSlice<u32>>(

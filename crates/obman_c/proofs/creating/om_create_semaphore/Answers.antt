@@ -1,4 +1,3 @@
-use Rattle.std.proofs.Common.{subst}
 use Rattle.std.proofs.Math.Facts.{to_z-of_z}
 use Rattle.ob_manager.specs.declared.call.CallOf.TheVariants as calls
 use Rattle.obman_c.proofs.Told.{made_as, tells_as}
