@@ -25,7 +25,15 @@ pub fn reply_to(
     ensures table { reader.new.table ≡ reader.old.table }
 {
     manager.kept();
-    let reply = manager.ask(ask, handles);
+    let reply = match ask {
+        LineCall::WaitFor {
+            thread,
+            mode,
+            timeout,
+            handles: _,
+        } => manager.wait(*thread, *mode, *timeout, handles),
+        _ => manager.call(ask),
+    };
     if let LineCall::Reap { slot } = ask {
         meet_at(manager, reader, *slot);
     }

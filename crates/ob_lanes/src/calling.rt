@@ -31,7 +31,7 @@ fn call_of(alloc: Global, ask: LineCall<'_>, handles: &[u32]) -> Result<Call, Al
             thread,
             mode,
             timeout,
-            handles: (),
+            handles: _,
         } => Ok(Call::WaitFor {
             thread,
             mode,

@@ -1,5 +1,5 @@
 -- A call, whose name and handles are lists, and the same call with other parts.
-use Rattle.std.specs.Prelude.{ℕ, Bool, false, true, List, []}
+use Rattle.std.specs.Prelude.{ℕ, Bool, false, true, List}
 use Rattle.ob_manager.specs.declared.call.CallOf.{CallOf}
 use Rattle.ob_manager.specs.declared.call.CallOf.TheVariants as calls
 use Rattle.ob_manager.specs.Makings.{Making}
@@ -20,11 +20,6 @@ is_plain call = true
 abbrev pub is_wait : {M T H : Type 0} → CallOf M T H → Bool
 is_wait (calls.WaitFor thread mode timeout handles) = true
 is_wait call = false
-
--- the handles of a wait, none of another call
-abbrev pub wait_handles : Call → List ℕ
-wait_handles (calls.WaitFor thread mode timeout handles) = handles
-wait_handles call = []
 
 -- what a create asks for, a name and a list of handles are these of those that the call had
 abbrev pub with_parts : {M T H N U G : Type 0} → (M → N) → (T → U) → (H → G) → CallOf M T H → CallOf N U G

@@ -1,5 +1,5 @@
 ghost use Rattle.std.specs.Prelude.{◌≡◌, ◌↔◌, ℕ, List, IfErr, IfOk, IsTrue, false, true};
-ghost use Rattle.ob_manager.specs.Calls.{wait_handles, is_plain, is_wait, with_parts};
+ghost use Rattle.ob_manager.specs.Calls.{is_plain, is_wait, with_parts};
 
 use crate::making::{AsMake, Make, Making, Text};
 use crate::waiting::{HandleList, Timeout};
@@ -432,16 +432,6 @@ impl Call {
         ensures { result ≡ self.now }
     {
         self.plain()
-    }
-
-    /// The handles of a wait; none of another call.
-    pub fn handles(&self) -> &[u32]
-        ensures { result.now ≡ wait_handles self.now }
-    {
-        match self {
-            Call::WaitFor { handles, .. } => handles.as_slice(),
-            _ => &[],
-        }
     }
 
     /// Whether it is the same call, with the same arguments.

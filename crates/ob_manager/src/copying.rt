@@ -10,7 +10,7 @@ ghost use Rattle.ob_manager.specs.Steps.{Copies, Duplicates};
 
 use crate::checks::{caller, found};
 use crate::creating::flags_of;
-use crate::manager::reply_of;
+use crate::door::reply_of;
 use crate::reply::Reply;
 use ob_rights::{Fault, Rights, within};
 use ob_store::Store;

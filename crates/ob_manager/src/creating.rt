@@ -20,7 +20,7 @@ ghost use Rattle.ob_manager.specs.Outcomes.{Refuses};
 ghost use Rattle.ob_manager.specs.Steps.{GivesOrLacks};
 
 use crate::checks::{caller, is_allowed, natural, positive, same_kind};
-use crate::making::Make;
+use crate::making::{AsMake, Make};
 use crate::reply::Reply;
 use ob_body::Body;
 use ob_name::{NameRef, parse};
@@ -320,56 +320,56 @@ fn create<K: PinKeeper>(
 }
 
 /// Makes a new event, or a handle to the event that has the name already.
-pub fn create_event<K: PinKeeper>(
+pub fn create_event<K: PinKeeper, M: AsMake>(
     store: &mut Store<K>,
     thread: u32,
-    make: &Make<'_>,
+    make: &M,
     manual: bool,
     set: bool,
 ) -> Result<Reply, Fault>
     ensures { GivesOrLacks result store.old store.new
-        (create_event store.old.state thread (making_of make.now) manual set) }
+        (create_event store.old.state thread (M.making make.now) manual set) }
 {
-    create(store, thread, make, Ok(new_event(manual, set)))
+    create(store, thread, &make.as_make(), Ok(new_event(manual, set)))
 }
 
 /// Makes a new mutex, or a handle to the mutex that has the name already.
-pub fn create_mutex<K: PinKeeper>(
+pub fn create_mutex<K: PinKeeper, M: AsMake>(
     store: &mut Store<K>,
     thread: u32,
-    make: &Make<'_>,
+    make: &M,
     owned: bool,
 ) -> Result<Reply, Fault>
-    ensures { GivesOrLacks result store.old store.new (create_mutex store.old.state thread (making_of make.now) owned) }
+    ensures { GivesOrLacks result store.old store.new (create_mutex store.old.state thread (M.making make.now) owned) }
 {
-    create(store, thread, make, Ok(new_mutex(thread, owned)))
+    create(store, thread, &make.as_make(), Ok(new_mutex(thread, owned)))
 }
 
 /// Makes a new semaphore, or a handle to the semaphore that has the name already.
-pub fn create_semaphore<K: PinKeeper>(
+pub fn create_semaphore<K: PinKeeper, M: AsMake>(
     store: &mut Store<K>,
     thread: u32,
-    make: &Make<'_>,
+    make: &M,
     initial: i32,
     max: i32,
 ) -> Result<Reply, Fault>
     ensures { GivesOrLacks result store.old store.new
-        (create_semaphore store.old.state thread (making_of make.now) initial max) }
+        (create_semaphore store.old.state thread (M.making make.now) initial max) }
 {
-    create(store, thread, make, new_semaphore(initial, max))
+    create(store, thread, &make.as_make(), new_semaphore(initial, max))
 }
 
 /// Makes a new timer, or a handle to the timer that has the name already.
-pub fn create_timer<K: PinKeeper>(
+pub fn create_timer<K: PinKeeper, M: AsMake>(
     store: &mut Store<K>,
     thread: u32,
-    make: &Make<'_>,
+    make: &M,
     manual: bool,
 ) -> Result<Reply, Fault>
     ensures { GivesOrLacks result store.old store.new
-        (create_timer store.old.state thread (making_of make.now) manual) }
+        (create_timer store.old.state thread (M.making make.now) manual) }
 {
-    create(store, thread, make, Ok(new_timer(manual)))
+    create(store, thread, &make.as_make(), Ok(new_timer(manual)))
 }
 
 /// Makes a handle to the object of a name.

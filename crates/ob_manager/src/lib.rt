@@ -24,6 +24,7 @@ mod children;
 mod copying;
 mod counting;
 mod creating;
+mod door;
 mod ending;
 mod handles;
 mod law;

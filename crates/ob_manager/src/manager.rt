@@ -9,23 +9,20 @@ ghost use Rattle.ob_store.specs.Objects.{object_of, tag_of};
 ghost use Rattle.ob_store.specs.State.{blocks_of, handles_of, hold_of, opening, shape_of};
 ghost use Rattle.ob_store.specs.Stored.{MatchesState, hold_in};
 ghost use Rattle.ob_manager.specs.declared.call.CallOf.TheVariants as calls;
-ghost use Rattle.ob_manager.specs.Calls.{with_parts};
 ghost use Rattle.ob_manager.specs.Makings.{making_of};
 ghost use Rattle.ob_manager.specs.Counting.{card};
 ghost use Rattle.ob_manager.specs.Handles.{resolve};
-ghost use Rattle.ob_manager.specs.Reaping.{IfReap, IfReaped};
+ghost use Rattle.ob_manager.specs.Reaping.{IfReaped};
 ghost use Rattle.ob_waits.specs.Waits as waits;
-ghost use Rattle.ob_manager.specs.Steps.{Step, reply_of};
+ghost use Rattle.ob_manager.specs.Steps.{Step};
 
-use crate::call::{Call, CallOf};
+use crate::call::Ask;
 use crate::card::Card;
-use crate::making::{AsMake, Make};
+use crate::door::reply_of;
+use crate::making::Make;
 use crate::reply::Reply;
 use crate::waiting::Timeout;
-use crate::{
-    children, copying, counting, creating, ending, handles, processes, reaping, signaling, timing,
-    waiting,
-};
+use crate::{counting, handles, waiting};
 use ob_name::{NameRef, Rows};
 use ob_rights::{Fault, Kind, Rights};
 use ob_store::{Found, Limits, Store, Stored};
@@ -33,7 +30,6 @@ use ob_waits::Mode;
 use pin_core::Id;
 use pin_words::PinKeeper;
 use std::alloc::Global;
-use std::convert::AsSlice;
 use std::marker::Model;
 
 /// The object manager, over a keeper of its slots. A contract sees it as its state (`State` of ob_store) and what its
@@ -118,7 +114,7 @@ impl<K: PinKeeper> Manager<K> {
     pub fn spawn(&mut self, session: u32) -> Reply
         ensures { Step self.old (calls.Spawn session) result self.new }
     {
-        reply_of(processes::spawn(&mut self.store, session))
+        self.call(&Ask::Spawn { session })
     }
 
     /// A new process of the session of the thread's process, with its first thread: `Spawned`. With `inherit` it has
@@ -133,7 +129,7 @@ impl<K: PinKeeper> Manager<K> {
     pub fn child(&mut self, thread: u32, inherit: bool) -> Reply
         ensures { Step self.old (calls.Child thread inherit) result self.new }
     {
-        reply_of(children::child(&mut self.store, thread, inherit))
+        self.call(&Ask::Child { thread, inherit })
     }
 
     /// A new thread of a process: `Started`.
@@ -143,7 +139,7 @@ impl<K: PinKeeper> Manager<K> {
     pub fn thread(&mut self, process: u32) -> Reply
         ensures { Step self.old (calls.StartThread process) result self.new }
     {
-        reply_of(processes::thread(&mut self.store, process))
+        self.call(&Ask::StartThread { process })
     }
 
     /// A new event, in the least slot that may have one, and a handle to it at the least free value: `Made`. Where an
@@ -158,7 +154,13 @@ impl<K: PinKeeper> Manager<K> {
     pub fn create_event(&mut self, thread: u32, make: &Make<'_>, manual: bool, set: bool) -> Reply
         ensures { Step self.old (calls.MakeEvent thread (making_of make.now) manual set) result self.new }
     {
-        reply_of(creating::create_event(&mut self.store, thread, make, manual, set))
+        let make = *make;
+        self.call(&Ask::MakeEvent {
+            thread,
+            make,
+            manual,
+            set,
+        })
     }
 
     /// A new mutex, which the calling thread owns once or nobody, as [`create_event`](Manager::create_event) makes an
@@ -168,7 +170,12 @@ impl<K: PinKeeper> Manager<K> {
     pub fn create_mutex(&mut self, thread: u32, make: &Make<'_>, owned: bool) -> Reply
         ensures { Step self.old (calls.MakeMutex thread (making_of make.now) owned) result self.new }
     {
-        reply_of(creating::create_mutex(&mut self.store, thread, make, owned))
+        let make = *make;
+        self.call(&Ask::MakeMutex {
+            thread,
+            make,
+            owned,
+        })
     }
 
     /// A new semaphore, as [`create_event`](Manager::create_event) makes an event ([CreateSemaphore]).
@@ -186,7 +193,13 @@ impl<K: PinKeeper> Manager<K> {
     ) -> Reply
         ensures { Step self.old (calls.MakeSemaphore thread (making_of make.now) initial max) result self.new }
     {
-        reply_of(creating::create_semaphore(&mut self.store, thread, make, initial, max))
+        let make = *make;
+        self.call(&Ask::MakeSemaphore {
+            thread,
+            make,
+            initial,
+            max,
+        })
     }
 
     /// A new timer, which isn't signaled and isn't set, as [`create_event`](Manager::create_event) makes an event
@@ -197,7 +210,12 @@ impl<K: PinKeeper> Manager<K> {
     pub fn create_timer(&mut self, thread: u32, make: &Make<'_>, manual: bool) -> Reply
         ensures { Step self.old (calls.MakeTimer thread (making_of make.now) manual) result self.new }
     {
-        reply_of(creating::create_timer(&mut self.store, thread, make, manual))
+        let make = *make;
+        self.call(&Ask::MakeTimer {
+            thread,
+            make,
+            manual,
+        })
     }
 
     /// A handle to the object of a name: `Opened` ([OpenEvent]).
@@ -218,7 +236,13 @@ impl<K: PinKeeper> Manager<K> {
     ) -> Reply
         ensures { Step self.old (calls.OpenNamed thread kind mask inherit text.now) result self.new }
     {
-        reply_of(creating::open_named(&mut self.store, thread, kind, mask, inherit, text))
+        self.call(&Ask::OpenNamed {
+            thread,
+            kind,
+            mask,
+            inherit,
+            text,
+        })
     }
 
     /// A handle of the process `target` to what a handle of the process `source` names: `Duplicated`
@@ -249,8 +273,7 @@ impl<K: PinKeeper> Manager<K> {
     ) -> Reply
         ensures { Step self.old (calls.Duplicate thread source handle target mask inherit options) result self.new }
     {
-        reply_of(copying::duplicate(
-            &mut self.store,
+        self.call(&Ask::Duplicate {
             thread,
             source,
             handle,
@@ -258,7 +281,7 @@ impl<K: PinKeeper> Manager<K> {
             mask,
             inherit,
             options,
-        ))
+        })
     }
 
     /// Closes a handle of the thread's process, whose two lowest bits are ignored (*profile*): `Closed`. With its last
@@ -271,7 +294,7 @@ impl<K: PinKeeper> Manager<K> {
     pub fn close(&mut self, thread: u32, handle: u32) -> Reply
         ensures { Step self.old (calls.CloseHandle thread handle) result self.new }
     {
-        reply_of(handles::close(&mut self.store, thread, handle))
+        self.call(&Ask::CloseHandle { thread, handle })
     }
 
     /// The flags of a handle: `Flags` ([GetHandleInformation]).
@@ -298,7 +321,12 @@ impl<K: PinKeeper> Manager<K> {
     pub fn set_handle_flags(&mut self, thread: u32, handle: u32, mask: u32, flags: u32) -> Reply
         ensures { Step self.old (calls.SetFlags thread handle mask flags) result self.new }
     {
-        reply_of(handles::set_handle_flags(&mut self.store, thread, handle, mask, flags))
+        self.call(&Ask::SetFlags {
+            thread,
+            handle,
+            mask,
+            flags,
+        })
     }
 
     /// Sets an event, and lets what waits for it be satisfied: `Done` ([SetEvent]).
@@ -310,7 +338,7 @@ impl<K: PinKeeper> Manager<K> {
     pub fn set_event(&mut self, thread: u32, handle: u32) -> Reply
         ensures { Step self.old (calls.SetEvent thread handle) result self.new }
     {
-        reply_of(signaling::set_event(&mut self.store, thread, handle))
+        self.call(&Ask::SetEvent { thread, handle })
     }
 
     /// Resets an event: `Done` ([ResetEvent]). It is refused as [`set_event`](Manager::set_event) is.
@@ -319,7 +347,7 @@ impl<K: PinKeeper> Manager<K> {
     pub fn reset_event(&mut self, thread: u32, handle: u32) -> Reply
         ensures { Step self.old (calls.ResetEvent thread handle) result self.new }
     {
-        reply_of(signaling::reset_event(&mut self.store, thread, handle))
+        self.call(&Ask::ResetEvent { thread, handle })
     }
 
     /// Raises a semaphore's count: `Previous`, with the count before ([ReleaseSemaphore]).
@@ -332,7 +360,11 @@ impl<K: PinKeeper> Manager<K> {
     pub fn release_semaphore(&mut self, thread: u32, handle: u32, count: i32) -> Reply
         ensures { Step self.old (calls.ReleaseSemaphore thread handle count) result self.new }
     {
-        reply_of(signaling::release_semaphore(&mut self.store, thread, handle, count))
+        self.call(&Ask::ReleaseSemaphore {
+            thread,
+            handle,
+            count,
+        })
     }
 
     /// Releases a mutex once: `Done` ([ReleaseMutex]). It needs no right (*profile*).
@@ -344,7 +376,7 @@ impl<K: PinKeeper> Manager<K> {
     pub fn release_mutex(&mut self, thread: u32, handle: u32) -> Reply
         ensures { Step self.old (calls.ReleaseMutex thread handle) result self.new }
     {
-        reply_of(signaling::release_mutex(&mut self.store, thread, handle))
+        self.call(&Ask::ReleaseMutex { thread, handle })
     }
 
     /// Sets a timer: `Done` ([SetWaitableTimer]). `due` is a moment in units of 100 ns, or below 0 so many units from
@@ -358,7 +390,11 @@ impl<K: PinKeeper> Manager<K> {
     pub fn set_timer(&mut self, thread: u32, handle: u32, due: i64) -> Reply
         ensures { Step self.old (calls.SetTimer thread handle due) result self.new }
     {
-        reply_of(timing::set_timer(&mut self.store, thread, handle, due))
+        self.call(&Ask::SetTimer {
+            thread,
+            handle,
+            due,
+        })
     }
 
     /// Takes a timer's due moment away; it stays as signaled as it is: `Done` ([CancelWaitableTimer]). It is refused as
@@ -368,7 +404,7 @@ impl<K: PinKeeper> Manager<K> {
     pub fn cancel_timer(&mut self, thread: u32, handle: u32) -> Reply
         ensures { Step self.old (calls.CancelTimer thread handle) result self.new }
     {
-        reply_of(timing::cancel_timer(&mut self.store, thread, handle))
+        self.call(&Ask::CancelTimer { thread, handle })
     }
 
     /// It is the moment `now`, in units of 100 ns from 0: `Ticked` (*profile*). Each timer that is due becomes
@@ -381,7 +417,7 @@ impl<K: PinKeeper> Manager<K> {
     pub fn tick(&mut self, now: u64) -> Reply
         ensures { Step self.old (calls.Tick now) result self.new }
     {
-        reply_of(timing::tick(&mut self.store, now))
+        self.call(&Ask::Tick { now })
     }
 
     /// Waits for any or all of 1 to 64 objects ([WaitForMultipleObjects]): `Code` where the wait is satisfied at once,
@@ -400,7 +436,12 @@ impl<K: PinKeeper> Manager<K> {
     pub fn wait(&mut self, thread: u32, mode: Mode, timeout: Timeout, handles: &[u32]) -> Reply
         ensures { Step self.old (calls.WaitFor thread mode timeout handles.now) result self.new }
     {
-        reply_of(waiting::wait(&mut self.store, thread, mode, timeout, handles))
+        self.call(&Ask::WaitFor {
+            thread,
+            mode,
+            timeout,
+            handles,
+        })
     }
 
     /// Takes the code of an answered wait: `Code`. The wait is then over, and its thread may wait again. Where the wait
@@ -410,7 +451,7 @@ impl<K: PinKeeper> Manager<K> {
     pub fn wait_result(&mut self, wait: u32) -> Reply
         ensures { Step self.old (calls.WaitResult wait) result self.new }
     {
-        reply_of(waiting::wait_result(&mut self.store, wait))
+        self.call(&Ask::WaitResult { wait })
     }
 
     /// Ends a pending wait as if its time were up: `Expired`, and the wait's code is 258 (*profile*).
@@ -419,7 +460,7 @@ impl<K: PinKeeper> Manager<K> {
     pub fn expire(&mut self, wait: u32) -> Reply
         ensures { Step self.old (calls.Expire wait) result self.new }
     {
-        reply_of(waiting::expire(&mut self.store, wait))
+        self.call(&Ask::Expire { wait })
     }
 
     /// Whether a wait is pending.
@@ -439,7 +480,7 @@ impl<K: PinKeeper> Manager<K> {
     pub fn end_thread(&mut self, thread: u32) -> Reply
         ensures { Step self.old (calls.EndThread thread) result self.new }
     {
-        reply_of(ending::end_thread(&mut self.store, thread))
+        self.call(&Ask::EndThread { thread })
     }
 
     /// Ends a process: `Exited`. Its threads end by rising number, as by [`end_thread`](Manager::end_thread), then its
@@ -452,7 +493,7 @@ impl<K: PinKeeper> Manager<K> {
     pub fn exit(&mut self, process: u32) -> Reply
         ensures { Step self.old (calls.Exit process) result self.new }
     {
-        reply_of(ending::exit(&mut self.store, process))
+        self.call(&Ask::Exit { process })
     }
 
     /// Takes the slot of an object that nothing refers to back, unless somebody pins it: `Reaped` (*profile*).
@@ -462,7 +503,7 @@ impl<K: PinKeeper> Manager<K> {
         ensures step { Step self.old (calls.Reap slot) result self.new }
         ensures exact { IfReaped result (λ outcome. K.reclaims self.old.keeper slot outcome self.new.keeper) }
     {
-        reply_of(reaping::reap(&mut self.store, slot))
+        self.call(&Ask::Reap { slot })
     }
 
     /// What refers to an object: `CountsAre` (*profile*).
@@ -521,181 +562,5 @@ impl<K: PinKeeper> Manager<K> {
         ensures { result ≡ directory_of self.now.state }
     {
         self.store.rows()
-    }
-
-    /// Makes a call.
-    pub fn apply(&mut self, call: &Call) -> Reply
-        ensures step { Step self.old call.now result self.new }
-        ensures exact { IfReap call.now (λ slot. IfReaped result
-            (λ outcome. K.reclaims self.old.keeper slot outcome self.new.keeper)) }
-    {
-        self.ask(call, call.handles())
-    }
-
-    /// [`Manager::create_event`] by the parts of a call.
-    // Here and in the next three: what is made to be lent has a place that is cleared where its function begins. In
-    // `ask`, of which these are parts, four such places would be cleared at each call, and not at a create alone.
-    #[inline(always)]
-    fn ask_event<M: AsMake>(&mut self, thread: u32, make: &M, manual: bool, set: bool) -> Reply
-        ensures { Step self.old (calls.MakeEvent thread (M.making make.now) manual set) result self.new }
-    {
-        self.create_event(thread, &make.as_make(), manual, set)
-    }
-
-    /// [`Manager::create_mutex`] by the parts of a call.
-    #[inline(always)]
-    fn ask_mutex<M: AsMake>(&mut self, thread: u32, make: &M, owned: bool) -> Reply
-        ensures { Step self.old (calls.MakeMutex thread (M.making make.now) owned) result self.new }
-    {
-        self.create_mutex(thread, &make.as_make(), owned)
-    }
-
-    /// [`Manager::create_semaphore`] by the parts of a call.
-    #[inline(always)]
-    fn ask_semaphore<M: AsMake>(&mut self, thread: u32, make: &M, initial: i32, max: i32) -> Reply
-        ensures { Step self.old (calls.MakeSemaphore thread (M.making make.now) initial max) result self.new }
-    {
-        self.create_semaphore(thread, &make.as_make(), initial, max)
-    }
-
-    /// [`Manager::create_timer`] by the parts of a call.
-    #[inline(always)]
-    fn ask_timer<M: AsMake>(&mut self, thread: u32, make: &M, manual: bool) -> Reply
-        ensures { Step self.old (calls.MakeTimer thread (M.making make.now) manual) result self.new }
-    {
-        self.create_timer(thread, &make.as_make(), manual)
-    }
-
-    /// Makes a call whose name may be borrowed. The handles of a wait are `handles`, whatever stands in their place in
-    /// the call; for another call they aren't read.
-    #[inline(always)]
-    pub fn ask<M: AsMake, T: AsSlice<u8>, H>(
-        &mut self,
-        call: &CallOf<M, T, H>,
-        handles: &[u32],
-    ) -> Reply
-        ensures step { Step self.old (with_parts M.making T.items (λ _. handles.now) call.now) result self.new }
-        ensures exact { IfReap call.now (λ slot. IfReaped result
-            (λ outcome. K.reclaims self.old.keeper slot outcome self.new.keeper)) }
-    {
-        match call {
-            CallOf::Spawn { session } => self.spawn(*session),
-            CallOf::Child { thread, inherit } => self.child(*thread, *inherit),
-            CallOf::StartThread { process } => self.thread(*process),
-            CallOf::MakeEvent {
-                thread,
-                make,
-                manual,
-                set,
-            } => self.ask_event(*thread, make, *manual, *set),
-            CallOf::MakeMutex {
-                thread,
-                make,
-                owned,
-            } => self.ask_mutex(*thread, make, *owned),
-            CallOf::MakeSemaphore {
-                thread,
-                make,
-                initial,
-                max,
-            } => self.ask_semaphore(*thread, make, *initial, *max),
-            CallOf::MakeTimer {
-                thread,
-                make,
-                manual,
-            } => self.ask_timer(*thread, make, *manual),
-            CallOf::OpenNamed {
-                thread,
-                kind,
-                mask,
-                inherit,
-                text,
-            } => self.open_named(*thread, *kind, *mask, *inherit, text.as_slice()),
-            CallOf::Duplicate {
-                thread,
-                source,
-                handle,
-                target,
-                mask,
-                inherit,
-                options,
-            } => self.duplicate(
-                *thread, *source, *handle, *target, *mask, *inherit, *options,
-            ),
-            CallOf::CloseHandle { thread, handle } => self.close(*thread, *handle),
-            CallOf::GetFlags { thread, handle } => self.handle_flags(*thread, *handle),
-            CallOf::SetFlags {
-                thread,
-                handle,
-                mask,
-                flags,
-            } => self.set_handle_flags(*thread, *handle, *mask, *flags),
-            CallOf::SetEvent { thread, handle } => self.set_event(*thread, *handle),
-            CallOf::ResetEvent { thread, handle } => self.reset_event(*thread, *handle),
-            CallOf::ReleaseSemaphore {
-                thread,
-                handle,
-                count,
-            } => self.release_semaphore(*thread, *handle, *count),
-            CallOf::ReleaseMutex { thread, handle } => self.release_mutex(*thread, *handle),
-            CallOf::SetTimer {
-                thread,
-                handle,
-                due,
-            } => self.set_timer(*thread, *handle, *due),
-            CallOf::CancelTimer { thread, handle } => self.cancel_timer(*thread, *handle),
-            CallOf::Tick { now } => self.tick(*now),
-            CallOf::WaitFor {
-                thread,
-                mode,
-                timeout,
-                handles: _,
-            } => self.wait(*thread, *mode, *timeout, handles),
-            CallOf::WaitResult { wait } => self.wait_result(*wait),
-            CallOf::Expire { wait } => self.expire(*wait),
-            CallOf::EndThread { thread } => self.end_thread(*thread),
-            CallOf::Exit { process } => self.exit(*process),
-            CallOf::Reap { slot } => self.reap(*slot),
-            CallOf::Counts { id } => self.counts(*id),
-        }
-    }
-}
-
-/// The reply that a call's function comes to.
-// It names the parts of most replies, so that these are handed over one by one, and not as bytes that were just written
-// in parts. `Flags` and `Reaped` are handed over whole.
-#[inline(always)]
-pub(crate) fn reply_of(answer: Result<Reply, Fault>) -> Reply
-    ensures { result ≡ reply_of answer }
-{
-    match answer {
-        Ok(Reply::Spawned { process, thread }) => Reply::Spawned { process, thread },
-        Ok(Reply::Started { thread }) => Reply::Started { thread },
-        Ok(Reply::Made { handle, id }) => Reply::Made { handle, id },
-        Ok(Reply::Exists { handle, id }) => Reply::Exists { handle, id },
-        Ok(Reply::Opened { handle, id }) => Reply::Opened { handle, id },
-        Ok(Reply::Duplicated { handle, id }) => Reply::Duplicated { handle, id },
-        Ok(Reply::Closed) => Reply::Closed,
-        Ok(Reply::Done) => Reply::Done,
-        Ok(Reply::Previous { count }) => Reply::Previous { count },
-        Ok(Reply::Code { code }) => Reply::Code { code },
-        Ok(Reply::Pending { wait }) => Reply::Pending { wait },
-        Ok(Reply::Expired { wait }) => Reply::Expired { wait },
-        Ok(Reply::Ticked { now }) => Reply::Ticked { now },
-        Ok(Reply::Ended { thread }) => Reply::Ended { thread },
-        Ok(Reply::Exited { process }) => Reply::Exited { process },
-        Ok(
-            Reply::CountsAre {
-                handles,
-                waits,
-                hold,
-            },
-        ) => Reply::CountsAre {
-            handles,
-            waits,
-            hold,
-        },
-        Ok(reply) => reply,
-        Err(fault) => Reply::Refused(fault),
     }
 }

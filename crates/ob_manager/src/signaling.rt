@@ -8,6 +8,7 @@ use ob_store::Store;
 use pin_words::PinKeeper;
 
 /// Sets an event.
+#[inline(always)]
 pub fn set_event<K: PinKeeper>(
     store: &mut Store<K>,
     thread: u32,
@@ -24,6 +25,7 @@ pub fn set_event<K: PinKeeper>(
 }
 
 /// Resets an event.
+#[inline(always)]
 pub fn reset_event<K: PinKeeper>(
     store: &mut Store<K>,
     thread: u32,
@@ -40,6 +42,7 @@ pub fn reset_event<K: PinKeeper>(
 }
 
 /// Raises a semaphore's count.
+#[inline(always)]
 pub fn release_semaphore<K: PinKeeper>(
     store: &mut Store<K>,
     thread: u32,

@@ -20,6 +20,7 @@ fn moment_of(now: u64, due: i64) -> u64
 }
 
 /// Sets a timer.
+#[inline(always)]
 pub fn set_timer<K: PinKeeper>(
     store: &mut Store<K>,
     thread: u32,

@@ -357,6 +357,7 @@ fn wait_for_some<K: PinKeeper>(
 }
 
 /// Has a thread wait for the objects of handles.
+#[inline(always)]
 pub fn wait<K: PinKeeper>(
     store: &mut Store<K>,
     thread: u32,
@@ -376,6 +377,7 @@ pub fn wait<K: PinKeeper>(
 }
 
 /// Takes the code of a wait that was answered.
+#[inline(always)]
 pub fn wait_result<K: PinKeeper>(store: &mut Store<K>, wait: u32) -> Result<Reply, Fault>
     ensures { Gives result store.old store.new (wait_result store.old.state wait) }
 {

@@ -20,7 +20,7 @@ pub data Act : Type 0 where
   ShowCard : Id → Act  -- what the object of a held Id was created as
 
 -- which call it is, with its name as a list, and with the handles that stand beside it
-abbrev pub call_in : List ℕ → CallOf Make (Bor (List ℕ)) (Unit {0}) → Call
+abbrev pub call_in : List ℕ → CallOf Make (Bor (List ℕ)) (List ℕ) → Call
 call_in handles = with_parts making_of (λ text. text.now) (λ _. handles)
 
 abbrev pub act_in : List ℕ → Read → Act

@@ -22,7 +22,7 @@ pub enum Act<'a> {
 }
 
 /// A call with names as they stand in the line. The handles of a wait stand beside it, in a list ([`Handles`]).
-pub type LineCall<'a> = CallOf<Make<'a>, &'a [u8], ()>;
+pub type LineCall<'a> = CallOf<Make<'a>, &'a [u8], [u32; 0]>;
 
 /// The handles of a wait; of more than 65 the first 65, since a wait for more than 64 is refused, whichever they are.
 /// One list is lent for all lines: a new one for each would have to be cleared first.

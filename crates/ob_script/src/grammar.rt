@@ -493,7 +493,7 @@ fn wait_of<'a>(mut words: Words<'a>, handles: &mut Handles) -> Act<'a>
         thread,
         mode,
         timeout,
-        handles: (),
+        handles: [],
     })
 }
 

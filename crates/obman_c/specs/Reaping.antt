@@ -2,38 +2,22 @@
 use Rattle.std.specs.Prelude.{◌≡◌, ◌+◌, ◌<◌, ◌≤◌, ℕ, List, Some, None, drop, take, length}
 use Rattle.least_free.specs.From.{IsLeastFrom}
 use Rattle.pin_core.specs.declared.id.Id.{Id}
-use Rattle.pin_words.specs.Keepers.{ReclaimsFound}
 use Rattle.pin_words.specs.declared.pin_keeper.Reclaim.{Reclaim}
 use Rattle.ob_store.specs.Closing.{is_closing_at}
 use Rattle.ob_manager.specs.declared.call.CallOf.TheVariants as calls
-use Rattle.ob_manager.specs.declared.reply.Reply.{Reply}
 use Rattle.ob_manager.specs.declared.reply.Reply.TheVariants.{Reaped}
-use Rattle.ob_manager.specs.Reaping.{IfReaped}
-use Rattle.ob_manager.specs.Steps.{Step}
 use Rattle.obman_c_base.specs.declared.owned.OwnedManager.{OwnedManager}
 use Rattle.obman_c.specs.declared.values.Reaping.{Reaping}
 use Rattle.obman_c.specs.Chains.{Chain}
-use Rattle.obman_c.specs.Telling.{reaping_in, status_of}
-use Rattle.obman_c_base.specs.Noted.{IsNoted}
-
--- as any call, and the slot is held just by the pins that its word has, as the exchange found it
-pub record ReapsTold (slot : ℕ) (old : OwnedManager) (status : ℕ) (new : OwnedManager)
-    (before after : Reaping) : Type 0 where
-  pub reply : Reply
-  pub step : Step old.manager (calls.Reap slot) reply new.manager
-  pub exact : IfReaped reply (λ outcome. ReclaimsFound old.manager.keeper slot outcome new.manager.keeper)
-  pub told : status ≡ status_of reply
-  pub noted : IsNoted old.recorder (calls.Reap slot) reply new.recorder
-  pub value : after ≡ reaping_in reply before
+use Rattle.obman_c.specs.Telling.{reaping_in}
+use Rattle.obman_c_base.specs.Made.{Makes}
 
 -- the least slot, from one on, whose object has ended is reaped; the next is looked for behind it
 pub record ReapsNext (old : ℕ × OwnedManager) (told : Reaping) (new : ℕ × OwnedManager) : Type 0 where
   pub id : Id
   pub outcome : Reclaim
   pub least : IsLeastFrom old.0 (is_closing_at old.1.manager.state) (Some id.slot)
-  pub step : Step old.1.manager (calls.Reap id.slot) (Reaped id outcome) new.1.manager
-  pub exact : ReclaimsFound old.1.manager.keeper id.slot outcome new.1.manager.keeper
-  pub noted : IsNoted old.1.recorder (calls.Reap id.slot) (Reaped id outcome) new.1.recorder
+  pub made : Makes old.1 (calls.Reap id.slot) (Reaped id outcome) new.1
   pub value : told ≡ reaping_in (Reaped id outcome) told
   pub next : new.0 ≡ id.slot + 1
 

@@ -7,8 +7,7 @@ use Rattle.pin_words.specs.declared.pin_keeper.Reclaim.TheVariants.{Freed, Retir
 use Rattle.ob_manager.specs.Calls.{Call}
 use Rattle.ob_manager.specs.declared.reply.Reply.{Reply}
 use Rattle.ob_manager.specs.declared.reply.Reply.TheVariants.{Spawned, Started, Made, Exists, Opened, Duplicated, Closed, Done, Flags, Previous, Code, Pending, Expired, Ended, Exited, Reaped, CountsAre, Ticked, Refused}
-use Rattle.ob_manager.specs.Steps.{Step}
-use Rattle.obman_c_base.specs.Noted.{IsNoted}
+use Rattle.obman_c_base.specs.Made.{Makes}
 use Rattle.obman_c_base.specs.declared.owned.OwnedManager.{OwnedManager}
 use Rattle.obman_c.specs.declared.values.Member.{Member}
 use Rattle.obman_c.specs.declared.values.Object.{Object}
@@ -39,21 +38,18 @@ status_of (Reaped id outcome) = 0
 status_of (CountsAre handles waits hold) = 0
 status_of (Ticked now) = 0
 
--- From a state a call gives some reply and goes on as the manager does, this number is told of the reply, and where
--- calls are recorded this one is, with the reply.
+-- From a state a call is made, with some reply, and this number is told of the reply.
 pub record TellsStatus (old : OwnedManager) (call : Call) (status : ℕ) (new : OwnedManager) : Type 0 where
   pub reply : Reply
-  pub step : Step old.manager call reply new.manager
+  pub made : Makes old call reply new
   pub told : status ≡ status_of reply
-  pub noted : IsNoted old.recorder call reply new.recorder
 
 -- the same where a value is told too, over what stood at its place
 pub record TellsValue {V : Type 0} (value_of : Reply → V
     → V) (old : OwnedManager) (call : Call) (status : ℕ) (new : OwnedManager) (before after : V) : Type 0 where
   pub reply : Reply
-  pub step : Step old.manager call reply new.manager
+  pub made : Makes old call reply new
   pub told : status ≡ status_of reply
-  pub noted : IsNoted old.recorder call reply new.recorder
   pub value : after ≡ value_of reply before
 
 -- Each value by the replies that have one; no other reply changes what stood there.

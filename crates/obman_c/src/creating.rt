@@ -65,18 +65,15 @@ pub extern "C" fn om_create_event(
         result owner.new.value opening.old opening.new }
 {
     let make = make_of(asking, name);
-    let held = owner.lend();
-    let reply = held.manager.create_event(thread, &make, manual, set);
-    held.note(
-        &Ask::MakeEvent {
+    tell_opening(
+        owner.call(&Ask::MakeEvent {
             thread,
             make,
             manual,
             set,
-        },
-        &reply,
-    );
-    tell_opening(reply, opening)
+        }),
+        opening,
+    )
 }
 
 /// [`Manager::create_mutex`](ob_manager::Manager::create_mutex): 0, 183, 87, 170, 206, 3, 6, 5, 1450 or 8.
@@ -94,17 +91,14 @@ pub extern "C" fn om_create_mutex(
         result owner.new.value opening.old opening.new }
 {
     let make = make_of(asking, name);
-    let held = owner.lend();
-    let reply = held.manager.create_mutex(thread, &make, owned);
-    held.note(
-        &Ask::MakeMutex {
+    tell_opening(
+        owner.call(&Ask::MakeMutex {
             thread,
             make,
             owned,
-        },
-        &reply,
-    );
-    tell_opening(reply, opening)
+        }),
+        opening,
+    )
 }
 
 /// [`Manager::create_semaphore`](ob_manager::Manager::create_semaphore): 0, 183, 87, 170, 206, 3, 6, 5, 1450 or 8.
@@ -123,18 +117,15 @@ pub extern "C" fn om_create_semaphore(
         (asked_for asking.now name.now) initial max) result owner.new.value opening.old opening.new }
 {
     let make = make_of(asking, name);
-    let held = owner.lend();
-    let reply = held.manager.create_semaphore(thread, &make, initial, max);
-    held.note(
-        &Ask::MakeSemaphore {
+    tell_opening(
+        owner.call(&Ask::MakeSemaphore {
             thread,
             make,
             initial,
             max,
-        },
-        &reply,
-    );
-    tell_opening(reply, opening)
+        }),
+        opening,
+    )
 }
 
 /// [`Manager::create_timer`](ob_manager::Manager::create_timer): 0, 183, 87, 170, 206, 3, 6, 5, 1450 or 8.
@@ -152,21 +143,46 @@ pub extern "C" fn om_create_timer(
         result owner.new.value opening.old opening.new }
 {
     let make = make_of(asking, name);
-    let held = owner.lend();
-    let reply = held.manager.create_timer(thread, &make, manual);
-    held.note(
-        &Ask::MakeTimer {
+    tell_opening(
+        owner.call(&Ask::MakeTimer {
             thread,
             make,
             manual,
-        },
-        &reply,
-    );
-    tell_opening(reply, opening)
+        }),
+        opening,
+    )
+}
+
+/// Opens the object of a name and a kind.
+#[inline(always)]
+#[tactic(auto, using(crate::proofs::Told::tells_as))]
+fn open(
+    owner: &mut Owner,
+    thread: u32,
+    kind: Kind,
+    access: u32,
+    inherit: bool,
+    name: &[u8],
+    opening: &mut Opening,
+) -> u32
+    ensures { TellsValue opening_in owner.old.value
+        (Call.OpenNamed thread kind (mask_of access) inherit name.now)
+        result owner.new.value opening.old opening.new }
+{
+    let mask = Rights(access);
+    tell_opening(
+        owner.call(&Ask::OpenNamed {
+            thread,
+            kind,
+            mask,
+            inherit,
+            text: name,
+        }),
+        opening,
+    )
 }
 
 /// [`Manager::open_named`](ob_manager::Manager::open_named) of an event: 0, 87, 170, 206, 3, 2, 6, 5, 1450 or 8.
-#[tactic(auto, using(crate::proofs::Told::tells_as))]
 #[unsafe(no_mangle)]
 pub extern "C" fn om_open_event(
     owner: &mut Owner,
@@ -180,26 +196,10 @@ pub extern "C" fn om_open_event(
         (Call.OpenNamed thread Kind.Event
         (mask_of access) inherit name.now) result owner.new.value opening.old opening.new }
 {
-    let mask = Rights(access);
-    let held = owner.lend();
-    let reply = held
-        .manager
-        .open_named(thread, Kind::Event, mask, inherit, name);
-    held.note(
-        &Ask::OpenNamed {
-            thread,
-            kind: Kind::Event,
-            mask,
-            inherit,
-            text: name,
-        },
-        &reply,
-    );
-    tell_opening(reply, opening)
+    open(owner, thread, Kind::Event, access, inherit, name, opening)
 }
 
 /// [`Manager::open_named`](ob_manager::Manager::open_named) of a mutex: 0, 87, 170, 206, 3, 2, 6, 5, 1450 or 8.
-#[tactic(auto, using(crate::proofs::Told::tells_as))]
 #[unsafe(no_mangle)]
 pub extern "C" fn om_open_mutex(
     owner: &mut Owner,
@@ -213,26 +213,10 @@ pub extern "C" fn om_open_mutex(
         (Call.OpenNamed thread Kind.Mutex
         (mask_of access) inherit name.now) result owner.new.value opening.old opening.new }
 {
-    let mask = Rights(access);
-    let held = owner.lend();
-    let reply = held
-        .manager
-        .open_named(thread, Kind::Mutex, mask, inherit, name);
-    held.note(
-        &Ask::OpenNamed {
-            thread,
-            kind: Kind::Mutex,
-            mask,
-            inherit,
-            text: name,
-        },
-        &reply,
-    );
-    tell_opening(reply, opening)
+    open(owner, thread, Kind::Mutex, access, inherit, name, opening)
 }
 
 /// [`Manager::open_named`](ob_manager::Manager::open_named) of a semaphore: 0, 87, 170, 206, 3, 2, 6, 5, 1450 or 8.
-#[tactic(auto, using(crate::proofs::Told::tells_as))]
 #[unsafe(no_mangle)]
 pub extern "C" fn om_open_semaphore(
     owner: &mut Owner,
@@ -246,26 +230,18 @@ pub extern "C" fn om_open_semaphore(
         (Call.OpenNamed thread Kind.Semaphore
         (mask_of access) inherit name.now) result owner.new.value opening.old opening.new }
 {
-    let mask = Rights(access);
-    let held = owner.lend();
-    let reply = held
-        .manager
-        .open_named(thread, Kind::Semaphore, mask, inherit, name);
-    held.note(
-        &Ask::OpenNamed {
-            thread,
-            kind: Kind::Semaphore,
-            mask,
-            inherit,
-            text: name,
-        },
-        &reply,
-    );
-    tell_opening(reply, opening)
+    open(
+        owner,
+        thread,
+        Kind::Semaphore,
+        access,
+        inherit,
+        name,
+        opening,
+    )
 }
 
 /// [`Manager::open_named`](ob_manager::Manager::open_named) of a timer: 0, 87, 170, 206, 3, 2, 6, 5, 1450 or 8.
-#[tactic(auto, using(crate::proofs::Told::tells_as))]
 #[unsafe(no_mangle)]
 pub extern "C" fn om_open_timer(
     owner: &mut Owner,
@@ -279,20 +255,5 @@ pub extern "C" fn om_open_timer(
         (Call.OpenNamed thread Kind.Timer
         (mask_of access) inherit name.now) result owner.new.value opening.old opening.new }
 {
-    let mask = Rights(access);
-    let held = owner.lend();
-    let reply = held
-        .manager
-        .open_named(thread, Kind::Timer, mask, inherit, name);
-    held.note(
-        &Ask::OpenNamed {
-            thread,
-            kind: Kind::Timer,
-            mask,
-            inherit,
-            text: name,
-        },
-        &reply,
-    );
-    tell_opening(reply, opening)
+    open(owner, thread, Kind::Timer, access, inherit, name, opening)
 }

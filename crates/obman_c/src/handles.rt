@@ -31,12 +31,8 @@ pub extern "C" fn om_duplicate(
 {
     let target = number_at(target);
     let mask = Rights(access);
-    let held = owner.lend();
-    let reply = held
-        .manager
-        .duplicate(thread, source, handle, target, mask, inherit, options);
-    held.note(
-        &Ask::Duplicate {
+    tell_opening(
+        owner.call(&Ask::Duplicate {
             thread,
             source,
             handle,
@@ -44,10 +40,9 @@ pub extern "C" fn om_duplicate(
             mask,
             inherit,
             options,
-        },
-        &reply,
-    );
-    tell_opening(reply, opening)
+        }),
+        opening,
+    )
 }
 
 /// A process by its number, and none by 0.
@@ -63,14 +58,11 @@ fn number_at(number: u32) -> Option<u32>
 pub extern "C" fn om_close(owner: &mut Owner, thread: u32, handle: u32) -> u32
     ensures { TellsStatus owner.old.value (Call.CloseHandle thread handle) result owner.new.value }
 {
-    let held = owner.lend();
-    let reply = held.manager.close(thread, handle);
-    held.note(&Ask::CloseHandle { thread, handle }, &reply);
-    told(reply)
+    told(owner.call(&Ask::CloseHandle { thread, handle }))
 }
 
 /// [`Manager::handle_flags`](ob_manager::Manager::handle_flags): 0, 87, 170 or 6.
-#[tactic(auto, using(crate::proofs::Told::tells_as))]
+#[tactic(auto, using(crate::proofs::Told::tells_as, crate::proofs::Told::flags_same))]
 #[unsafe(no_mangle)]
 pub extern "C" fn om_handle_flags(
     owner: &mut Owner,
@@ -82,10 +74,7 @@ pub extern "C" fn om_handle_flags(
         (Call.GetFlags thread handle) result owner.new.value flags.old flags.new }
     ensures same { owner.new.value.manager ≡ owner.old.value.manager }
 {
-    let held = owner.lend();
-    let reply = held.manager.handle_flags(thread, handle);
-    held.note(&Ask::GetFlags { thread, handle }, &reply);
-    tell_flags(reply, flags)
+    tell_flags(owner.call(&Ask::GetFlags { thread, handle }), flags)
 }
 
 /// [`Manager::set_handle_flags`](ob_manager::Manager::set_handle_flags): 0, 87, 170 or 6.
@@ -100,18 +89,12 @@ pub extern "C" fn om_set_handle_flags(
 ) -> u32
     ensures { TellsStatus owner.old.value (Call.SetFlags thread handle mask flags) result owner.new.value }
 {
-    let held = owner.lend();
-    let reply = held.manager.set_handle_flags(thread, handle, mask, flags);
-    held.note(
-        &Ask::SetFlags {
-            thread,
-            handle,
-            mask,
-            flags,
-        },
-        &reply,
-    );
-    told(reply)
+    told(owner.call(&Ask::SetFlags {
+        thread,
+        handle,
+        mask,
+        flags,
+    }))
 }
 
 /// [`Manager::resolve`](ob_manager::Manager::resolve): 0, 87 or 6.

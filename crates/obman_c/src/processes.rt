@@ -14,10 +14,7 @@ pub extern "C" fn om_spawn(owner: &mut Owner, session: u32, member: &mut Member)
     ensures { TellsValue member_in owner.old.value
         (Call.Spawn session) result owner.new.value member.old member.new }
 {
-    let held = owner.lend();
-    let reply = held.manager.spawn(session);
-    held.note(&Ask::Spawn { session }, &reply);
-    tell_member(reply, member)
+    tell_member(owner.call(&Ask::Spawn { session }), member)
 }
 
 /// [`Manager::child`](ob_manager::Manager::child): 0, 87, 170, 1450 or 8.
@@ -32,10 +29,7 @@ pub extern "C" fn om_child(
     ensures { TellsValue member_in owner.old.value
         (Call.Child thread inherit) result owner.new.value member.old member.new }
 {
-    let held = owner.lend();
-    let reply = held.manager.child(thread, inherit);
-    held.note(&Ask::Child { thread, inherit }, &reply);
-    tell_member(reply, member)
+    tell_member(owner.call(&Ask::Child { thread, inherit }), member)
 }
 
 /// [`Manager::thread`](ob_manager::Manager::thread): 0, 87, 1450 or 8.
@@ -45,10 +39,7 @@ pub extern "C" fn om_thread(owner: &mut Owner, process: u32, thread: &mut u32) -
     ensures { TellsValue thread_in owner.old.value
         (Call.StartThread process) result owner.new.value thread.old thread.new }
 {
-    let held = owner.lend();
-    let reply = held.manager.thread(process);
-    held.note(&Ask::StartThread { process }, &reply);
-    tell_thread(reply, thread)
+    tell_thread(owner.call(&Ask::StartThread { process }), thread)
 }
 
 /// [`Manager::end_thread`](ob_manager::Manager::end_thread): 0 or 87.
@@ -57,10 +48,7 @@ pub extern "C" fn om_thread(owner: &mut Owner, process: u32, thread: &mut u32) -
 pub extern "C" fn om_end_thread(owner: &mut Owner, thread: u32) -> u32
     ensures { TellsStatus owner.old.value (Call.EndThread thread) result owner.new.value }
 {
-    let held = owner.lend();
-    let reply = held.manager.end_thread(thread);
-    held.note(&Ask::EndThread { thread }, &reply);
-    told(reply)
+    told(owner.call(&Ask::EndThread { thread }))
 }
 
 /// [`Manager::exit`](ob_manager::Manager::exit): 0 or 87.
@@ -69,8 +57,5 @@ pub extern "C" fn om_end_thread(owner: &mut Owner, thread: u32) -> u32
 pub extern "C" fn om_exit(owner: &mut Owner, process: u32) -> u32
     ensures { TellsStatus owner.old.value (Call.Exit process) result owner.new.value }
 {
-    let held = owner.lend();
-    let reply = held.manager.exit(process);
-    held.note(&Ask::Exit { process }, &reply);
-    told(reply)
+    told(owner.call(&Ask::Exit { process }))
 }

@@ -2,8 +2,8 @@
 ghost use Rattle.std.specs.Prelude.{◌≡◌};
 ghost use Rattle.ob_manager.specs.declared.call.CallOf.TheVariants as Call;
 ghost use Rattle.obman_c.specs.Pinning.{id_at};
-ghost use Rattle.obman_c.specs.Reaping.{ReapsAll, ReapsTold};
-ghost use Rattle.obman_c.specs.Telling.{TellsValue, references_in};
+ghost use Rattle.obman_c.specs.Reaping.{ReapsAll};
+ghost use Rattle.obman_c.specs.Telling.{TellsValue, reaping_in, references_in};
 
 use crate::values::{Reaping, References, tell_reaping, tell_references};
 use ob_manager::Ask;
@@ -11,14 +11,13 @@ use obman_c_base::{OwnedManager, Owner, SUCCESS};
 use pin_core::Id;
 
 /// [`Manager::reap`](ob_manager::Manager::reap): 0, 87 or 6.
+#[tactic(auto, using(crate::proofs::Told::tells_as))]
 #[unsafe(no_mangle)]
 pub extern "C" fn om_reap(owner: &mut Owner, slot: u32, reaping: &mut Reaping) -> u32
-    ensures { ReapsTold slot owner.old.value result owner.new.value reaping.old reaping.new }
+    ensures { TellsValue reaping_in owner.old.value
+        (Call.Reap slot) result owner.new.value reaping.old reaping.new }
 {
-    let held = owner.lend();
-    let reply = held.manager.reap(slot);
-    held.note(&Ask::Reap { slot }, &reply);
-    tell_reaping(reply, reaping)
+    tell_reaping(owner.call(&Ask::Reap { slot }), reaping)
 }
 
 /// Slots of ended objects by rising number, each taken back by [`Manager::reap`], as far as there are any and places
@@ -32,9 +31,8 @@ fn take_ended(held: &mut OwnedManager, reapings: &mut [Reaping]) -> usize
         let Some(id) = held.manager.next_closing(from) else {
             return place;
         };
-        let reply = held.manager.reap(id.slot);
-        held.note(&Ask::Reap { slot: id.slot }, &reply);
-        let _ = tell_reaping(reply, &mut reapings[place]);
+        let answer = held.call(&Ask::Reap { slot: id.slot });
+        let _ = tell_reaping(answer, &mut reapings[place]);
         from = id.slot + 1;
     }
     reapings.len()
@@ -56,7 +54,7 @@ pub extern "C" fn om_take_ended(
 }
 
 /// [`Manager::counts`](ob_manager::Manager::counts): 0, 87 or 6.
-#[tactic(auto, using(crate::proofs::Told::tells_as))]
+#[tactic(auto, using(crate::proofs::Told::tells_as, crate::proofs::Told::counts_same))]
 #[unsafe(no_mangle)]
 pub extern "C" fn om_counts(
     owner: &mut Owner,
@@ -69,8 +67,5 @@ pub extern "C" fn om_counts(
     ensures same { owner.new.value.manager ≡ owner.old.value.manager }
 {
     let id = Id { slot, generation };
-    let held = owner.lend();
-    let reply = held.manager.counts(id);
-    held.note(&Ask::Counts { id }, &reply);
-    tell_references(reply, references)
+    tell_references(owner.call(&Ask::Counts { id }), references)
 }

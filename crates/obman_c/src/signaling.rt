@@ -13,10 +13,7 @@ use obman_c_base::Owner;
 pub extern "C" fn om_set_event(owner: &mut Owner, thread: u32, handle: u32) -> u32
     ensures { TellsStatus owner.old.value (Call.SetEvent thread handle) result owner.new.value }
 {
-    let held = owner.lend();
-    let reply = held.manager.set_event(thread, handle);
-    held.note(&Ask::SetEvent { thread, handle }, &reply);
-    told(reply)
+    told(owner.call(&Ask::SetEvent { thread, handle }))
 }
 
 /// [`Manager::reset_event`](ob_manager::Manager::reset_event): 0, 87, 170, 6 or 5.
@@ -25,10 +22,7 @@ pub extern "C" fn om_set_event(owner: &mut Owner, thread: u32, handle: u32) -> u
 pub extern "C" fn om_reset_event(owner: &mut Owner, thread: u32, handle: u32) -> u32
     ensures { TellsStatus owner.old.value (Call.ResetEvent thread handle) result owner.new.value }
 {
-    let held = owner.lend();
-    let reply = held.manager.reset_event(thread, handle);
-    held.note(&Ask::ResetEvent { thread, handle }, &reply);
-    told(reply)
+    told(owner.call(&Ask::ResetEvent { thread, handle }))
 }
 
 /// [`Manager::release_semaphore`](ob_manager::Manager::release_semaphore): 0, 87, 170, 6, 5 or 298.
@@ -43,17 +37,14 @@ pub extern "C" fn om_release_semaphore(
     ensures { TellsValue count_in owner.old.value
         (Call.ReleaseSemaphore thread handle count) result owner.new.value previous.old previous.new }
 {
-    let held = owner.lend();
-    let reply = held.manager.release_semaphore(thread, handle, count);
-    held.note(
-        &Ask::ReleaseSemaphore {
+    tell_count(
+        owner.call(&Ask::ReleaseSemaphore {
             thread,
             handle,
             count,
-        },
-        &reply,
-    );
-    tell_count(reply, previous)
+        }),
+        previous,
+    )
 }
 
 /// [`Manager::release_mutex`](ob_manager::Manager::release_mutex): 0, 87, 170, 6 or 288.
@@ -62,8 +53,5 @@ pub extern "C" fn om_release_semaphore(
 pub extern "C" fn om_release_mutex(owner: &mut Owner, thread: u32, handle: u32) -> u32
     ensures { TellsStatus owner.old.value (Call.ReleaseMutex thread handle) result owner.new.value }
 {
-    let held = owner.lend();
-    let reply = held.manager.release_mutex(thread, handle);
-    held.note(&Ask::ReleaseMutex { thread, handle }, &reply);
-    told(reply)
+    told(owner.call(&Ask::ReleaseMutex { thread, handle }))
 }

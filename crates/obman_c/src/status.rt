@@ -1,9 +1,10 @@
 //! The number that C is told of a reply.
 ghost use Rattle.std.specs.Prelude.{◌≡◌};
+ghost use Rattle.ob_manager.specs.Steps.{reply_of};
 ghost use Rattle.obman_c.specs.Telling.{status_of};
 
 use ob_manager::Reply;
-use ob_rights::code_of;
+use ob_rights::{Fault, code_of};
 use obman_c_base::SUCCESS;
 
 /// `ERROR_NO_MORE_ITEMS`.
@@ -14,13 +15,13 @@ pub(crate) const NO_MORE: u32 = 259;
 ///
 /// [System Error Codes]: https://learn.microsoft.com/windows/win32/debug/system-error-codes
 #[inline(always)]
-pub(crate) fn told(reply: Reply) -> u32
-    ensures { result ≡ status_of reply }
+pub(crate) fn told(answer: Result<Reply, Fault>) -> u32
+    ensures { result ≡ status_of (reply_of answer) }
 {
-    match reply {
-        Reply::Refused(fault) => code_of(fault),
-        Reply::Exists { .. } => 183,
-        Reply::Pending { .. } => 997,
-        _ => SUCCESS,
+    match answer {
+        Ok(Reply::Exists { .. }) => 183,
+        Ok(Reply::Pending { .. }) => 997,
+        Err(fault) | Ok(Reply::Refused(fault)) => code_of(fault),
+        Ok(_) => SUCCESS,
     }
 }

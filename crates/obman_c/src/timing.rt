@@ -13,17 +13,11 @@ use obman_c_base::{Owner, SUCCESS};
 pub extern "C" fn om_set_timer(owner: &mut Owner, thread: u32, handle: u32, due: i64) -> u32
     ensures { TellsStatus owner.old.value (Call.SetTimer thread handle due) result owner.new.value }
 {
-    let held = owner.lend();
-    let reply = held.manager.set_timer(thread, handle, due);
-    held.note(
-        &Ask::SetTimer {
-            thread,
-            handle,
-            due,
-        },
-        &reply,
-    );
-    told(reply)
+    told(owner.call(&Ask::SetTimer {
+        thread,
+        handle,
+        due,
+    }))
 }
 
 /// [`Manager::cancel_timer`](ob_manager::Manager::cancel_timer): 0, 87, 170, 6 or 5.
@@ -32,10 +26,7 @@ pub extern "C" fn om_set_timer(owner: &mut Owner, thread: u32, handle: u32, due:
 pub extern "C" fn om_cancel_timer(owner: &mut Owner, thread: u32, handle: u32) -> u32
     ensures { TellsStatus owner.old.value (Call.CancelTimer thread handle) result owner.new.value }
 {
-    let held = owner.lend();
-    let reply = held.manager.cancel_timer(thread, handle);
-    held.note(&Ask::CancelTimer { thread, handle }, &reply);
-    told(reply)
+    told(owner.call(&Ask::CancelTimer { thread, handle }))
 }
 
 /// [`Manager::tick`](ob_manager::Manager::tick): 0 or 87.
@@ -44,10 +35,7 @@ pub extern "C" fn om_cancel_timer(owner: &mut Owner, thread: u32, handle: u32) -
 pub extern "C" fn om_tick(owner: &mut Owner, now: u64) -> u32
     ensures { TellsStatus owner.old.value (Call.Tick now) result owner.new.value }
 {
-    let held = owner.lend();
-    let reply = held.manager.tick(now);
-    held.note(&Ask::Tick { now }, &reply);
-    told(reply)
+    told(owner.call(&Ask::Tick { now }))
 }
 
 /// [`Manager::next_due`](ob_manager::Manager::next_due): 0, or 259 where nothing is due that a tick can reach.

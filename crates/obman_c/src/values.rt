@@ -1,10 +1,12 @@
 //! What C is told of a reply beside its number.
 ghost use Rattle.std.specs.Prelude.{◌≡◌};
+ghost use Rattle.ob_manager.specs.Steps.{reply_of};
 ghost use Rattle.obman_c.specs.Telling.{answer_in, count_in, flags_in, member_in, object_of, opening_in, outcome_of};
 ghost use Rattle.obman_c.specs.Telling.{pins_of, reaping_in, references_in, status_of, thread_in};
 
 use crate::status::told;
 use ob_manager::Reply;
+use ob_rights::Fault;
 use pin_core::Id;
 use pin_words::Reclaim;
 
@@ -73,37 +75,39 @@ pub(crate) fn object_of(id: Id) -> Object
 }
 
 /// Tells of a new process.
-pub(crate) fn tell_member(reply: Reply, out: &mut Member) -> u32
-    ensures told { result ≡ status_of reply }
-    ensures value { out.new ≡ member_in reply out.old }
+pub(crate) fn tell_member(answer: Result<Reply, Fault>, out: &mut Member) -> u32
+    ensures told { result ≡ status_of (reply_of answer) }
+    ensures value { out.new ≡ member_in (reply_of answer) out.old }
 {
-    if let Reply::Spawned { process, thread } = reply {
+    if let Ok(Reply::Spawned { process, thread }) = answer {
         *out = Member { process, thread };
     }
-    told(reply)
+    told(answer)
 }
 
 /// Tells of a new thread.
-pub(crate) fn tell_thread(reply: Reply, out: &mut u32) -> u32
-    ensures told { result ≡ status_of reply }
-    ensures value { out.new ≡ thread_in reply out.old }
+pub(crate) fn tell_thread(answer: Result<Reply, Fault>, out: &mut u32) -> u32
+    ensures told { result ≡ status_of (reply_of answer) }
+    ensures value { out.new ≡ thread_in (reply_of answer) out.old }
 {
-    if let Reply::Started { thread } = reply {
+    if let Ok(Reply::Started { thread }) = answer {
         *out = thread;
     }
-    told(reply)
+    told(answer)
 }
 
 /// Tells of a new handle.
-pub(crate) fn tell_opening(reply: Reply, out: &mut Opening) -> u32
-    ensures told { result ≡ status_of reply }
-    ensures value { out.new ≡ opening_in reply out.old }
+pub(crate) fn tell_opening(answer: Result<Reply, Fault>, out: &mut Opening) -> u32
+    ensures told { result ≡ status_of (reply_of answer) }
+    ensures value { out.new ≡ opening_in (reply_of answer) out.old }
 {
-    match reply {
-        Reply::Made { handle, id }
-        | Reply::Exists { handle, id }
-        | Reply::Opened { handle, id }
-        | Reply::Duplicated { handle, id } => {
+    match answer {
+        Ok(
+            Reply::Made { handle, id }
+            | Reply::Exists { handle, id }
+            | Reply::Opened { handle, id }
+            | Reply::Duplicated { handle, id },
+        ) => {
             *out = Opening {
                 handle,
                 object: object_of(id),
@@ -111,69 +115,71 @@ pub(crate) fn tell_opening(reply: Reply, out: &mut Opening) -> u32
         }
         _ => {}
     }
-    told(reply)
+    told(answer)
 }
 
 /// Tells of a handle's flags.
-pub(crate) fn tell_flags(reply: Reply, out: &mut u32) -> u32
-    ensures told { result ≡ status_of reply }
-    ensures value { out.new ≡ flags_in reply out.old }
+pub(crate) fn tell_flags(answer: Result<Reply, Fault>, out: &mut u32) -> u32
+    ensures told { result ≡ status_of (reply_of answer) }
+    ensures value { out.new ≡ flags_in (reply_of answer) out.old }
 {
-    if let Reply::Flags { bits } = reply {
+    if let Ok(Reply::Flags { bits }) = answer {
         *out = bits;
     }
-    told(reply)
+    told(answer)
 }
 
 /// Tells of a semaphore's count.
-pub(crate) fn tell_count(reply: Reply, out: &mut u32) -> u32
-    ensures told { result ≡ status_of reply }
-    ensures value { out.new ≡ count_in reply out.old }
+pub(crate) fn tell_count(answer: Result<Reply, Fault>, out: &mut u32) -> u32
+    ensures told { result ≡ status_of (reply_of answer) }
+    ensures value { out.new ≡ count_in (reply_of answer) out.old }
 {
-    if let Reply::Previous { count } = reply {
+    if let Ok(Reply::Previous { count }) = answer {
         *out = count;
     }
-    told(reply)
+    told(answer)
 }
 
 /// Tells of a wait.
-pub(crate) fn tell_answer(reply: Reply, out: &mut u32) -> u32
-    ensures told { result ≡ status_of reply }
-    ensures value { out.new ≡ answer_in reply out.old }
+pub(crate) fn tell_answer(answer: Result<Reply, Fault>, out: &mut u32) -> u32
+    ensures told { result ≡ status_of (reply_of answer) }
+    ensures value { out.new ≡ answer_in (reply_of answer) out.old }
 {
-    match reply {
-        Reply::Code { code } => *out = code,
-        Reply::Pending { wait } => *out = wait,
+    match answer {
+        Ok(Reply::Code { code }) => *out = code,
+        Ok(Reply::Pending { wait }) => *out = wait,
         _ => {}
     }
-    told(reply)
+    told(answer)
 }
 
 /// Tells of a slot.
-pub(crate) fn tell_reaping(reply: Reply, out: &mut Reaping) -> u32
-    ensures told { result ≡ status_of reply }
-    ensures value { out.new ≡ reaping_in reply out.old }
+pub(crate) fn tell_reaping(answer: Result<Reply, Fault>, out: &mut Reaping) -> u32
+    ensures told { result ≡ status_of (reply_of answer) }
+    ensures value { out.new ≡ reaping_in (reply_of answer) out.old }
 {
-    if let Reply::Reaped { id, outcome } = reply {
+    if let Ok(Reply::Reaped { id, outcome }) = answer {
         *out = Reaping {
             object: object_of(id),
             outcome: number_of(outcome),
             pins: pins_of(outcome),
         };
     }
-    told(reply)
+    told(answer)
 }
 
 /// Tells what refers to an object.
-pub(crate) fn tell_references(reply: Reply, out: &mut References) -> u32
-    ensures told { result ≡ status_of reply }
-    ensures value { out.new ≡ references_in reply out.old }
+pub(crate) fn tell_references(answer: Result<Reply, Fault>, out: &mut References) -> u32
+    ensures told { result ≡ status_of (reply_of answer) }
+    ensures value { out.new ≡ references_in (reply_of answer) out.old }
 {
-    if let Reply::CountsAre {
-        handles,
-        waits,
-        hold,
-    } = reply
+    if let Ok(
+        Reply::CountsAre {
+            handles,
+            waits,
+            hold,
+        },
+    ) = answer
     {
         *out = References {
             waits,
@@ -181,7 +187,7 @@ pub(crate) fn tell_references(reply: Reply, out: &mut References) -> u32
             hold,
         };
     }
-    told(reply)
+    told(answer)
 }
 
 /// The number of what became of a slot.

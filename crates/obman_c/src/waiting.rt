@@ -47,18 +47,15 @@ pub extern "C" fn om_wait(
 {
     let mode = mode_of(all);
     let timeout = Timeout::Millis(milliseconds);
-    let held = owner.lend();
-    let reply = held.manager.wait(thread, mode, timeout, handles);
-    held.note(
-        &Ask::WaitFor {
+    tell_answer(
+        owner.call(&Ask::WaitFor {
             thread,
             mode,
             timeout,
             handles,
-        },
-        &reply,
-    );
-    tell_answer(reply, answer)
+        }),
+        answer,
+    )
 }
 
 /// [`Manager::wait_result`](ob_manager::Manager::wait_result): 0 with the wait's code, 997 with its number, or 87.
@@ -68,10 +65,7 @@ pub extern "C" fn om_wait_result(owner: &mut Owner, wait: u32, answer: &mut u32)
     ensures { TellsValue answer_in owner.old.value
         (Call.WaitResult wait) result owner.new.value answer.old answer.new }
 {
-    let held = owner.lend();
-    let reply = held.manager.wait_result(wait);
-    held.note(&Ask::WaitResult { wait }, &reply);
-    tell_answer(reply, answer)
+    tell_answer(owner.call(&Ask::WaitResult { wait }), answer)
 }
 
 /// The answers of waits by rising number, each taken by [`Manager::wait_result`], as far as there are any and places
@@ -83,8 +77,7 @@ fn take_answers(held: &mut OwnedManager, answers: &mut [Answered]) -> usize
         let Some(Answer { wait, thread, code }) = held.manager.next_answered(0) else {
             return place;
         };
-        let taken = held.manager.wait_result(wait);
-        held.note(&Ask::WaitResult { wait }, &taken);
+        let _ = held.call(&Ask::WaitResult { wait });
         answers[place] = Answered { wait, thread, code };
     }
     answers.len()
@@ -110,10 +103,7 @@ pub extern "C" fn om_take_answered(
 pub extern "C" fn om_expire(owner: &mut Owner, wait: u32) -> u32
     ensures { TellsStatus owner.old.value (Call.Expire wait) result owner.new.value }
 {
-    let held = owner.lend();
-    let reply = held.manager.expire(wait);
-    held.note(&Ask::Expire { wait }, &reply);
-    told(reply)
+    told(owner.call(&Ask::Expire { wait }))
 }
 
 /// [`Manager::is_pending`](ob_manager::Manager::is_pending).

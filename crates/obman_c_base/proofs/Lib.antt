@@ -2,4 +2,4 @@ pub mod Walks
 pub mod Sending
 pub mod Lent
 pub mod Endings
-pub mod Noted
+pub mod Made

@@ -1,11 +1,11 @@
 ghost use Rattle.std.specs.Prelude.{◌≡◌, IfOk};
-ghost use Rattle.ob_manager.specs.Calls.{with_parts};
-ghost use Rattle.ob_manager.specs.Makings.{making_of};
-ghost use Rattle.obman_c_base.specs.Noted.{IsNoted};
+ghost use Rattle.ob_manager.specs.Steps.{reply_of};
+ghost use Rattle.obman_c_base.specs.Made.{Makes, call_of};
 ghost use Rattle.obman_c_base.specs.Owned.{unrecorded};
 
 use ob_manager::{Ask, Manager, Reply};
 use ob_record::Recorder;
+use ob_rights::Fault;
 use pin_words::{Keeper, Reader};
 use std::alloc::{AllocError, Global};
 
@@ -39,29 +39,28 @@ impl OwnedManager {
         )?)
     }
 
-    /// Records a call with its answer, where calls are recorded.
+    /// Makes a call, and records it with its answer where calls are recorded.
+    // What is recorded stands apart, so that a call and its reply stay in registers where nothing is.
     #[inline(always)]
-    #[tactic(auto, using(crate::proofs::Noted::notes))]
-    pub fn note(&mut self, call: &Ask<'_>, reply: &Reply)
-        ensures notes { IsNoted self.old.recorder
-            (with_parts making_of (λ text. text.now) (λ handles. handles.now) call.now) reply.now self.new.recorder }
-        ensures manager { self.new.manager ≡ self.old.manager }
+    #[tactic(auto, using(crate::proofs::Made::unnoted))]
+    pub fn call(&mut self, call: &Ask<'_>) -> Result<Reply, Fault>
+        ensures { Makes self.old (call_of call.now) (reply_of result) self.new }
     {
         if self.recorder.is_on() {
-            // Copies are lent, so that the call and the reply themselves stay in registers where nothing is recorded.
-            let (call, reply) = (*call, *reply);
-            record(&mut self.recorder, &call, &reply);
+            let call = *call;
+            return self.recorded(&call);
         }
+        self.manager.try_call(call)
     }
-}
 
-// It stands apart, so that a call has no more of it inlined than the test.
-#[cold]
-#[inline(never)]
-#[tactic(auto, using(crate::proofs::Noted::notes))]
-fn record(recorder: &mut Recorder, call: &Ask<'_>, reply: &Reply)
-    ensures { IsNoted recorder.old
-        (with_parts making_of (λ text. text.now) (λ handles. handles.now) call.now) reply.now recorder.new }
-{
-    recorder.note(call, reply);
+    #[cold]
+    #[inline(never)]
+    #[tactic(auto, using(crate::proofs::Made::noted))]
+    fn recorded(&mut self, call: &Ask<'_>) -> Result<Reply, Fault>
+        ensures { Makes self.old (call_of call.now) (reply_of result) self.new }
+    {
+        let reply = self.manager.call(call);
+        self.recorder.note(call, &reply);
+        Ok(reply)
+    }
 }

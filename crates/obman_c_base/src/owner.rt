@@ -6,10 +6,14 @@ ghost use Rattle.std.specs.Coded.{coded_option};
 ghost use Rattle.std.specs.Option.{option_map};
 ghost use Rattle.obman_c_base.specs.contracts.owned.OwnedManager.{the_row};
 ghost use Rattle.obman_c_base.specs.declared.owned.OwnedManager.{OwnedManager};
+ghost use Rattle.ob_manager.specs.Steps.{reply_of};
+ghost use Rattle.obman_c_base.specs.Made.{Makes, call_of};
 ghost use Rattle.obman_c_base.specs.Owning.{owner_owns, owns_or_null, place_owns};
 
 use crate::owned::OwnedManager;
 use crate::parts::Parts;
+use ob_manager::{Ask, Reply};
+use ob_rights::Fault;
 use std::alloc::Global;
 use std::marker::Model;
 
@@ -65,6 +69,14 @@ impl Owner {
         ensures value { result.now ≡ self.old.value }
     {
         unsafe { &mut *(self.at as *mut OwnedManager) }
+    }
+
+    /// Makes a call, and records it with its answer where calls are recorded.
+    #[inline(always)]
+    pub fn call(&mut self, call: &Ask<'_>) -> Result<Reply, Fault>
+        ensures { Makes self.old.value (call_of call.now) (reply_of result) self.new.value }
+    {
+        self.lend().call(call)
     }
 }
 

@@ -1,12 +1,8 @@
-use Rattle.std.proofs.Common.{ap}
-use Rattle.ob_manager.specs.Makings.{Making}
 use Rattle.ob_manager.specs.declared.call.CallOf.TheVariants as calls
-use Rattle.obman_c.proofs.Told.{tells_same}
+use Rattle.obman_c.proofs.Told.{made_as, tells_as}
 use Rattle.obman_c.proofs.creating.om_create_mutex.Goals as goal
 
 pub returns : goal.returns
 returns c =
-    tells_same (ap (λ (m : Making). calls.MakeMutex c.args.thread m c.args.owned)
-    c.make_of-make.ensures)
-    c.lend-held.ensures.value c.create_mutex-reply.ensures c.note.ensures.manager c.note.ensures.notes
+    tells_as (made_as (λ m. calls.MakeMutex c.args.thread m c.args.owned) c.make_of-make.ensures c.call.ensures)
     c.tell_opening.ensures.told c.tell_opening.ensures.value

@@ -1,12 +1,8 @@
-use Rattle.std.proofs.Common.{◌+◌, ◌<◌, ◌∙◌, length, length-set, refl, subst, sym, arith}
-use Rattle.pin_words.specs.Keepers.{ReclaimsFound}
+use Rattle.std.proofs.Common.{◌+◌, ◌<◌, ◌∙◌, length, length-set, refl, subst, arith}
 use Rattle.ob_manager.specs.declared.call.CallOf.TheVariants as calls
 use Rattle.ob_manager.specs.declared.reply.Reply.{Reply}
-use Rattle.ob_manager.specs.declared.reply.Reply.TheVariants.{Reaped}
-use Rattle.ob_manager.specs.Reaping.{IfReaped}
-use Rattle.ob_manager.specs.Steps.{Step, reclaim_in}
-use Rattle.ob_store.specs.State.{Whole}
-use Rattle.obman_c_base.specs.Noted.{IsNoted}
+use Rattle.ob_manager.specs.Steps.{reclaim_in, reply_of}
+use Rattle.obman_c_base.specs.Made.{Makes}
 use Rattle.obman_c.specs.Reaping.{ReapsNext}
 use Rattle.obman_c.proofs.Chains.{chain_set, rest_set}
 use Rattle.obman_c.proofs.Taking.{reaped, told_as}
@@ -17,24 +13,19 @@ loop-place-preserved c =
     let place = c.loop-place.place in
     let list = c.loop-place.reapings in
     let old = c.loop-place.held in
-    let left = c.reap-reply.new.self in
-    let new = c.note.new.self in
+    let new = c.call-answer.new.self in
     let id = c.in-Some.id in
-    let outcome = reclaim_in c.reap-reply.result in
+    let reply = reply_of c.call-answer.result in
+    let outcome = reclaim_in reply in
     let told = c.tell_reaping.new.out in
-    let same = sym c.note.ensures.manager in
-    let is = reaped old.manager left id c.reap-reply.result c.kept.ensures c.in-Some.ensures.object
-    c.in-Some.ensures.least.passes c.reap-reply.ensures.step in
+    let made = c.call-answer.ensures in
+    let is = reaped old.manager new.manager id reply c.kept.ensures c.in-Some.ensures.object
+    c.in-Some.ensures.least.passes made.step in
     let next : ReapsNext (c.loop-place.from, old) told (id.slot + 1, new) = record {
       id = id;
       outcome = outcome;
       least = c.in-Some.ensures.least;
-      step = subst (λ (w : Whole). Step old.manager (calls.Reap id.slot) (Reaped id outcome) w) same
-          (subst (λ (r : Reply). Step old.manager (calls.Reap id.slot) r left) is c.reap-reply.ensures.step);
-      exact = subst (λ (w : Whole). ReclaimsFound old.manager.keeper id.slot outcome w.keeper) same
-          (subst (λ (r : Reply). IfReaped r (λ o. ReclaimsFound old.manager.keeper id.slot o left.keeper)) is
-          c.reap-reply.ensures.exact);
-      noted = subst (λ (r : Reply). IsNoted old.recorder (calls.Reap id.slot) r new.recorder) is c.note.ensures.notes;
+      made = subst (λ (r : Reply). Makes old (calls.Reap id.slot) r new) is made;
       value = told_as _ is c.tell_reaping.ensures.value;
       next = refl;
     } in

@@ -1,11 +1,9 @@
-use Rattle.std.proofs.Common.{◌<◌, ◌∙◌, length, length-set, subst, sym, arith}
+use Rattle.std.proofs.Common.{◌<◌, ◌∙◌, length, length-set, subst, arith}
 use Rattle.ob_manager.specs.declared.call.CallOf.TheVariants as calls
 use Rattle.ob_manager.specs.declared.reply.Reply.{Reply}
-use Rattle.ob_manager.specs.declared.reply.Reply.TheVariants.{Code}
-use Rattle.ob_manager.specs.Steps.{Step}
+use Rattle.ob_manager.specs.Steps.{reply_of}
 use Rattle.obman_c.specs.declared.waiting.Answered.{Answered}
-use Rattle.ob_store.specs.State.{Whole}
-use Rattle.obman_c_base.specs.Noted.{IsNoted}
+use Rattle.obman_c_base.specs.Made.{Makes}
 use Rattle.obman_c.specs.Waiting.{TakesNext}
 use Rattle.obman_c.proofs.Chains.{chain_set, rest_set}
 use Rattle.obman_c.proofs.Taking.{answered}
@@ -16,21 +14,15 @@ loop-place-preserved c =
     let place = c.loop-place.place in
     let list = c.loop-place.answers in
     let old = c.loop-place.held in
-    let left = c.wait_result-taken.new.self in
-    let new = c.note.new.self in
+    let new = c.call.new.self in
     let a = c.in-Some.field-0 in
     let told : Answered = record { wait = a.wait; thread = a.thread; code = a.code } in
-    let is = answered old.manager left a.wait a c.wait_result-taken.result c.in-Some.ensures.answer
-    c.wait_result-taken.ensures in
+    let is = answered old.manager new.manager a.wait a (reply_of c.call.result) c.in-Some.ensures.answer
+    c.call.ensures.step in
     let next : TakesNext old told new = record {
       least = c.in-Some.ensures.least;
       answer = c.in-Some.ensures.answer;
-      step = subst (λ (w : Whole). Step old.manager (calls.WaitResult a.wait) (Code a.code) w)
-          (sym c.note.ensures.manager)
-          (subst (λ (reply : Reply). Step old.manager (calls.WaitResult a.wait) reply left) is
-          c.wait_result-taken.ensures);
-      noted = subst (λ (reply : Reply). IsNoted old.recorder (calls.WaitResult a.wait) reply new.recorder) is
-          c.note.ensures.notes;
+      made = subst (λ (reply : Reply). Makes old (calls.WaitResult a.wait) reply new) is c.call.ensures;
     } in
     let within : place < length list = omega (arith, c.loop-place-test.true, c.loop-place.invariant.length_is) in
     record {
