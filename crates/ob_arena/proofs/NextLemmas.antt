@@ -3,9 +3,9 @@ use Rattle.std.proofs.Common.{◌≡◌, ◌∙◌, ap, ℕ, ◌+◌, ◌<◌, �
 use Rattle.std.proofs.Math.ListN.{get_or-map}
 use Rattle.std.proofs.lemmas.Bool.{cases_lt}
 use Rattle.std.proofs.lemmas.List.{get_or_default, get_or_past}
-use Rattle.least_free.specs.From.{IsAtMost, IsLeastFrom}
-use Rattle.least_free.specs.Taken.{is_taken}
-use Rattle.least_free.proofs.NextLemmas.{none_found}
+use Rattle.least.specs.From.{IsAtMost, IsLeastFrom}
+use Rattle.least.specs.Taken.{is_taken}
+use Rattle.least.proofs.NextLemmas.{none_found}
 use Rattle.ob_arena.specs.declared.phase.Phase.{Phase}
 use Rattle.ob_arena.specs.declared.phase.Phase.TheVariants.{Vacant}
 use Rattle.ob_arena.specs.Phases.{is_occupied, is_in_use}

@@ -10,7 +10,7 @@ use Rattle.std.proofs.lemmas.List.FromFn.{get_or-range_with_len, length-range_wi
 use Rattle.std.proofs.lemmas.List.Folds.{find_at}
 use Rattle.std.proofs.lemmas.List.{ext_get_or, get_or_default, get_or-replicate, get_or-set_same, get_or_past, map-set, length-map, length-set, length-replicate}
 use Rattle.std.proofs.lemmas.Option.{slice_get-get_or, slice_get_past}
-use Rattle.least_free.specs.Taken.{least_free}
+use Rattle.least.specs.Taken.{least_free}
 use Rattle.ob_arena.specs.declared.phase.Phase.{Phase}
 use Rattle.ob_arena.specs.declared.phase.Phase.TheVariants.{Vacant, Occupied, Retired}
 use Rattle.ob_arena.specs.Phases.{is_vacant, is_occupied, is_retired, is_in_use}

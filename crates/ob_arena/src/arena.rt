@@ -1,14 +1,14 @@
 ghost use Rattle.std.specs.Prelude.{◌≡◌, ◌<◌, ◌≤◌, true, length, map, replicate, None, Some, is_some, slice_index_or};
 ghost use Rattle.std.specs.Prelude.{IsSome, IfOk};
 ghost use Rattle.std.specs.Borrow.{sem};
-ghost use Rattle.least_free.specs.From.{IsLeastFrom};
+ghost use Rattle.least.specs.From.{IsLeastFrom};
 ghost use Rattle.ob_arena.specs.Phases.{is_in_use, is_occupied};
 ghost use Rattle.ob_arena.specs.Slots.{body_at, is_vacant_at, least_vacant, vacant_slots, with_body, with_retired};
 ghost use Rattle.ob_arena.specs.Slots.{without_body};
 
 use crate::phase::Phase;
 use crate::storage::{Front, Storage, Title, allocate, deallocate, fits};
-use least_free::Levels;
+use least::Levels;
 use std::alloc::{AllocError, Global};
 use std::marker::Model;
 

@@ -1,7 +1,7 @@
 ghost use Rattle.std.specs.Prelude.{◌≡◌, ◌+◌, IfSome, None, Some, slice_index_or};
 ghost use Rattle.std.specs.Option.{option_map};
-ghost use Rattle.least_due.specs.Dues.{IsLeast};
-ghost use Rattle.least_free.specs.From.{IsLeastFrom};
+ghost use Rattle.least.specs.Dues.{IsLeast};
+ghost use Rattle.least.specs.From.{IsLeastFrom};
 ghost use Rattle.ob_waits.specs.Answers.{answer_of, is_answered};
 ghost use Rattle.ob_store.specs.Dues.{dues_of};
 

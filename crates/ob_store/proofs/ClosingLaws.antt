@@ -3,7 +3,7 @@ use Rattle.std.proofs.Common.{◌≡◌, ℕ, ◌<◌, List, length, Option, Som
 use Rattle.std.specs.Prelude.{IsSome, is_none, is_some, not, slice_get}
 use Rattle.std.proofs.lemmas.List.{length-map}
 use Rattle.std.proofs.lemmas.Option.{slice_get-get_or}
-use Rattle.least_free.specs.Taken.{is_free_within}
+use Rattle.least.specs.Taken.{is_free_within}
 use Rattle.ob_body.specs.declared.body.Body.{Body}
 use Rattle.ob_waits.specs.Objects.{slot_acquired}
 use Rattle.ob_store.specs.Closing.{is_closing, is_closing_in, is_open}

@@ -1,9 +1,9 @@
 ghost use Rattle.std.specs.Prelude.{◌≡◌, ◌≤◌, IfOk, Some, false, if◌then◌else◌, length, replicate, slice_get};
 ghost use Rattle.std.specs.Prelude.{slice_set, true};
-ghost use Rattle.least_free.specs.From.{IsLeastFrom};
-ghost use Rattle.least_free.specs.Taken.{is_free_within};
+ghost use Rattle.least.specs.From.{IsLeastFrom};
+ghost use Rattle.least.specs.Taken.{is_free_within};
 
-use least_free::Levels;
+use least::Levels;
 use std::alloc::{AllocError, Global};
 use std::marker::Model;
 

@@ -1,12 +1,12 @@
 ghost use Rattle.std.specs.Prelude.{◌≡◌, map};
-ghost use Rattle.least_due.specs.Dues.{IsLeast};
+ghost use Rattle.least.specs.Dues.{IsLeast};
 ghost use Rattle.ob_waits.specs.Form.{slot_due};
 ghost use Rattle.ob_store.specs.Dues.{dues_of, reached};
 
 use crate::seats::Seats;
 use crate::store::Store;
 use crate::timers::Timers;
-use least_due::sooner;
+use least::sooner;
 use ob_waits::LAST_MOMENT;
 use pin_words::PinKeeper;
 

@@ -1,5 +1,5 @@
 ghost use Rattle.std.specs.Prelude.{None, is_some, slice_index_or};
-ghost use Rattle.least_free.specs.From.{IsLeastFrom};
+ghost use Rattle.least.specs.From.{IsLeastFrom};
 
 /// The least place of a list, from `from` on, where something stands.
 pub(crate) fn next_place<T>(places: &[Option<T>], from: usize) -> Option<usize>

@@ -1,7 +1,7 @@
 ghost use Rattle.std.specs.Prelude.{◌≡◌, ◌<◌, ◌≤◌, ◌&&◌, ℕ, false, true, IfNone, IfOk, IfSome, IsSome, IsTrue};
 ghost use Rattle.std.specs.Prelude.{None, Err, Ok, Some, is_some, length, slice_index_or, slice_set};
 ghost use Rattle.std.specs.Option.{option_map};
-ghost use Rattle.least_free.specs.From.{IsLeastFrom};
+ghost use Rattle.least.specs.From.{IsLeastFrom};
 ghost use Rattle.ob_waits.specs.Form.{slot_due, slot_owner};
 ghost use Rattle.ob_arena.specs.Slots.{is_vacant_at, least_vacant};
 ghost use Rattle.ob_waits.specs.Objects.{body_of, slot_room, without_block};

@@ -3,7 +3,7 @@ ghost use Rattle.std.specs.Prelude.{slice_index_or, slice_set};
 ghost use Rattle.ob_body.specs.Timer.{is_due};
 ghost use Rattle.ob_store.specs.Timers.{due_left};
 
-use least_due::Dues;
+use least::Dues;
 use std::alloc::{AllocError, Global};
 use std::marker::Model;
 

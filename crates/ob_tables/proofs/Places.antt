@@ -4,8 +4,8 @@ use Rattle.std.proofs.Common.{◌≡◌, ℕ, zero, suc, ◌+◌, ◌-◌, ◌<�
 use Rattle.std.specs.Prelude.{is_some, IsSome, slice_get}
 use Rattle.std.proofs.lemmas.List.{map-set, length-map, length-set, set-get_or, set_at}
 use Rattle.std.proofs.Math.Seq.{map-set_same}
-use Rattle.least_free.specs.Taken.{least_free}
-use Rattle.least_free.proofs.TakenLemmas.{slice_get_least_free}
+use Rattle.least.specs.Taken.{least_free}
+use Rattle.least.proofs.TakenLemmas.{slice_get_least_free}
 use Rattle.ob_tables.specs.declared.entry.Entry.{Entry}
 use Rattle.ob_tables.specs.Table.{at, place_of, entry_at, free_place, with_entry, IsKept}
 use Rattle.ob_tables.proofs.Counting.{found_place}

@@ -7,7 +7,7 @@ ghost use Rattle.ob_tables.specs.Inheritance.{inheritable, inherited};
 ghost use Rattle.ob_tables.specs.Spelling.{is_short};
 
 use crate::entry::{Entry, inheritable};
-use least_free::LeastFree;
+use least::LeastFree;
 use ob_rights::{Fault, HandleFlags, Rights};
 use pin_core::Id;
 use std::alloc::{AllocError, Global};

@@ -6,7 +6,7 @@ use Rattle.std.proofs.lemmas.List.Sorted.{IsPartitionedBy-leb}
 use Rattle.std.proofs.lemmas.Bool.Decides.{nat_tests}
 use Rattle.std.proofs.lemmas.Bool.{cases_eq, cases_lt, false_from_ne_true}
 use Rattle.pin_core.specs.declared.id.Id.{Id}
-use Rattle.least_free.specs.From.{IsAtMost}
+use Rattle.least.specs.From.{IsAtMost}
 use Rattle.std.proofs.lemmas.List.Folds.{list_any_at}
 use Rattle.ob_waits.specs.Numbers.{IsNext, IsNextOf, numbers_of}
 use Rattle.ob_waits.specs.Objects.{slot_signaled}

@@ -1,6 +1,6 @@
 -- Lists of numbers in order, among which are the numbers of some waits.
 use Rattle.std.specs.Prelude.{◌≡◌, ℕ, ◌-◌, ◌<◌, ◌≤◌, ◌⊎◌, IfSome, ◌==◌, ◌&&◌, nat_lt, length, Bool, true, List, [], Option, None, slice_index_or}
-use Rattle.least_free.specs.From.{IsAtMost}
+use Rattle.least.specs.From.{IsAtMost}
 use Rattle.ob_waits.specs.declared.wait.Wait.{Wait}
 use Rattle.ob_waits.specs.Rules.{Within, IsRising, IsSpent}
 use Rattle.pin_core.specs.declared.id.Id.{Id}

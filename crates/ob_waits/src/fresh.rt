@@ -1,6 +1,6 @@
 ghost use Rattle.std.specs.Prelude.{[], ◌≡◌, ◌<◌, ◌++◌, ◌∷◌, ℕ, IfSome, None, false, true, if◌then◌else◌};
 ghost use Rattle.std.specs.Prelude.{slice_index_or};
-ghost use Rattle.least_free.specs.From.{IsAtMost};
+ghost use Rattle.least.specs.From.{IsAtMost};
 ghost use Rattle.ob_waits.specs.Answers.{is_answered, Drops};
 ghost use Rattle.ob_waits.specs.Rules.{IsRising, Within};
 

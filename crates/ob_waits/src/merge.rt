@@ -1,5 +1,5 @@
 ghost use Rattle.std.specs.Prelude.{◌≡◌, ◌⊎◌, ◌<◌, ℕ, IfSome};
-ghost use Rattle.least_free.specs.From.{IsAtMost};
+ghost use Rattle.least.specs.From.{IsAtMost};
 ghost use Rattle.ob_waits.specs.Numbers.{IsNext, IsNextOf, numbers_of};
 ghost use Rattle.ob_waits.specs.Roster.{IsRight};
 ghost use Rattle.ob_waits.specs.Rules.{IsRising, IsSpent, Within};

@@ -1,5 +1,5 @@
 ghost use Rattle.std.specs.Prelude.{◌≡◌, ℕ, IfNone, IfSome, None, false, map, true, slice_index_or};
-ghost use Rattle.least_due.specs.Dues.{IsLeast};
+ghost use Rattle.least.specs.Dues.{IsLeast};
 ghost use Rattle.ob_waits.specs.Deadlines.{AreListed, deadline_of, is_overdue};
 
 use crate::live::Live;

@@ -1,9 +1,9 @@
 ghost use Rattle.std.specs.Prelude.{◌≡◌, ◌<◌, ◌≤◌, ℕ, IfNone, IfSome, None, [], false, true, length, slice_index_or};
 ghost use Rattle.std.specs.Prelude.{slice_set, OnOk};
-ghost use Rattle.least_due.specs.Dues.{IsLeast, IsLeastSince};
+ghost use Rattle.least.specs.Dues.{IsLeast, IsLeastSince};
 ghost use Rattle.ob_body.specs.Timer.{is_due};
 
-use least_due::Dues;
+use least::Dues;
 use std::alloc::{AllocError, Global};
 use std::marker::Model;
 

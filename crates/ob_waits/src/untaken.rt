@@ -1,6 +1,6 @@
 ghost use Rattle.std.specs.Prelude.{[], ◌≡◌, ◌<◌, ◌≤◌, ◌+◌, ℕ, IfSome, List, None, Option, Some, OnOk, false, true};
 ghost use Rattle.std.specs.Prelude.{length, slice_index_or, slice_set};
-ghost use Rattle.least_free.specs.From.{IsAtMost, IsLeastFrom};
+ghost use Rattle.least.specs.From.{IsAtMost, IsLeastFrom};
 ghost use Rattle.ob_waits.specs.declared.wait.Wait.{Wait};
 ghost use Rattle.ob_waits.specs.Answers.{is_answered, AreTold, AreToldBut};
 ghost use Rattle.ob_waits.specs.Rules.{thread_of};

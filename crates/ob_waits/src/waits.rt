@@ -7,8 +7,8 @@ ghost use Rattle.ob_waits.specs.Waits.{without_wait, without_thread, is_pending,
 ghost use Rattle.ob_codec.specs.Reading.{Gives};
 ghost use Rattle.ob_waits.specs.Spelling.{WaitsFit, are_within, can_be, waits_at, waits_text};
 ghost use Rattle.ob_waits.specs.Waits.{is_code, new_wait, skipped, with_answered};
-ghost use Rattle.least_due.specs.Dues.{IsLeast};
-ghost use Rattle.least_free.specs.From.{IsLeastFrom};
+ghost use Rattle.least.specs.Dues.{IsLeast};
+ghost use Rattle.least.specs.From.{IsLeastFrom};
 ghost use Rattle.ob_waits.specs.Answers.{answer_of, is_answered};
 ghost use Rattle.ob_waits.specs.Deadlines.{AreAhead, deadline_of, is_overdue};
 ghost use Rattle.ob_waits.specs.Form.{IsAfter};

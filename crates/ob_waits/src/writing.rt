@@ -2,7 +2,7 @@
 ghost use Rattle.std.specs.Prelude.{◌≡◌, ◌++◌, ◌<◌, ℕ, IfOk, IfSome, None, OnOk, true, is_some, length};
 ghost use Rattle.std.specs.Prelude.{slice_index_or};
 ghost use Rattle.std.specs.List.{AllByRecursion, flat_map};
-ghost use Rattle.least_free.specs.From.{IsAtMost};
+ghost use Rattle.least.specs.From.{IsAtMost};
 ghost use Rattle.ob_codec.specs.Sparse.{entries_from};
 ghost use Rattle.ob_waits.specs.Numbers.{HasAll};
 ghost use Rattle.ob_waits.specs.Rows.{row_of};

@@ -1,8 +1,8 @@
 -- What a walk found, as C is told of it.
 use Rattle.std.proofs.Common.{◌≡◌, ◌+◌, ◌≤◌, ℕ, zero, suc, Bool, false, List, length, Option, Some, None, IfSome, ap, ◌∙◌, refl, subst, sym, arith}
 use Rattle.std.specs.Option.{option_map}
-use Rattle.least_due.specs.Dues.{IsLeast}
-use Rattle.least_free.specs.From.{IsLeastFrom}
+use Rattle.least.specs.Dues.{IsLeast}
+use Rattle.least.specs.From.{IsLeastFrom}
 use Rattle.pin_core.specs.declared.id.Id.{Id}
 use Rattle.ob_tables.specs.declared.entry.Entry.{Entry}
 use Rattle.ob_tables.specs.Table.{entry_at}

@@ -1,8 +1,8 @@
 -- What C is told of what there is.
 use Rattle.std.specs.Prelude.{◌≡◌, ◌+◌, ◌<◌, ◌≤◌, ℕ, nat_lt, IfSome, Bool, true, false, is_none, is_some, List, ◌++◌, ◌⊎◌, Option, Some, None, Result, Ok, Err, drop, length, map}
 use Rattle.std.specs.Option.{option_map}
-use Rattle.least_due.specs.Dues.{IsLeast}
-use Rattle.least_free.specs.From.{IsLeastFrom}
+use Rattle.least.specs.Dues.{IsLeast}
+use Rattle.least.specs.From.{IsLeastFrom}
 use Rattle.ob_rights.specs.Fault.{code_of}
 use Rattle.ob_rights.specs.declared.fault.Fault.{Fault}
 use Rattle.pin_core.specs.declared.id.Id.{Id}

@@ -1,6 +1,6 @@
 -- What C is told of a slot that is to be taken back.
 use Rattle.std.specs.Prelude.{◌≡◌, ◌+◌, ◌<◌, ◌≤◌, ℕ, List, Some, None, drop, take, length}
-use Rattle.least_free.specs.From.{IsLeastFrom}
+use Rattle.least.specs.From.{IsLeastFrom}
 use Rattle.pin_core.specs.declared.id.Id.{Id}
 use Rattle.pin_words.specs.declared.pin_keeper.Reclaim.{Reclaim}
 use Rattle.ob_store.specs.Closing.{is_closing_at}

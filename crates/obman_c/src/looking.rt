@@ -1,7 +1,7 @@
 //! What there is, and what state it is in, for debuggers and monitors and for whoever runs the guests. Nothing is
 //! changed.
 ghost use Rattle.std.specs.Prelude.{◌≡◌, ◌+◌, ◌++◌, ◌≤◌, None, drop, length, map, slice_index_or};
-ghost use Rattle.least_free.specs.From.{IsLeastFrom};
+ghost use Rattle.least.specs.From.{IsLeastFrom};
 ghost use Rattle.ob_waits.specs.Waits.{number_of};
 ghost use Rattle.ob_store.specs.Walking.{is_process, is_thread_of};
 ghost use Rattle.ob_manager.specs.Handles.{entry_of};

@@ -1,7 +1,7 @@
 ghost use Rattle.std.specs.Prelude.{◌≡◌, ◌≤◌, []};
 
 use crate::tests::same;
-use least_due::{Dues, PLACES_MAX};
+use least::{Dues, PLACES_MAX};
 use std::alloc::{AllocError, Global};
 use std::process::Abort;
 use std::test::Fail;

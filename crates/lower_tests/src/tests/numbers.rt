@@ -1,7 +1,7 @@
 ghost use Rattle.std.specs.Prelude.{◌≡◌, ◌≤◌, []};
 
 use crate::tests::same;
-use least_free::{LeastFree, Levels, NUMBERS_MAX};
+use least::{LeastFree, Levels, NUMBERS_MAX};
 use std::alloc::{AllocError, Global};
 use std::process::Abort;
 use std::test::Fail;

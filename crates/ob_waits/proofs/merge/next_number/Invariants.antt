@@ -1,6 +1,6 @@
 use Rattle.std.proofs.Common.{◌<◌, ℕ, get_or}
 use Rattle.std.specs.Prelude.{IfSome, ◌⊎◌}
-use Rattle.least_free.specs.From.{IsAtMost}
+use Rattle.least.specs.From.{IsAtMost}
 use Rattle.ob_waits.specs.Numbers.{numbers_of}
 use Rattle.ob_waits.specs.Rules.{IsSpent, Within}
 use Rattle.ob_waits.specs.Waits.{nowhere}

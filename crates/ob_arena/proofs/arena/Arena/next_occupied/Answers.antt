@@ -1,7 +1,7 @@
 use Rattle.std.proofs.Common.{get_or, ℕ, Some, None}
 use Rattle.std.proofs.Common.{arith}
 use Rattle.std.specs.Prelude.{is_some}
-use Rattle.least_free.proofs.NextLemmas.{same_test}
+use Rattle.least.proofs.NextLemmas.{same_test}
 use Rattle.ob_arena.specs.declared.phase.Phase.TheVariants.{Vacant}
 use Rattle.ob_arena.specs.Phases.{is_occupied}
 use Rattle.ob_arena.specs.Slots.{body_at}

@@ -1,5 +1,5 @@
 use Rattle.std.proofs.Common.{map, subst}
-use Rattle.least_due.specs.Dues.{IsLeast}
+use Rattle.least.specs.Dues.{IsLeast}
 use Rattle.ob_waits.specs.Form.{slot_due}
 use Rattle.ob_store.specs.Objects.{Places}
 use Rattle.ob_store.proofs.TimerLaws.{least_of_bodies}

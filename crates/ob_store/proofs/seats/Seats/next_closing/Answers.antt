@@ -1,6 +1,6 @@
 use Rattle.std.proofs.Common.{◌∙◌, ap}
-use Rattle.least_free.specs.Taken.{is_free_within}
-use Rattle.least_free.proofs.NextLemmas.{same_test}
+use Rattle.least.specs.Taken.{is_free_within}
+use Rattle.least.proofs.NextLemmas.{same_test}
 use Rattle.ob_store.specs.Closing.{is_closing_in}
 use Rattle.ob_store.specs.Objects.{Places, tags_in}
 use Rattle.ob_store.proofs.ClosingLaws.{closing_read}

@@ -1,5 +1,5 @@
 use Rattle.std.proofs.Common.{◌∙◌, ap, get_or, ℕ, None, is_some}
-use Rattle.least_free.proofs.NextLemmas.{same_test}
+use Rattle.least.proofs.NextLemmas.{same_test}
 use Rattle.ob_store.specs.Objects.{Places, tags_in}
 use Rattle.ob_store.proofs.WalkingLaws.{object_there}
 use Rattle.ob_store.proofs.seats.Seats.next_object.Goals as goal

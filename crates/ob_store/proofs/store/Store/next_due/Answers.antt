@@ -2,8 +2,8 @@ use Rattle.std.proofs.Common.{◌≡◌, ◌∙◌, sym, subst, ap, refl, arith,
 use Rattle.std.specs.Prelude.{IfSome}
 use Rattle.std.proofs.Math.ListN.{get_or-map}
 use Rattle.std.proofs.lemmas.Bool.{le-leb}
-use Rattle.least_due.specs.Dues.{IsLeast, NotAfter, due_at}
-use Rattle.least_due.proofs.BestLemmas.{least_joined}
+use Rattle.least.specs.Dues.{IsLeast, NotAfter, due_at}
+use Rattle.least.proofs.BestLemmas.{least_joined}
 use Rattle.ob_waits.specs.Deadlines.{deadline_of}
 use Rattle.ob_waits.specs.Form.{slot_due}
 use Rattle.ob_store.specs.Dues.{dues_of, reached}

@@ -1,0 +1,5 @@
+pub mod LevelLemmas
+pub mod SpareLemmas
+pub mod TakenLemmas
+pub mod NextLemmas
+pub mod BestLemmas

@@ -1,0 +1,41 @@
+//! The least of many: the least free number of a set, and the least due moment of a list.
+//!
+//! [`LeastFree`] is a set of numbers that grows with use. Every number at or past its length is free, so a new set takes
+//! no memory. Finding the least free number, taking it and giving it back are a few word operations at any length up to
+//! 65,536. It keeps a number that was given back apart, at one test a call: fewest words change where one number goes and
+//! comes, again and again. [`Levels`] has no such number.
+//!
+//! ```rust
+//! # use least::LeastFree;
+//! let mut free = LeastFree::new(alloc);
+//! free.grow()?;                 // takes 0
+//! free.grow()?;                 // takes 1
+//! free.give_back(0);
+//! free.least();                 // 0
+//! ```
+//!
+//! [`Dues`] has for each place of a list a moment at which something is due there, or none. The least moment is read in
+//! constant time, and a moment is written in a time that grows with the logarithm of the list's length. Only a new place
+//! takes memory.
+//!
+//! ```rust
+//! # use least::Dues;
+//! let mut dues = Dues::new(alloc);
+//! dues.push()?;                 // place 0
+//! dues.push()?;                 // place 1
+//! dues.set(1, Some(50));
+//! dues.least();                 // Some(50)
+//! dues.least_place();           // Some(1)
+//! ```
+#![tactic(auto)]
+
+mod best;
+mod due;
+mod free;
+mod levels;
+mod words;
+
+pub use best::sooner;
+pub use due::{Dues, PLACES_MAX};
+pub use free::{LeastFree, NUMBERS_MAX};
+pub use levels::Levels;

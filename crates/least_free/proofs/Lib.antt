@@ -1,4 +1,0 @@
-pub mod LevelLemmas
-pub mod SpareLemmas
-pub mod TakenLemmas
-pub mod NextLemmas

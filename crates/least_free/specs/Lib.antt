@@ -1,5 +1,0 @@
-pub mod Bits
-pub mod Levels
-pub mod Spare
-pub mod Taken
-pub mod From
