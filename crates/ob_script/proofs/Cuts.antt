@@ -1,12 +1,10 @@
 -- Where a byte is first found, in the words of lists.
-use Rattle.std.proofs.Common.{◌≡◌, ◌≢◌, Option, ℕ, ◌+◌, ◌-◌, ◌<◌, List, [], ◌∷◌, length, take, drop, Some, None, false, arith, ap, sym, subst, ◌∙◌}
-use Rattle.std.proofs.lemmas.Bool.{false_from_ne_true}
+use Rattle.std.proofs.Common.{◌≡◌, ◌≢◌, Option, ℕ, ◌+◌, ◌-◌, ◌<◌, List, [], ◌∷◌, length, take, drop, Some, None, arith, ap, sym, ◌∙◌}
 use Rattle.std.specs.Prelude.{MatchOption}
 use Rattle.std.specs.Borrow.{Bor}
 use Rattle.std.specs.List.{position_or_len, before_first, after_first}
 use Rattle.std.proofs.lemmas.List.{take_rest, drop-drop}
 use Rattle.std.proofs.lemmas.List.Sums.{position_or_len_is, fails_before_first}
-use Rattle.std.proofs.lemmas.List.Elements.{All-from_get_or}
 use Rattle.std.proofs.lemmas.List.Splits.{slice_split_first, slice_split_none, length-slice_split, join_with_byte-slice_split}
 use Rattle.memchr.specs.Find.{IsFirstByte, is_byte}
 use Rattle.ob_script.specs.Words.{words_of, joined}
@@ -15,18 +13,14 @@ use Rattle.ob_script.specs.WordsLeft.{words_left}
 -- the place that is found is the first
 pub first_place : (byte : ℕ) (text : List ℕ) (at : ℕ) → IsFirstByte (is_byte byte) text (Some at)
     → (position_or_len (is_byte byte) text ≡ at) × (at < length text)
-first_place byte text at found = (
-  position_or_len_is (is_byte byte) text at 0 (omega (arith, found.0.high))
-      (λ k before. false_from_ne_true _ (found.0.before k (omega arith) before)) (λ within. found.1),
-  found.0.high,
-)
+first_place byte text at found = search (arith, position_or_len_is)
 
 -- where none is found, the first place is the length
 pub no_place : (byte : ℕ) (text : List ℕ) → IsFirstByte (is_byte byte) text None
     → position_or_len (is_byte byte) text ≡ length text
 no_place byte text none =
     position_or_len_is (is_byte byte) text (length text) 0 (omega arith)
-    (λ k before. false_from_ne_true _ (none k (omega arith) before)) (λ past. absurd (omega arith))
+    (search arith) (λ past. absurd (omega arith))
 
 -- what is behind the first place
 pub behind_first : (byte : ℕ) (text rest : List ℕ) (at : ℕ) → IsFirstByte (is_byte byte) text (Some at)
@@ -41,17 +35,12 @@ pub words_first : (text : List ℕ) → position_or_len (is_byte 32) text < leng
 words_first text within = slice_split_first (is_byte 32) text 0 within
 
 pub words_last : (text : List ℕ) → position_or_len (is_byte 32) text ≡ length text → words_of text ≡ text ∷ []
-words_last text none = slice_split_none (is_byte 32) text
-    (All-from_get_or (λ byte. is_byte 32 byte ≡ false) text 0
-    (λ k within. fails_before_first (is_byte 32) text k 0 (omega arith)))
+words_last text none = search (arith, fails_before_first, slice_split_none)
 
 -- the same by the place that was found
 pub first_word : (text : List ℕ) (at : ℕ) → IsFirstByte (is_byte 32) text (Some at)
     → words_of text ≡ take at text ∷ words_of (take (length text - (at + 1)) (drop (at + 1) text))
-first_word text at found =
-    let first : position_or_len (is_byte 32) text ≡ at = (first_place 32 text at found).0 in
-    rw (take_rest text (at + 1)) (subst (λ n. words_of text ≡ take n text ∷ words_of (drop (n + 1) text)) first
-    (words_first text (omega (arith, first, (first_place 32 text at found).1))))
+first_word text at found = search (arith, first_place, words_first, take_rest)
 
 pub last_word : (text : List ℕ) → IsFirstByte (is_byte 32) text None → words_of text ≡ text ∷ []
 last_word text none = words_last text (no_place 32 text none)
@@ -68,4 +57,4 @@ words_joined text = join_with_byte-slice_split 32 text
 pub text_left : (rest : Option (Bor (List ℕ))) (words : List (List ℕ)) → words_left rest ≡ words
     → MatchOption rest (words ≡ []) (λ text. (text.now ≡ joined words) × (words ≢ []))
 text_left None words is = sym is
-text_left (Some rest) words is = (sym (words_joined rest.now) ∙ ap joined is, λ none. words_some rest.now (is ∙ none))
+text_left (Some rest) words is = search (arith, words_some, words_joined)

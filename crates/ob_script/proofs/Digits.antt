@@ -1,5 +1,5 @@
 -- The value of digits.
-use Rattle.std.proofs.Common.{◌≡◌, ℕ, suc, ◌+◌, ◌*◌, ◌^◌, ◌<◌, ◌≤◌, arith, ap, ◌∙◌}
+use Rattle.std.proofs.Common.{◌≡◌, ℕ, suc, ◌+◌, ◌*◌, ◌^◌, ◌<◌, arith, ap, ◌∙◌}
 use Rattle.std.proofs.Math.Nat.{pow-le-pow_right, pow-suc}
 
 -- at most nineteen digits fit 64 bits
@@ -9,5 +9,4 @@ one_more_digit value digit i small digit_small = let next : i + 1 ≡ suc i = om
 
 -- before the last of them there is room for one more
 pub within_18_digits : (value i : ℕ) → i < 19 → value < 10 ^ i → value < 1000000000000000000
-within_18_digits value i few small = let most : 10 ^ i ≤ 10 ^ 18 =
-    pow-le-pow_right {n = 10} (omega arith) {i = i} {j = 18} (omega (arith, few)) in omega arith
+within_18_digits value i few small = search (arith, pow-le-pow_right)

@@ -1,13 +1,10 @@
 -- What stands in the line of a call is read as it was written, field by field.
-use Rattle.std.proofs.Common.{◌≡◌, ℕ, zero, suc, ◌+◌, ◌<◌, ◌≤◌, arith, refl, ap, ◌∙◌, List, [], ◌∷◌, ◌++◌, Bool, true, false, not, ◌&&◌, Option, Some, None, decimal, map, codes, nat_lt, if◌then◌else◌, is_some, cond, length, take, drop}
+use Rattle.std.proofs.Common.{◌≡◌, ℕ, zero, suc, ◌+◌, ◌≤◌, arith, refl, ap, ◌∙◌, List, [], ◌∷◌, ◌++◌, Bool, true, false, Option, Some, None, decimal, map, codes, nat_lt, if◌then◌else◌, length, take, drop}
 use Rattle.std.specs.Str.{bytes_eq}
 use Rattle.std.specs.Str.Parse.{IsNumeral, AllDigits}
-use Rattle.std.specs.Char.{digit_value}
 use Rattle.std.specs.List.{position_or_len}
 use Rattle.std.proofs.Math.Seq.{take-append_seam, drop-append-add}
 use Rattle.memchr.specs.Find.{is_byte}
-use Rattle.std.specs.Option.{unwrap_or}
-use Rattle.std.proofs.lemmas.Bool.Decides.{nat_tests}
 use Rattle.std.proofs.lemmas.Fmt.{decimal_is_IsNumeral}
 use Rattle.pin_core.specs.declared.id.Id.{Id}
 use Rattle.ob_rights.specs.declared.kind.Kind.{Kind}
@@ -20,12 +17,12 @@ use Rattle.ob_manager.specs.declared.waiting.Timeout.TheVariants.{Zero, Infinite
 use Rattle.ob_manager.specs.Makings.{Making}
 use Rattle.ob_manager.specs.Copying.{closes, keeps_rights}
 use Rattle.ob_script.specs.Words.{words_of, joined, begins_with, behind, labelled, number_of, id_of, mask_of, kind_of, either_of, are_handles, handles_in, ◌>>=◌}
-use Rattle.ob_script.specs.Grammar.{some_mask, masked, text_of_words, name_of, named, make_of, target_of, access_of, closing_of, mode_of, timeout_of}
-use Rattle.ob_script.specs.Fitting.{FitsMask, FitsMake, FitsTarget, FitsTimeout, FitHandles}
+use Rattle.ob_script.specs.Grammar.{masked, text_of_words, name_of, named, make_of, target_of, access_of, closing_of, mode_of, timeout_of}
+use Rattle.ob_script.specs.Fitting.{FitsMake, FitsTarget, FitsTimeout, FitHandles}
 use Rattle.ob_script.specs.Writing.{label, id_word, mask_word, either_word, word_if, mask_words, text_words, name_words, make_words, kind_word, mode_word, timeout_word, target_word}
-use Rattle.ob_script.proofs.Cuts.{words_joined, words_some}
-use Rattle.ob_script.proofs.Numerals.{reads_number, reads_mask, digit_is}
-use Rattle.ob_script.proofs.Spaces.{is_word, AreWords, read_words, reads_next, reads_front, word_append, decimal_word, hex_word}
+use Rattle.ob_script.proofs.Cuts.{words_joined}
+use Rattle.ob_script.proofs.Numerals.{reads_number, reads_mask}
+use Rattle.ob_script.proofs.Spaces.{is_word, AreWords, read_words, reads_front, word_append, decimal_word, hex_word}
 
 -- the next value is read, and what is made of it
 pub read_next : {A B : Type 0} (read : Option A) (value : A) (make : A → Option B) → read ≡ Some value
@@ -35,11 +32,8 @@ read_next read value make is = ap (λ r. r >>= make) is
 pub reads_either : (first second : List ℕ) (is_so : Bool) → bytes_eq first first ≡ true → bytes_eq second first ≡ false
     → bytes_eq second second ≡ true
     → either_of first second (either_word first second is_so) ≡ Some is_so
-reads_either first second true same other self = ap
-    (λ b. if b then Some false else (if bytes_eq second second then Some true else None)) other
-    ∙ ap (λ b. if b then Some true else None) self
-reads_either first second false same other self = ap
-    (λ b. if b then Some false else (if bytes_eq first second then Some true else None)) same
+reads_either first second true same other self = search arith
+reads_either first second false same other self = search arith
 
 pub reads_rights : (mask : Rights) → mask.0 ≤ 4294967295 → mask_of (mask_word mask) ≡ Some mask
 reads_rights mask fits = reads_mask mask.0 fits
@@ -48,7 +42,7 @@ reads_rights mask fits = reads_mask mask.0 fits
 not_behind : (keyword : List ℕ) (words : List (List ℕ)) → begins_with keyword words ≡ false
     → behind keyword words ≡ words
 not_behind keyword [] is = refl
-not_behind keyword (word ∷ words) is = ap (λ b. if b then words else word ∷ words) is
+not_behind keyword (word ∷ words) is = search arith
 
 pub behind_inherit : (is_so : Bool) (rest : List (List ℕ)) → begins_with (codes "inherit") rest ≡ false
     → behind (codes "inherit") (word_if is_so (codes "inherit") ++ rest) ≡ rest
@@ -60,20 +54,6 @@ pub begins_inherit : (is_so : Bool) (rest : List (List ℕ)) → begins_with (co
 begins_inherit true rest is = refl
 begins_inherit false rest is = is
 
-reads_masked : (keyword : List ℕ) (mask : Option Rights) (rest : List (List ℕ)) → bytes_eq keyword keyword ≡ true
-    → begins_with keyword rest ≡ false → FitsMask mask
-    → masked keyword (mask_words keyword mask ++ rest) ≡ Some (mask, rest)
-reads_masked keyword None rest self is fits = ap (λ b. if b then some_mask (behind keyword rest) else Some (
-  None,
-  rest,
-)) is
-reads_masked keyword (Some mask) rest self is fits =
-    ap (λ b. if b then some_mask (if b then mask_word mask ∷ rest else keyword ∷ mask_word mask ∷ rest) else Some (
-      None,
-      keyword ∷ mask_word mask ∷ rest,
-    )) self
-    ∙ read_next (mask_of (mask_word mask)) mask (λ m. Some (Some m, rest)) (reads_rights mask fits)
-
 -- the name of a create, as it stands in the words of a line
 abbrev pub name_read : Option (List ℕ) → List (List ℕ)
 name_read None = []
@@ -83,26 +63,12 @@ abbrev pub make_read : Making → List (List ℕ)
 make_read make = word_if make.inherit (codes "inherit")
     ++ (mask_words (codes "access") make.access ++ (mask_words (codes "grant") make.grant ++ name_read make.name))
 
-not_name : (keyword : List ℕ) → bytes_eq (codes "name") keyword ≡ false → (name : Option (List ℕ))
-    → begins_with keyword (name_read name) ≡ false
-not_name keyword other None = refl
-not_name keyword other (Some text) = other
-
-not_mask : (keyword other : List ℕ) → bytes_eq other keyword ≡ false → (mask : Option Rights) (rest : List (List ℕ))
-    → begins_with keyword rest ≡ false → begins_with keyword (mask_words other mask ++ rest) ≡ false
-not_mask keyword other differs None rest is = is
-not_mask keyword other differs (Some mask) rest is = differs
-
 some_text : (words : List (List ℕ)) → (words ≡ [] → ⊥) → text_of_words words ≡ Some (joined words)
 some_text [] some = absurd (some refl)
 some_text (word ∷ words) some = refl
 
 pub reads_text : (text : List ℕ) → name_of (codes "name" ∷ words_of text) ≡ Some text
-reads_text text = some_text (words_of text) (words_some text) ∙ ap (λ t. Some t) (words_joined text)
-
-reads_named : (name : Option (List ℕ)) → named (name_read name) ≡ Some name
-reads_named None = refl
-reads_named (Some text) = read_next (name_of (codes "name" ∷ words_of text)) text (λ t. Some (Some t)) (reads_text text)
+reads_text text = search (arith, some_text, words_joined)
 
 abbrev made : List (List ℕ) → Option Rights → Option Rights → Option (List ℕ) → Making
 made words access grant name = record {
@@ -128,63 +94,21 @@ module _ (make : Making) where
   abbrev access_rest : List (List ℕ)
   access_rest = mask_words (codes "access") make.access ++ grant_rest
 
-  no_grant : begins_with (codes "grant") named_rest ≡ false
-  no_grant = not_name (codes "grant") refl make.name
-
-  no_access : begins_with (codes "access") grant_rest ≡ false
-  no_access = not_mask (codes "access") (codes "grant") refl make.grant named_rest
-      (not_name (codes "access") refl make.name)
-
-  no_inherit : begins_with (codes "inherit") access_rest ≡ false
-  no_inherit = not_mask (codes "inherit") (codes "access") refl make.access grant_rest
-      (not_mask (codes "inherit") (codes "grant") refl make.grant named_rest
-      (not_name (codes "inherit") refl make.name))
-
   pub reads_make : FitsMake make → make_of (make_read make) ≡ Some make
-  reads_make fits =
-      ap (λ rest. masked (codes "access") rest >>= from_grant (make_read make))
-      (behind_inherit make.inherit access_rest no_inherit)
-      ∙ read_next (masked (codes "access") access_rest) (make.access, grant_rest) (from_grant (make_read make))
-      (reads_masked (codes "access") make.access grant_rest refl no_access fits.access)
-      ∙ read_next (masked (codes "grant") grant_rest) (make.grant, named_rest) (from_name (make_read make) make.access)
-      (reads_masked (codes "grant") make.grant named_rest refl no_grant fits.grant)
-      ∙ read_next (named named_rest) make.name (λ name. Some (made (make_read make) make.access make.grant name))
-      (reads_named make.name)
-      ∙ ap (λ is_so. Some (record make { inherit = is_so })) (begins_inherit make.inherit access_rest no_inherit)
-
--- the words of a create have no space but in the name
-word_if_is : (is_so : Bool) (word : List ℕ) → is_word word ≡ true → AreWords (word_if is_so word)
-word_if_is true word is = (is, tt)
-word_if_is false word is = tt
-
-masks_are : (keyword : List ℕ) (mask : Option Rights) → is_word keyword ≡ true → AreWords (mask_words keyword mask)
-masks_are keyword None is = tt
-masks_are keyword (Some mask) is = (is, (hex_word mask.0, tt))
+  reads_make fits = search (arith, reads_rights, reads_text)
 
 pub reads_name_words : (name : Option (List ℕ)) → read_words (name_words name) ≡ name_read name
 reads_name_words None = refl
-reads_name_words (Some text) = reads_next (codes "name") (text ∷ []) refl
+reads_name_words (Some text) = search arith
 
 pub reads_make_words : (make : Making) → read_words (make_words make) ≡ make_read make
-reads_make_words make =
-    reads_front (word_if make.inherit (codes "inherit")) (mask_words (codes "access") make.access
-    ++ (mask_words (codes "grant") make.grant ++ name_words make.name))
-    (word_if_is make.inherit (codes "inherit") refl)
-    ∙ ap (λ rest. word_if make.inherit (codes "inherit") ++ rest)
-    (reads_front (mask_words (codes "access") make.access) (mask_words (codes "grant") make.grant
-    ++ name_words make.name) (masks_are (codes "access") make.access refl)
-    ∙ ap (λ rest. mask_words (codes "access") make.access ++ rest)
-    (reads_front (mask_words (codes "grant") make.grant) (name_words make.name)
-    (masks_are (codes "grant") make.grant refl)
-    ∙ ap (λ rest. mask_words (codes "grant") make.grant ++ rest) (reads_name_words make.name)))
+reads_make_words make = search (arith, hex_word, reads_front)
 
 -- an open's words behind its mask
 pub reads_open_words : (inherit : Bool) (text : List ℕ)
     → read_words (word_if inherit (codes "inherit") ++ text_words text) ≡ word_if inherit (codes "inherit")
     ++ (codes "name" ∷ words_of text)
-reads_open_words inherit text =
-    reads_front (word_if inherit (codes "inherit")) (text_words text) (word_if_is inherit (codes "inherit") refl)
-    ∙ ap (λ rest. word_if inherit (codes "inherit") ++ rest) (reads_next (codes "name") (text ∷ []) refl)
+reads_open_words inherit text = search arith
 
 -- the words of a duplicate behind its mask
 pub dup_words_are : (inherit : Bool) (is_so : Bool)
@@ -208,7 +132,7 @@ pub reads_access : (same : Bool) (mask : Rights) → mask.0 ≤ 4294967295
       if same then 2 else 0,
     )
 reads_access true mask fits = refl
-reads_access false mask fits = read_next (mask_of (mask_word mask)) mask (λ m. Some (m, 0)) (reads_rights mask fits)
+reads_access false mask fits = search (arith, reads_rights)
 
 pub options_are : (options : ℕ) → nat_lt options 4 ≡ true
     → (if keeps_rights options then 2 else 0) + (if closes options then 1 else 0) ≡ options
@@ -216,12 +140,11 @@ options_are zero few = refl
 options_are (suc zero) few = refl
 options_are (suc (suc zero)) few = refl
 options_are (suc (suc (suc zero))) few = refl
-options_are (suc (suc (suc (suc more)))) few = grind (arith, nat_tests)
+options_are (suc (suc (suc (suc more)))) few = grind arith
 
 pub reads_target : (target : Option ℕ) → FitsTarget target → target_of (target_word target) ≡ Some target
 reads_target None fits = refl
-reads_target (Some process) fits = read_next (labelled 112 (label 112 process)) process (λ p. Some (Some p))
-    (reads_number process fits)
+reads_target (Some process) fits = search (arith, reads_number)
 
 pub target_is_word : (target : Option ℕ) → is_word (target_word target) ≡ true
 target_is_word None = refl
@@ -254,14 +177,11 @@ mode_is_word All = refl
 
 -- digits are no keyword
 not_inf : (ds : List ℕ) → IsNumeral 10 ds → bytes_eq ds (codes "inf") ≡ false
-not_inf [] is = absurd (omega (arith, is.0))
-not_inf (c ∷ cs) is = let d = digit_is c is.1.0 in grind (arith, nat_tests)
+not_inf [] is = absurd (omega arith)
+not_inf (c ∷ cs) is = search arith
 
 reads_millis : (n : ℕ) → n ≤ 4294967295 → timeout_of (decimal n) ≡ Some (Millis n)
-reads_millis n fits =
-    ap (λ b. if b then Some Infinite else (number_of (decimal n) >>= (λ millis. Some (Millis millis))))
-    (not_inf (decimal n) (decimal_is_IsNumeral n (omega (arith, fits))).0)
-    ∙ read_next (number_of (decimal n)) n (λ millis. Some (Millis millis)) (reads_number n fits)
+reads_millis n fits = search (arith, not_inf, decimal_is_IsNumeral, reads_number)
 
 abbrev pub said_timeout : Timeout → Timeout
 said_timeout Zero = Millis 0
@@ -283,11 +203,7 @@ pub reads_handles : (handles : List ℕ) → FitHandles handles
     → (are_handles (map (label 104) handles) ≡ true) × (handles_in (map (label 104) handles) ≡ handles)
 reads_handles [] fit = (refl, refl)
 reads_handles (handle ∷ handles) fit =
-    let rest = reads_handles handles fit.1 in (
-      ap (λ read. is_some read && are_handles (map (label 104) handles)) (reads_number handle fit.0) ∙ rest.0,
-      ap (λ read. unwrap_or read 0 ∷ handles_in (map (label 104) handles)) (reads_number handle fit.0)
-          ∙ ap (λ more. handle ∷ more) rest.1,
-    )
+    let rest = reads_handles handles fit.1 in search (arith, reads_number)
 
 pub handles_are_words : (handles : List ℕ) → AreWords (map (label 104) handles)
 handles_are_words [] = tt
@@ -296,12 +212,7 @@ handles_are_words (handle ∷ handles) = (decimal_word handle, handles_are_words
 -- an object's slot ends at the full stop
 stop_place : (ds rest : List ℕ) → AllDigits 10 ds → position_or_len (is_byte 46) (ds ++ 46 ∷ rest) ≡ length ds
 stop_place [] rest all = refl
-stop_place (c ∷ cs) rest all =
-    ap (λ b. cond (not b) (1 + position_or_len (is_byte 46) (cs ++ 46 ∷ rest)) 0) (no_stop c all.0)
-    ∙ omega (arith, stop_place cs rest all.1)
-  where
-    no_stop : (c : ℕ) → digit_value c < 10 → is_byte 46 c ≡ false
-    no_stop c small = let d = digit_is c small in grind (arith, nat_tests)
+stop_place (c ∷ cs) rest all = search (arith, stop_place cs rest all.1)
 
 pub reads_id : (id : Id) → id.slot ≤ 4294967295 → id.generation ≤ 4294967295 → id_of (id_word id) ≡ Some id
 reads_id id slot_fits generation_fits =
@@ -322,12 +233,7 @@ reads_id id slot_fits generation_fits =
     word = (115 ∷ slot_digits) ++ 46 ∷ decimal id.generation
 
     place : position_or_len (is_byte 46) word ≡ length (115 ∷ slot_digits)
-    place = omega (
-      arith,
-      stop_place slot_digits (decimal id.generation)
-          (decimal_is_IsNumeral id.slot (omega (arith, slot_fits))).0.1,
-    )
+    place = search (arith, stop_place, decimal_is_IsNumeral)
 
 pub id_is_word : (id : Id) → is_word (id_word id) ≡ true
-id_is_word id = word_append (label 115 id.slot) (label 46 id.generation) (decimal_word id.slot)
-    (decimal_word id.generation)
+id_is_word id = search (arith, decimal_word, word_append)

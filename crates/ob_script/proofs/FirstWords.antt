@@ -1,6 +1,5 @@
 -- The first word of a line is that of its text, unless the text is shorter.
-use Rattle.std.proofs.Common.{◌≡◌, ℕ, zero, suc, ◌+◌, ◌-◌, ◌<◌, ◌≤◌, List, [], ◌∷◌, length, take, drop, Bool, true, false, cond, not, min, arith, ap, sym, subst, ◌∙◌}
-use Rattle.std.specs.Prelude.{slice_index, ◌==◌}
+use Rattle.std.proofs.Common.{◌≡◌, ℕ, zero, suc, ◌+◌, ◌-◌, ◌<◌, ◌≤◌, List, [], ◌∷◌, length, take, drop, Bool, true, false, cond, min, arith, sym}
 use Rattle.std.specs.List.{position_or_len}
 use Rattle.std.proofs.Math.Seq.{take-length}
 use Rattle.std.proofs.lemmas.List.{length-take-le, take_rest}
@@ -13,33 +12,23 @@ use Rattle.ob_script.proofs.Cuts.{words_first, words_last}
 place_of_front : (p : ℕ → Bool) (n : ℕ) (xs : List ℕ) → position_or_len p (take n xs) ≡ min n (position_or_len p xs)
 place_of_front p zero xs = omega arith
 place_of_front p (suc n) [] = omega arith
-place_of_front p (suc n) (x ∷ xs) = by_first (not (p x)) (place_of_front p n xs) where
-  by_first : (b : Bool) → position_or_len p (take n xs) ≡ min n (position_or_len p xs)
-      → cond b (1 + position_or_len p (take n xs)) 0 ≡ min (suc n) (cond b (1 + position_or_len p xs) 0)
-  by_first true later = omega (arith, later)
-  by_first false later = omega arith
+place_of_front p (suc n) (x ∷ xs) = search (arith, place_of_front p n xs)
 
 module _ (line : List ℕ) where
   front_or_all : (b : Bool) → cond b (take (length line - 1) line) line
       ≡ take (length (cond b (take (length line - 1) line) line)) line
-  front_or_all true = ap (λ n. take n line) (sym (length-take-le (length line - 1) line (omega arith)))
+  front_or_all true = search (arith, length-take-le)
   front_or_all false = sym (take-length line)
 
   place_in_text : position_or_len (is_byte 32) (text_of line)
       ≡ min (length (text_of line)) (position_or_len (is_byte 32) line)
-  place_in_text =
-      ap (position_or_len (is_byte 32)) (front_or_all (slice_index line (length line - 1) == 13))
-      ∙ place_of_front (is_byte 32) (length (text_of line)) line
+  place_in_text = search (arith, place_of_front, front_or_all)
 
   pub first_word : (word : ℕ) → position_or_len (is_byte 32) line ≡ word → word < length (text_of line)
       → words_of (text_of line) ≡ take word (text_of line)
       ∷ words_of (take (length (text_of line) - (word + 1)) (drop (word + 1) (text_of line)))
-  first_word word is within =
-      let first : position_or_len (is_byte 32) (text_of line) ≡ word = omega (arith, place_in_text, is, within) in
-      rw (take_rest (text_of line) (word + 1)) (subst
-      (λ n. words_of (text_of line) ≡ take n (text_of line) ∷ words_of (drop (n + 1) (text_of line))) first
-      (words_first (text_of line) (omega (arith, first, within))))
+  first_word word is within = search (arith, place_in_text, take_rest, words_first)
 
   pub only_word : (word : ℕ) → position_or_len (is_byte 32) line ≡ word → length (text_of line) ≤ word
       → words_of (text_of line) ≡ text_of line ∷ []
-  only_word word is past = words_last (text_of line) (omega (arith, place_in_text, is, past))
+  only_word word is past = search (arith, place_in_text, words_last)

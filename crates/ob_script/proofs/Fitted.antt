@@ -6,5 +6,5 @@ pub each_fits : (handles : List ℕ) → All Small handles → FitHandles handle
 each_fits [] all = tt
 each_fits (handle ∷ handles) all = (
   all 0 0 (omega arith),
-  each_fits handles (λ k d within. all (suc k) d (omega (arith, within))),
+  each_fits handles (λ k d within. all (suc k) d (omega arith)),
 )

@@ -1,16 +1,14 @@
 -- The digits with which a text begins, and the word that they are.
-use Rattle.std.proofs.Common.{◌≡◌, ◌≢◌, ℕ, suc, ◌+◌, ◌-◌, ◌*◌, ◌<◌, ◌≤◌, List, ◌++◌, ◌&&◌, [], ◌∷◌, Option, Some, None, Bool, true, false, length, take, drop, get_or, arith, refl, ap, sym, subst, ◌∙◌, zero, inl, inr, cond}
-use Rattle.std.specs.Prelude.{IfSome, not}
+use Rattle.std.proofs.Common.{◌≡◌, ◌≢◌, ℕ, suc, ◌+◌, ◌-◌, ◌*◌, ◌<◌, ◌≤◌, List, ◌++◌, ◌&&◌, [], ◌∷◌, Option, Some, None, true, false, length, take, drop, get_or, arith, refl, ap, sym, subst, ◌∙◌, zero, inl, inr}
+use Rattle.std.specs.Prelude.{IfSome}
 use Rattle.std.specs.Borrow.{Bor}
 use Rattle.std.specs.List.{list_all, onto_first, position_or_len}
 use Rattle.std.specs.Char.{is_ascii_digit}
 use Rattle.std.proofs.Math.Seq.{take-suc}
 use Rattle.std.proofs.lemmas.Bool.{cases_lt, ne_eqb, true≢false}
-use Rattle.std.proofs.lemmas.Bool.Decides.{nat_tests}
 use Rattle.std.proofs.lemmas.List.{get_or-take, length-take, take_all, take_rest, take-take}
 use Rattle.std.proofs.lemmas.List.Elements.{All-get_or}
 use Rattle.std.proofs.lemmas.List.Folds.{list_all_at, list_all_more}
-use Rattle.std.proofs.lemmas.List.Splits.{slice_split-cons_no}
 use Rattle.std.proofs.lemmas.List.Sums.{AllPass-from_list_all, passes_at_first, position_or_len_is, prefix_len-le-length}
 use Rattle.memchr.specs.Find.{is_byte}
 use Rattle.ob_script.specs.WordsLeft.{words_left}
@@ -36,13 +34,12 @@ digits_more text i within before digit = list_all_more is_ascii_digit text i 0 w
 
 -- digits are other bytes than one that is none
 pub other_byte : (stop byte : ℕ) → is_ascii_digit stop ≡ false → is_ascii_digit byte ≡ true → is_byte stop byte ≡ false
-other_byte stop byte other digit = ne_eqb byte stop
-    (λ is. true≢false (sym digit ∙ ap is_ascii_digit is ∙ other))
+other_byte stop byte other digit = search arith
 
 among_digits : (stop : ℕ) (text : List ℕ) (n k : ℕ) → is_ascii_digit stop ≡ false
     → list_all is_ascii_digit (take n text) ≡ true → n ≤ length text → k < n → is_byte stop (get_or text k 0) ≡ false
 among_digits stop text n k other digits within before =
-    other_byte stop (get_or text k 0) other (sym (ap is_ascii_digit (get_or-take n text k 0 before))
+    other_byte stop (get_or text k 0) other (sym (search (arith, get_or-take))
     ∙ All-get_or (λ byte. is_ascii_digit byte ≡ true) (take n text) k 0 (grind (arith, length-take n text))
     (AllPass-from_list_all is_ascii_digit (take n text) digits))
 
@@ -51,14 +48,14 @@ pub first_stop : (stop : ℕ) (text : List ℕ) (n : ℕ) → is_ascii_digit sto
     → list_all is_ascii_digit (take n text) ≡ true → n ≤ length text
     → (n < length text → is_byte stop (get_or text n 0) ≡ true) → position_or_len (is_byte stop) text ≡ n
 first_stop stop text n other digits within is = position_or_len_is (is_byte stop) text n 0 within
-    (λ k before. among_digits stop text n k other digits within before) is
+    (search (arith, among_digits)) is
 
 -- the digits with which a text begins stand before it
 pub digits_before : (stop : ℕ) (text : List ℕ) (n : ℕ) → is_ascii_digit stop ≡ false
     → list_all is_ascii_digit (take n text) ≡ true → n ≤ length text → n ≤ position_or_len (is_byte stop) text
 digits_before stop text n other digits within = elim (cases_lt (position_or_len (is_byte stop) text) n) [
   | inl before ↦
-      absurd (true≢false (sym (passes_at_first (is_byte stop) text 0 (omega (arith, before, within)))
+      absurd (true≢false (sym (search (arith, passes_at_first))
       ∙ among_digits stop text n (position_or_len (is_byte stop) text) other digits within before))
   | inr past ↦ past
 ]
@@ -66,7 +63,7 @@ digits_before stop text n other digits within = elim (cases_lt (position_or_len 
 -- one to ten digits are a number, unless their value is too great
 pub number_is : (word : List ℕ) (value : ℕ) → list_all is_ascii_digit word ≡ true → value_of word ≡ value
     → 1 ≤ length word → length word ≤ 10 → value ≤ 4294967295 → number_of word ≡ Some value
-number_is word value digits is some few small = grind (arith, nat_tests)
+number_is word value digits is some few small = grind arith
 
 -- a number is the last word, or the first
 pub number_last : (text : List ℕ) (n value : ℕ) → list_all is_ascii_digit (take n text) ≡ true
@@ -75,9 +72,8 @@ pub number_last : (text : List ℕ) (n value : ℕ) → list_all is_ascii_digit 
 number_last text n value digits is last some few small =
     let whole : take n text ≡ text = take_all n text (omega arith) in (
       text,
-      number_is text value (sym (ap (list_all is_ascii_digit) whole) ∙ digits) (sym (ap value_of whole)
-          ∙ is) (omega arith) (omega arith) small,
-      words_last text (first_stop 32 text n refl digits (omega arith) (λ within. absurd (omega arith)) ∙ last),
+      search arith,
+      search (arith, first_stop, words_last),
     )
 
 pub number_first : (text : List ℕ) (n value : ℕ) → list_all is_ascii_digit (take n text) ≡ true
@@ -86,18 +82,16 @@ pub number_first : (text : List ℕ) (n value : ℕ) → list_all is_ascii_digit
     × (words_of text ≡ word ∷ words_of (take (length text - (n + 1)) (drop (n + 1) text)))
 number_first text n value digits is within blank some few small =
     let at : position_or_len (is_byte 32) text ≡ n =
-    first_stop 32 text n refl digits (omega arith) (λ _. ap (is_byte 32) blank) in (
+    search (arith, first_stop) in (
       take n text,
-      number_is (take n text) value digits is (grind (arith, length-take n text))
-          (grind (arith, length-take n text)) small,
-      rw (take_rest text (n + 1)) (subst (λ m. words_of text ≡ take m text ∷ words_of (drop (m + 1) text)) at
-          (words_first text (omega (arith, at)))),
+      search (arith, length-take),
+      search (arith, take_rest, words_first),
     )
 
 -- and so it is behind a letter, which is no blank
 labelled_is : (letter : ℕ) (word : List ℕ) (value : ℕ) → number_of word ≡ Some value
     → labelled letter (letter ∷ word) ≡ Some value
-labelled_is letter word value number = grind (arith, nat_tests)
+labelled_is letter word value number = grind arith
 
 pub behind_letter : (letter : ℕ) (text digits : List ℕ) (found : Option (ℕ × Option (Bor (List ℕ)))) → letter ≢ 32
     → 1 ≤ length text → get_or text 0 0 ≡ letter →
@@ -105,59 +99,25 @@ pub behind_letter : (letter : ℕ) (text digits : List ℕ) (found : Option (ℕ
     × (words_of digits ≡ word ∷ words_left number.1)) → digits ≡ drop 1 text →
     IfSome found (λ number. (word : List ℕ) × (labelled letter word ≡ Some number.0)
     × (words_of text ≡ word ∷ words_left number.1))
-behind_letter letter [] digits found dark some is number rest = absurd (omega (arith, some))
+behind_letter letter [] digits found dark some is number rest = absurd (omega arith)
 behind_letter letter (first ∷ more) digits None dark some is number rest = number
 behind_letter letter (first ∷ more) digits (Some found) dark some is (word, number, words) rest = (
   letter ∷ word,
   labelled_is letter word found.0 number,
-  slice_split-cons_no (is_byte 32) first more (ap (is_byte 32) is ∙ ne_eqb letter 32 dark)
-      ∙ ap (onto_first first) (sym (ap words_of rest) ∙ words) ∙ ap (λ byte. (byte ∷ word) ∷ words_left found.1) is,
+  search arith,
 )
 
 -- the first word of a text ends at the first blank
 pub first_word_is : (text word : List ℕ) (more : List (List ℕ)) → words_of text ≡ word ∷ more
     → word ≡ take (position_or_len (is_byte 32) text) text
-first_word_is text word more words = elim (cases_lt (position_or_len (is_byte 32) text) (length text)) [
-  | inl within ↦ ap (λ (ws : List (List ℕ)). get_or ws 0 []) (sym words ∙ words_first text within)
-  | inr past ↦
-      let most = prefix_len-le-length (λ byte. not (is_byte 32 byte)) text in
-      ap (λ (ws : List (List ℕ)). get_or ws 0 []) (sym words ∙ words_last text (omega (arith, past, most)))
-      ∙ sym (take_all (position_or_len (is_byte 32) text) text past)
-]
-
-none_long : (word : List ℕ) → 10 < length word → number_of word ≡ None
-none_long word long = grind (arith, nat_tests)
-
-none_empty : (word : List ℕ) → length word < 1 → number_of word ≡ None
-none_empty word short = grind (arith, nat_tests)
-
-none_great : (word : List ℕ) → 4294967295 < value_of word → number_of word ≡ None
-none_great word great = grind (arith, nat_tests)
-
-none_other : (word : List ℕ) → list_all is_ascii_digit word ≡ false → number_of word ≡ None
-none_other word other = grind (arith, nat_tests)
+first_word_is text word more words = search (arith, prefix_len-le-length, take_all, words_first, words_last)
 
 -- a word whose digits are none, too many or too great, or that goes on with something else, is no number
 no_digits : (word : List ℕ) (n value : ℕ) → list_all is_ascii_digit (take n word) ≡ true
     → value_of (take n word) ≡ value → n ≤ length word
     → (n ≤ 10 → n < length word → is_ascii_digit (get_or word n 0) ≡ false)
     → (n ≢ 0 → n ≤ 10 → value ≤ 4294967295 → n < length word) → number_of word ≡ None
-no_digits word n value digits is within stop fails = elim (cases_lt 10 n) [
-  | inl long ↦ none_long word (omega (arith, within, long))
-  | inr few ↦ elim (cases_lt n (length word)) [
-    | inl before ↦ none_other word (list_all_at is_ascii_digit word n 0 before (stop few before))
-    | inr past ↦ ends (omega (arith, past, within)) few
-  ]
-]
-  where
-    ends : n ≡ length word → n ≤ 10 → number_of word ≡ None
-    ends at few = elim (cases_lt 4294967295 value) [
-      | inl great ↦ none_great word (omega (arith, great, is, ap value_of (take_all n word (omega (arith, at)))))
-      | inr small ↦ elim (cases_lt 0 n) [
-        | inl some ↦ absurd (omega (arith, at, fails (omega (arith, some)) few small))
-        | inr none ↦ none_empty word (omega (arith, at, none))
-      ]
-    ]
+no_digits word n value digits is within stop fails = search (arith, list_all_at, take_all)
 
 -- the part of a text before its first such byte: the digits with which the text begins are those of the part
 pub no_digits_before : (stop : ℕ) (text : List ℕ) (n value : ℕ) → is_ascii_digit stop ≡ false
@@ -168,18 +128,18 @@ pub no_digits_before : (stop : ℕ) (text : List ℕ) (n value : ℕ) → is_asc
 no_digits_before stop text n value other digits is within ends fails =
     no_digits (take p text) n value (ap (list_all is_ascii_digit) same ∙ digits) (ap value_of same ∙ is)
     (omega (arith, many, least))
-    (λ few before. ap is_ascii_digit (get_or-take p text n 0 (omega (arith, before, many)))
-    ∙ ends few (omega (arith, before, many, most)))
+    (λ few before. ap is_ascii_digit (get_or-take p text n 0 (omega (arith, many)))
+    ∙ ends few (omega (arith, many, most)))
     further
   where
     p : ℕ
     p = position_or_len (is_byte stop) text
 
     least : n ≤ p
-    least = digits_before stop text n other digits within
+    least = search (arith, digits_before)
 
     most : p ≤ length text
-    most = prefix_len-le-length (λ byte. not (is_byte stop byte)) text
+    most = search (arith, prefix_len-le-length)
 
     many : length (take p text) ≡ p
     many = grind (arith, length-take p text, most)
@@ -189,12 +149,11 @@ no_digits_before stop text n value other digits is within ends fails =
 
     further : n ≢ 0 → n ≤ 10 → value ≤ 4294967295 → n < length (take p text)
     further some few small = elim (cases_lt n p) [
-      | inl before ↦ omega (arith, before, many)
+      | inl before ↦ omega (arith, many)
       | inr past ↦
           let behind = fails some few small in
-          let at : p ≡ n = omega (arith, past, least) in
-          absurd (true≢false (sym (passes_at_first (is_byte stop) text 0 (omega (arith, at, behind.0)))
-          ∙ ap (λ (m : ℕ). is_byte stop (get_or text m 0)) at ∙ behind.1))
+          let at : p ≡ n = omega (arith, least) in
+          search (arith, passes_at_first)
     ]
 
 pub no_number : (text : List ℕ) (n value : ℕ) → list_all is_ascii_digit (take n text) ≡ true
@@ -210,7 +169,7 @@ no_number text n value digits is within stop fails word more words =
 pub ruleset number_laws = (number_last, number_first, no_number)
 
 labelled_none : (letter : ℕ) (word : List ℕ) → number_of word ≡ None → labelled letter (letter ∷ word) ≡ None
-labelled_none letter word none = grind (arith, nat_tests)
+labelled_none letter word none = grind arith
 
 behind_none : (letter : ℕ) (words : List (List ℕ)) (word : List ℕ) (more : List (List ℕ)) → (words ≡ [] → ⊥)
     → ((w : List ℕ) (ws : List (List ℕ)) → words ≡ w ∷ ws → number_of w ≡ None)
@@ -225,23 +184,19 @@ pub none_behind : (letter : ℕ) (text digits : List ℕ) → letter ≢ 32 → 
     → digits ≡ drop 1 text
     → ((w : List ℕ) (ws : List (List ℕ)) → words_of digits ≡ w ∷ ws → number_of w ≡ None)
     → (word : List ℕ) (more : List (List ℕ)) → words_of text ≡ word ∷ more → labelled letter word ≡ None
-none_behind letter [] digits dark some is rest none word more words = absurd (omega (arith, some))
+none_behind letter [] digits dark some is rest none word more words = absurd (omega arith)
 none_behind letter (first ∷ text) digits dark some is rest none word more words =
     behind_none letter (words_of text) word more (words_some text)
     (λ w ws now. none w ws (ap words_of rest ∙ now))
-    (sym (slice_split-cons_no (is_byte 32) first text (ap (is_byte 32) is ∙ ne_eqb letter 32 dark)
-    ∙ ap (λ (byte : ℕ). onto_first byte (words_of text)) is) ∙ words)
+    (search arith)
 
 pub other_letter : (letter p : ℕ) (text : List ℕ) → (1 ≤ length text → get_or text 0 0 ≢ letter)
     → labelled letter (take p text) ≡ None
 other_letter letter zero text other = refl
 other_letter letter (suc p) [] other = refl
-other_letter letter (suc p) (first ∷ text) other =
-    ap (λ (b : Bool). cond b (number_of (take p text)) None) (ne_eqb first letter (other (omega arith)))
+other_letter letter (suc p) (first ∷ text) other = search arith
 
 -- the letter isn't there
 pub none_led : (letter : ℕ) (text : List ℕ) → (1 ≤ length text → get_or text 0 0 ≢ letter)
     → (word : List ℕ) (more : List (List ℕ)) → words_of text ≡ word ∷ more → labelled letter word ≡ None
-none_led letter text other word more words =
-    subst (λ (w : List ℕ). labelled letter w ≡ None) (sym (first_word_is text word more words))
-    (other_letter letter (position_or_len (is_byte 32) text) text other)
+none_led letter text other word more words = search (arith, first_word_is, other_letter)

@@ -1,35 +1,30 @@
 -- A call without a line is refused, and changes nothing.
-use Rattle.std.proofs.Common.{◌≡◌, ℕ, ◌≤◌, arith, refl, ap, sym, subst, ◌∙◌, List, [], ◌∷◌, ◌++◌, length, length-append, Bool, true, false, not, ◌&&◌, ◌||◌, ◌==◌, Option, Some, None, Result, Ok, Err, codes, decimal, nat_lt, nat_le, if◌then◌else◌, is_ok, true≢false}
-use Rattle.std.proofs.lemmas.Bool.{and_right, or_right}
+use Rattle.std.proofs.Common.{◌≡◌, ℕ, ◌≤◌, arith, refl, ap, sym, ◌∙◌, List, [], ◌∷◌, ◌++◌, length, length-append, Bool, true, false, not, ◌&&◌, Option, Some, None, Result, Ok, Err, codes, nat_lt, is_ok, true≢false}
 use Rattle.std.specs.Fmt.{signed_decimal}
 use Rattle.std.specs.List.{list_all}
-use Rattle.std.proofs.lemmas.Bool.Decides.{nat_tests}
 use Rattle.std.proofs.lemmas.List.{length-map}
 use Rattle.ob_rights.specs.declared.fault.Fault.{Fault}
-use Rattle.ob_rights.specs.declared.fault.Fault.TheVariants as fault
 use Rattle.ob_rights.specs.declared.kind.Kind.{Kind}
 use Rattle.ob_rights.specs.declared.rights.Rights.{Rights}
-use Rattle.ob_name.specs.Names.{ObjectName}
-use Rattle.ob_name.specs.Texts.{checked_base, is_printable, name_of, split_name}
+use Rattle.ob_name.specs.Texts.{is_printable, name_of}
 use Rattle.ob_waits.specs.declared.wait.Mode.{Mode}
 use Rattle.ob_store.specs.State.{State, Whole}
-use Rattle.ob_store.specs.Ticks.{last_moment, ticked}
 use Rattle.ob_manager.specs.declared.waiting.Timeout.{Timeout}
 use Rattle.ob_manager.specs.Calls.{Call}
 use Rattle.ob_manager.specs.declared.call.CallOf.TheVariants as calls
 use Rattle.ob_manager.specs.declared.creating.New.{New}
 use Rattle.ob_manager.specs.declared.reply.Reply.{Reply}
-use Rattle.ob_manager.specs.declared.reply.Reply.TheVariants.{Refused, Ticked}
+use Rattle.ob_manager.specs.declared.reply.Reply.TheVariants.{Refused}
 use Rattle.ob_manager.specs.Makings.{Making}
-use Rattle.ob_manager.specs.Outcomes.{Outcome, ◌>>=◌, refuse_if}
+use Rattle.ob_manager.specs.Outcomes.{Outcome, ◌>>=◌}
 use Rattle.ob_manager.specs.Copying.{closes, duplicate, is_wrong, keeps_rights}
 use Rattle.ob_manager.specs.Creating.{create, name_in, new_event, new_mutex, new_semaphore, new_timer, open_named, own_name}
 use Rattle.ob_manager.specs.Timing.{tick}
-use Rattle.ob_manager.specs.Waiting.{has_twice, is_misshapen, same_handle, wait}
+use Rattle.ob_manager.specs.Waiting.{wait}
 use Rattle.ob_manager.specs.Steps.{Step, does, closes as closes_source, lacks, KeeperAfter, final, outcome_of}
 use Rattle.ob_script.specs.Fitting.{Fits, FitsMake, FitsTarget, FitsTimeout, FitHandles}
-use Rattle.ob_script.specs.Writing.{label, mask_word, either_word, word_if, mask_words, name_words, make_words, kind_word, handle_words, words_for, can_be_said, line_of}
-use Rattle.ob_script.proofs.Short.{IsShort, AreShort, no_feed, have_line, number_short, label_short, id_short, signed_short, mask_short, known_short, either_short, kind_short, mode_short, timeout_short, target_short, access_short, handles_short, append_short, if_short, masks_short, if_few, make_few}
+use Rattle.ob_script.specs.Writing.{label, either_word, word_if, name_words, make_words, handle_words, words_for, can_be_said, line_of}
+use Rattle.ob_script.proofs.Short.{IsShort, AreShort, no_feed, have_line, number_short, label_short, id_short, signed_short, mask_short, known_short, kind_short, mode_short, timeout_short, target_short, access_short, handles_short, append_short, if_short, masks_short, make_few}
 
 -- a chain of tests fails where its first part does, and where all that follows does
 first_fails : {A B : Type 0} (r : Result A Fault) (f : A → Result B Fault) → is_ok r ≡ false → is_ok (r >>= f) ≡ false
@@ -47,46 +42,17 @@ is_nameable text = not (nat_lt 260 (length text)) && list_all no_feed text
 
 unprintable : (text : List ℕ) → list_all no_feed text ≡ false → list_all is_printable text ≡ false
 unprintable [] is = absurd (true≢false is)
-unprintable (byte ∷ bytes) is = by (no_feed byte) refl (unprintable bytes)
-  where
-    unprinted : no_feed byte ≡ false → is_printable byte ≡ false
-    unprinted feed = grind (arith, nat_tests)
-
-    by : (b : Bool) → no_feed byte ≡ b → (list_all no_feed bytes ≡ false → list_all is_printable bytes ≡ false)
-        → (is_printable byte && list_all is_printable bytes) ≡ false
-    by true good rest = and_right (is_printable byte) (list_all is_printable bytes)
-        (rest (sym (ap (λ b. b && list_all no_feed bytes) good) ∙ is))
-    by false feed rest = ap (λ b. b && list_all is_printable bytes) (unprinted feed)
+unprintable (byte ∷ bytes) is = search (arith, unprintable bytes)
 
 unnamed : (text : List ℕ) (session : ℕ) → is_nameable text ≡ false → is_ok (name_of text session) ≡ false
-unnamed text session is = by (nat_lt 260 (length text)) (list_all no_feed text) refl refl
-  where
-    behind : Bool → Result ObjectName Fault
-    behind printable = if not printable then Err fault.Parameter else checked_base (split_name text session)
-
-    long_or : Bool → Result ObjectName Fault
-    long_or long = if long then Err fault.NameLong else behind (list_all is_printable text)
-
-    by : (a b : Bool) → nat_lt 260 (length text) ≡ a → list_all no_feed text ≡ b → is_ok (name_of text session) ≡ false
-    by true b long feeds = ap (λ a. is_ok (long_or a)) long
-    by false true long feeds = absurd (true≢false (sym (ap (λ a. not a && list_all no_feed text) long ∙ feeds) ∙ is))
-    by false false long feeds = ap (λ a. is_ok (long_or a)) long ∙ ap (λ b. is_ok (behind b)) (unprintable text feeds)
+unnamed text session is = search (arith, unprintable)
 
 nameless : (s : State) (process : ℕ) (text : List ℕ) → is_nameable text ≡ false → is_ok (name_in s process text) ≡ false
-nameless s process text is =
-    let fails : (session : ℕ) → is_ok (name_of text session) ≡ false = λ session. unnamed text session is in
-    search (rest_fails, fails)
+nameless s process text is = search (arith, unnamed)
 
 -- one that is has its place there
 name_short : (text : List ℕ) → is_nameable text ≡ true → IsShort 260 text
-name_short text is = by (nat_lt 260 (length text)) refl
-  where
-    by : (b : Bool) → nat_lt 260 (length text) ≡ b → IsShort 260 text
-    by true long = absurd (true≢false (sym (sym (ap (λ a. not a && list_all no_feed text) long) ∙ is)))
-    by false short = record {
-      len = grind (arith, nat_tests);
-      within = sym (ap (λ a. not a && list_all no_feed text) short) ∙ is;
-    }
+name_short text is = search arith
 
 wide : 21 ≤ 260
 wide = omega arith
@@ -94,26 +60,14 @@ wide = omega arith
 word : (w : List ℕ) → length w ≤ 21 → list_all no_feed w ≡ true → IsShort 260 w
 word = known_short 260 wide
 
--- what a create asks for has its words, where its name does
-make_short : (make : Making) → FitsMake make → AreShort 260 (name_words make.name) → AreShort 260 (make_words make)
-make_short make fits named =
-    append_short 260 wide (word_if make.inherit (codes "inherit")) _
-    (if_short 260 wide make.inherit (codes "inherit") (word (codes "inherit") (omega arith) refl))
-    (append_short 260 wide (mask_words (codes "access") make.access) _
-    (masks_short 260 wide (codes "access") make.access (word (codes "access") (omega arith) refl) fits.access)
-    (append_short 260 wide (mask_words (codes "grant") make.grant) _
-    (masks_short 260 wide (codes "grant") make.grant (word (codes "grant") (omega arith) refl) fits.grant) named))
-
 own_fails : (s : State) (process : ℕ) (name : Option (List ℕ)) (text : List ℕ) → name ≡ Some text
     → is_nameable text ≡ false → is_ok (own_name s process name) ≡ false
-own_fails s process name text is bad =
-    ap (λ n. is_ok (own_name s process n)) is ∙ first_fails (name_in s process text) (λ name. Ok (Some name))
-    (nameless s process text bad)
+own_fails s process name text is bad = search (arith, first_fails, nameless)
 
 unnamed_fails : (s : State) (thread : ℕ) (make : Making) (what : Result New Fault)
     → ((process : ℕ) → is_ok (own_name s process make.name) ≡ false)
     → is_ok (create s thread make what) ≡ false
-unnamed_fails s thread make what fails = search (rest_fails, first_fails, fails)
+unnamed_fails s thread make what fails = search (rest_fails, first_fails)
 
 module _ (s : State) (thread : ℕ) (make : Making) (what : Result New Fault) (call : Call) (front : List (List ℕ))
     (front_are : AreShort 260 front) (few : length front ≤ 5)
@@ -121,39 +75,26 @@ module _ (s : State) (thread : ℕ) (make : Making) (what : Result New Fault) (c
     (none : line_of call ≡ None) where
   lined : AreShort 260 (name_words make.name) → ⊥
   lined named =
-      have_line 260 call can (subst (AreShort 260) (sym words)
-      (append_short 260 wide front (make_words make) front_are (make_short make fits named)))
-      (omega (arith, ap length words, length-append front (make_words make), make_few make, few)) none
+      have_line 260 call can (search (arith, append_short, masks_short))
+      (omega (arith, ap length words, length-append front (make_words make), make_few make)) none
 
   create_fails : is_ok (create s thread make what) ≡ false
-  create_fails = by make.name refl
-    where
-      by_text : (text : List ℕ) (b : Bool) → make.name ≡ Some text → is_nameable text ≡ b
-          → is_ok (create s thread make what) ≡ false
-      by_text text true is good = absurd (lined (subst (λ n. AreShort 260 (name_words n)) (sym is)
-          (word (codes "name") (omega arith) refl, (name_short text good, tt))))
-      by_text text false is bad = unnamed_fails s thread make what
-          (λ process. own_fails s process make.name text is bad)
-
-      by : (name : Option (List ℕ)) → make.name ≡ name → is_ok (create s thread make what) ≡ false
-      by None is = absurd (lined (subst (λ n. AreShort 260 (name_words n)) (sym is) tt))
-      by (Some text) is = by_text text (is_nameable text) is refl
+  create_fails = search (arith, name_short, own_fails, unnamed_fails, lined)
 
 -- a verb with a thread and a handle, and words behind
 handle_short : (verb : List ℕ) (thread handle : ℕ) (more : List (List ℕ)) → IsShort 260 verb → thread ≤ 4294967295
     → handle ≤ 4294967295 → AreShort 260 more → AreShort 260 (handle_words verb thread handle more)
-handle_short verb thread handle more is thread_fits handle_fits are =
-    (is, (label_short 260 wide 116 thread refl thread_fits, (label_short 260 wide 104 handle refl handle_fits, are)))
+handle_short verb thread handle more is thread_fits handle_fits are = search (arith, wide, label_short)
 
 -- a verb and a number behind a letter
 lone_short : (verb : List ℕ) (letter n : ℕ) → IsShort 260 verb → no_feed letter ≡ true → n ≤ 4294967295
     → AreShort 260 (verb ∷ label letter n ∷ [])
-lone_short verb letter n is good fits = (is, (label_short 260 wide letter n good fits, tt))
+lone_short verb letter n is good fits = search (arith, wide, label_short)
 
 nameless_fails : (s : State) (thread : ℕ) (kind : Kind) (mask : Rights) (inherit : Bool) (text : List ℕ)
     → ((process : ℕ) → is_ok (name_in s process text) ≡ false)
     → is_ok (open_named s thread kind mask inherit text) ≡ false
-nameless_fails s thread kind mask inherit text fails = search (rest_fails, first_fails, fails)
+nameless_fails s thread kind mask inherit text fails = search (rest_fails, first_fails)
 
 open_fails : (s : State) (thread : ℕ) (kind : Kind) (mask : Rights) (inherit : Bool) (text : List ℕ)
     → thread ≤ 4294967295 → mask.0 ≤ 4294967295
@@ -162,10 +103,10 @@ open_fails : (s : State) (thread : ℕ) (kind : Kind) (mask : Rights) (inherit :
 open_fails s thread kind mask inherit text fits mask_fits none = by (is_nameable text) refl
   where
     call : Call
-    call = calls.OpenNamed thread kind mask inherit text
+    call = search (arith, calls.OpenNamed)
 
     front : List (List ℕ)
-    front = codes "open" ∷ label 116 thread ∷ kind_word kind ∷ mask_word mask ∷ word_if inherit (codes "inherit")
+    front = grind arith
 
     named : List (List ℕ)
     named = codes "name" ∷ text ∷ []
@@ -175,7 +116,7 @@ open_fails s thread kind mask inherit text fits mask_fits none = by (is_nameable
         have_line 260 call refl (
           word (codes "open") (omega arith) refl,
           (
-            label_short 260 wide 116 thread refl fits,
+            search (arith, wide, label_short),
             (
               kind_short 260 wide kind,
               (
@@ -187,18 +128,11 @@ open_fails s thread kind mask inherit text fits mask_fits none = by (is_nameable
             ),
           ),
         )
-        (omega (arith, length-append (word_if inherit (codes "inherit")) named, if_few inherit (codes "inherit"))) none
+        (search arith) none
 
     by : (b : Bool) → is_nameable text ≡ b → is_ok (open_named s thread kind mask inherit text) ≡ false
     by true good = absurd (lined (name_short text good))
-    by false bad = nameless_fails s thread kind mask inherit text (λ process. nameless s process text bad)
-
-misshapen_fails : (s : State) (thread : ℕ) (mode : Mode) (timeout : Timeout) (handles : List ℕ)
-    → is_misshapen handles ≡ true → is_ok (wait s thread mode timeout handles) ≡ false
-misshapen_fails s thread mode timeout handles bad =
-    let refused : is_ok (refuse_if (is_misshapen handles) fault.Parameter) ≡ false =
-    ap (λ b. is_ok (refuse_if b fault.Parameter)) bad in
-    search (rest_fails, first_fails, refused)
+    by false bad = search (arith, nameless, nameless_fails)
 
 wait_fails : (s : State) (thread : ℕ) (mode : Mode) (timeout : Timeout) (handles : List ℕ) → thread ≤ 4294967295
     → FitsTimeout timeout → FitHandles handles
@@ -211,7 +145,7 @@ wait_fails s thread mode timeout handles fits timeout_fits handles_fit none = by
     lined : length handles ≤ 64 → ⊥
     lined few =
         have_line 21 (calls.WaitFor thread mode timeout handles) refl (
-          known_short 21 least (codes "wait") (omega arith) refl,
+          search arith,
           (
             label_short 21 least 116 thread refl fits,
             (
@@ -223,21 +157,11 @@ wait_fails s thread mode timeout handles fits timeout_fits handles_fit none = by
             ),
           ),
         )
-        (omega (arith, length-map handles (label 104), few)) none
+        (search (arith, length-map)) none
 
     by : (b : Bool) → nat_lt 64 (length handles) ≡ b → is_ok (wait s thread mode timeout handles) ≡ false
-    by true many = misshapen_fails s thread mode timeout handles
-        (ap (λ b. (length handles == 0) || (b || has_twice same_handle handles)) many
-        ∙ or_right (length handles == 0) true refl)
-    by false few = absurd (lined (grind (arith, nat_tests)))
-
-wrong_fails : (s : State) (thread source handle : ℕ) (target : Option ℕ) (mask : Rights) (inherit : Bool) (options : ℕ)
-    → is_wrong options target ≡ true
-    → is_ok (duplicate s thread source handle target mask inherit options) ≡ false
-wrong_fails s thread source handle target mask inherit options wrong =
-    let refused : is_ok (refuse_if (is_wrong options target) fault.Parameter) ≡ false =
-    ap (λ b. is_ok (refuse_if b fault.Parameter)) wrong in
-    search (rest_fails, first_fails, refused)
+    by true many = search arith
+    by false few = absurd (lined (grind arith))
 
 dup_fails : (s : State) (thread source handle : ℕ) (target : Option ℕ) (mask : Rights) (inherit : Bool) (options : ℕ)
     → thread ≤ 4294967295 → source ≤ 4294967295 → handle ≤ 4294967295 → FitsTarget target → mask.0 ≤ 4294967295
@@ -250,16 +174,16 @@ dup_fails s thread source handle target mask inherit options fits source_fits ha
     call = calls.Duplicate thread source handle target mask inherit options
 
     behind : List (List ℕ)
-    behind = word_if inherit (codes "inherit") ++ word_if (closes options) (codes "close")
+    behind = grind arith
 
     lined : nat_lt options 4 ≡ true → ⊥
     lined few =
         have_line 260 call few (
           word (codes "dup") (omega arith) refl,
           (
-            label_short 260 wide 116 thread refl fits,
+            search (arith, wide, label_short),
             (
-              label_short 260 wide 112 source refl source_fits,
+              search (arith, wide, label_short),
               (
                 label_short 260 wide 104 handle refl handle_fits,
                 (
@@ -275,67 +199,36 @@ dup_fails s thread source handle target mask inherit options fits source_fits ha
             ),
           ),
         )
-        (omega (
-          arith,
-          length-append (word_if inherit (codes "inherit")) (word_if (closes options) (codes "close")),
-          if_few inherit (codes "inherit"),
-          if_few (closes options) (codes "close"),
-        )) none
+        (search arith) none
 
     wrong : nat_lt options 4 ≡ false → (target : Option ℕ) → is_wrong options target ≡ true
-    wrong more None = ap (λ b. b || not (closes options)) (past more)
-      where
-        past : nat_lt options 4 ≡ false → nat_lt 3 options ≡ true
-        past more = grind (arith, nat_tests)
-    wrong more (Some target) = grind (arith, nat_tests)
+    wrong more None = search arith
+    wrong more (Some target) = grind arith
 
     by : (b : Bool) → nat_lt options 4 ≡ b → is_ok (duplicate s thread source handle target mask inherit options)
         ≡ false
     by true few = absurd (lined few)
-    by false more = wrong_fails s thread source handle target mask inherit options (wrong more target)
+    by false more = search arith
 
 tick_fails : (s : State) (now : ℕ) → line_of (calls.Tick now) ≡ None → is_ok (tick s now) ≡ false
-tick_fails s now none = by (nat_le now 9223372036854775807) refl
-  where
-    by : (b : Bool) → nat_le now 9223372036854775807 ≡ b → is_ok (tick s now) ≡ false
-    by true early =
-        absurd (have_line 260 (calls.Tick now) early (
-          word (codes "tick") (omega arith) refl,
-          (number_short 260 wide now (grind (arith, nat_tests)), tt),
-        ) (omega arith) none)
-    by false late = ap (λ b. is_ok {T = Outcome} (refuse_if b fault.Parameter >>=
-        (λ _. Ok (record { reply = Ticked now; state = ticked now s })))) (past late)
-      where
-        past : nat_le now 9223372036854775807 ≡ false → (nat_lt now s.clock || nat_lt last_moment now) ≡ true
-        past late = ap (λ b. nat_lt now s.clock || b) (after late) ∙ or_right (nat_lt now s.clock) true refl
-          where
-            after : nat_le now 9223372036854775807 ≡ false → nat_lt last_moment now ≡ true
-            after late = grind (arith, nat_tests)
+tick_fails s now none = search (arith, number_short)
 
 -- whichever call it is
 fails : (s : State) (call : Call) (reply : Reply) → Fits call → line_of call ≡ None
     → is_ok (outcome_of s call reply) ≡ false
-fails s (calls.Spawn session) reply fits none =
-    absurd (have_line 260 (calls.Spawn session) refl (
-      word (codes "spawn") (omega arith) refl,
-      (number_short 260 wide session (omega (arith, fits)), tt),
-    ) (omega arith) none)
+fails s (calls.Spawn session) reply fits none = search (arith, number_short)
 fails s (calls.Child thread inherit) reply fits none =
     absurd (have_line 260 (calls.Child thread inherit) refl (
       word (codes "child") (omega arith) refl,
       (
-        label_short 260 wide 116 thread refl fits,
-        (
-          either_short 260 wide (codes "plain") (codes "inherit") inherit (word (codes "plain") (omega arith) refl)
-              (word (codes "inherit") (omega arith) refl),
-          tt,
-        ),
+        search (arith, wide, label_short),
+        search arith,
       ),
     )
     (omega arith) none)
 fails s (calls.StartThread process) reply fits none =
     absurd (have_line 260 (calls.StartThread process) refl
-    (lone_short (codes "thread") 112 process (word (codes "thread") (omega arith) refl) refl fits) (omega arith) none)
+    (lone_short (codes "thread") 112 process (search arith) refl fits) (omega arith) none)
 fails s (calls.MakeEvent thread make manual set) reply fits none =
     create_fails s thread make (Ok (new_event manual set)) (calls.MakeEvent thread make manual set)
     (codes "event" ∷ label 116 thread ∷ either_word (codes "auto") (codes "manual") manual
@@ -343,15 +236,7 @@ fails s (calls.MakeEvent thread make manual set) reply fits none =
       word (codes "event") (omega arith) refl,
       (
         label_short 260 wide 116 thread refl fits.0,
-        (
-          either_short 260 wide (codes "auto") (codes "manual") manual (word (codes "auto") (omega arith) refl)
-              (word (codes "manual") (omega arith) refl),
-          (
-            either_short 260 wide (codes "clear") (codes "set") set (word (codes "clear") (omega arith) refl)
-                (word (codes "set") (omega arith) refl),
-            tt,
-          ),
-        ),
+        search arith,
       ),
     )
     (omega arith) refl refl fits.1 none
@@ -361,18 +246,14 @@ fails s (calls.MakeMutex thread make owned) reply fits none =
       word (codes "mutex") (omega arith) refl,
       (
         label_short 260 wide 116 thread refl fits.0,
-        (
-          either_short 260 wide (codes "free") (codes "owned") owned (word (codes "free") (omega arith) refl)
-              (word (codes "owned") (omega arith) refl),
-          tt,
-        ),
+        search arith,
       ),
     )
     (omega arith) refl refl fits.1 none
 fails s (calls.MakeSemaphore thread make initial max) reply fits none =
     create_fails s thread make (new_semaphore initial max) (calls.MakeSemaphore thread make initial max)
     (codes "semaphore" ∷ label 116 thread ∷ signed_decimal initial ∷ signed_decimal max ∷ []) (
-      word (codes "semaphore") (omega arith) refl,
+      search arith,
       (
         label_short 260 wide 116 thread refl fits.0,
         (
@@ -388,18 +269,13 @@ fails s (calls.MakeTimer thread make manual) reply fits none =
       word (codes "timer") (omega arith) refl,
       (
         label_short 260 wide 116 thread refl fits.0,
-        (
-          either_short 260 wide (codes "auto") (codes "manual") manual (word (codes "auto") (omega arith) refl)
-              (word (codes "manual") (omega arith) refl),
-          tt,
-        ),
+        search arith,
       ),
     )
     (omega arith) refl refl fits.1 none
 fails s (calls.OpenNamed thread kind mask inherit text) reply fits none =
     open_fails s thread kind mask inherit text fits.0 fits.1 none
-fails s (calls.Duplicate thread source handle target mask inherit options) reply fits none =
-    dup_fails s thread source handle target mask inherit options fits.0 fits.1 fits.2 fits.3 fits.4 none
+fails s (calls.Duplicate thread source handle target mask inherit options) reply fits none = search (arith, dup_fails)
 fails s (calls.CloseHandle thread handle) reply fits none =
     absurd (have_line 260 (calls.CloseHandle thread handle) refl
     (handle_short (codes "close") thread handle [] (word (codes "close") (omega arith) refl) fits.0 fits.1 tt)
@@ -410,9 +286,7 @@ fails s (calls.GetFlags thread handle) reply fits none =
     (omega arith) none)
 fails s (calls.SetFlags thread handle mask flags) reply fits none =
     absurd (have_line 260 (calls.SetFlags thread handle mask flags) refl
-    (handle_short (codes "setflags") thread handle (decimal mask ∷ decimal flags ∷ [])
-    (word (codes "setflags") (omega arith) refl) fits.0 fits.1
-    (number_short 260 wide mask (omega (arith, fits.2)), (number_short 260 wide flags (omega (arith, fits.3)), tt)))
+    (search (arith, label_short, number_short))
     (omega arith) none)
 fails s (calls.SetEvent thread handle) reply fits none =
     absurd (have_line 260 (calls.SetEvent thread handle) refl
@@ -425,35 +299,35 @@ fails s (calls.ResetEvent thread handle) reply fits none =
 fails s (calls.ReleaseSemaphore thread handle count) reply fits none =
     absurd (have_line 260 (calls.ReleaseSemaphore thread handle count) refl
     (handle_short (codes "release") thread handle (signed_decimal count ∷ [])
-    (word (codes "release") (omega arith) refl) fits.0 fits.1
+    (search arith) fits.0 fits.1
     (signed_short 260 wide 2147483648 count (omega arith) fits.2, tt))
     (omega arith) none)
 fails s (calls.ReleaseMutex thread handle) reply fits none =
     absurd (have_line 260 (calls.ReleaseMutex thread handle) refl
-    (handle_short (codes "unlock") thread handle [] (word (codes "unlock") (omega arith) refl) fits.0 fits.1 tt)
+    (handle_short (codes "unlock") thread handle [] (search arith) fits.0 fits.1 tt)
     (omega arith) none)
 fails s (calls.SetTimer thread handle due) reply fits none =
     absurd (have_line 260 (calls.SetTimer thread handle due) refl
     (handle_short (codes "settimer") thread handle (signed_decimal due ∷ [])
-    (word (codes "settimer") (omega arith) refl) fits.0 fits.1
+    (search arith) fits.0 fits.1
     (signed_short 260 wide 9223372036854775808 due (omega arith) fits.2, tt))
     (omega arith) none)
 fails s (calls.CancelTimer thread handle) reply fits none =
     absurd (have_line 260 (calls.CancelTimer thread handle) refl
-    (handle_short (codes "cancel") thread handle [] (word (codes "cancel") (omega arith) refl) fits.0 fits.1 tt)
+    (handle_short (codes "cancel") thread handle [] (search arith) fits.0 fits.1 tt)
     (omega arith) none)
 fails s (calls.Tick now) reply fits none = tick_fails s now none
 fails s (calls.WaitFor thread mode timeout handles) reply fits none =
     wait_fails s thread mode timeout handles fits.0 fits.1 fits.2 none
 fails s (calls.WaitResult number) reply fits none =
     absurd (have_line 260 (calls.WaitResult number) refl
-    (lone_short (codes "result") 119 number (word (codes "result") (omega arith) refl) refl fits) (omega arith) none)
+    (lone_short (codes "result") 119 number (search arith) refl fits) (omega arith) none)
 fails s (calls.Expire number) reply fits none = absurd
     (have_line 260 (calls.Expire number) refl (lone_short (codes "expire") 119 number
-    (word (codes "expire") (omega arith) refl) refl fits) (omega arith) none)
+    (search arith) refl fits) (omega arith) none)
 fails s (calls.EndThread thread) reply fits none =
     absurd (have_line 260 (calls.EndThread thread) refl
-    (lone_short (codes "endthread") 116 thread (word (codes "endthread") (omega arith) refl) refl fits)
+    (lone_short (codes "endthread") 116 thread (search arith) refl fits)
     (omega arith) none)
 fails s (calls.Exit process) reply fits none = absurd
     (have_line 260 (calls.Exit process) refl (lone_short (codes "exit") 112 process
@@ -461,10 +335,7 @@ fails s (calls.Exit process) reply fits none = absurd
 fails s (calls.Reap slot) reply fits none = absurd
     (have_line 260 (calls.Reap slot) refl (lone_short (codes "reap") 115 slot
     (word (codes "reap") (omega arith) refl) refl fits) (omega arith) none)
-fails s (calls.Counts id) reply fits none =
-    absurd (have_line 42 (calls.Counts id) refl
-    (known_short 42 (omega arith) (codes "count") (omega arith) refl, (id_short 21 (omega arith) id fits.0 fits.1, tt))
-    (omega arith) none)
+fails s (calls.Counts id) reply fits none = search (arith, id_short)
 
 -- what refuses leaves all as it was
 refused_of : (w v : Whole) (reply : Reply) (r : Result Outcome Fault) → is_ok r ≡ false
@@ -474,7 +345,7 @@ refused_of w v reply (Ok outcome) bad is keeps = absurd (true≢false bad)
 refused_of w v reply (Err e) bad is keeps =
     let said : Refused e ≡ reply = ap (λ (o : Outcome). o.reply) is in
     let kept : v.keeper ≡ w.keeper =
-    subst (λ (r : Reply). KeeperAfter r v.state w.keeper v.keeper) (sym said) keeps in (
+    search arith in (
       ap (λ (s : State). record { state = s; keeper = v.keeper }) (sym (ap (λ (o : Outcome). o.state) is))
           ∙ ap (λ k. record { state = w.state; keeper = k }) kept,
       e,

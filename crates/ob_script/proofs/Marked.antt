@@ -1,5 +1,5 @@
 -- What marks on the first bytes of a text say of it.
-use Rattle.std.proofs.Common.{◌≡◌, ℕ, ◌<◌, ◌≤◌, ◌%◌, ◌^◌, List, Bool, true, false, length, take, get_or, map, replicate, cond, eqb, arith, refl, ap, sym, subst, ◌∙◌, w8, w64, ⊎_elim, bit_or}
+use Rattle.std.proofs.Common.{◌≡◌, ℕ, ◌<◌, ◌≤◌, ◌%◌, ◌^◌, List, true, false, length, take, get_or, map, replicate, cond, eqb, arith, ap, sym, subst, ◌∙◌, w8, w64, ⊎_elim, bit_or}
 use Rattle.std.specs.Int.{bit_at, trailing_zeros}
 use Rattle.std.specs.List.{position_or_len}
 use Rattle.std.specs.Simd.Lanes.{mask_l, top, zip2, chunk}
@@ -9,7 +9,6 @@ use Rattle.std.proofs.lemmas.List.Sums.{position_or_len_is}
 use Rattle.std.proofs.lemmas.Nat.{or_lt}
 use Rattle.std.proofs.lemmas.Nat.Bits.{bit_at-trailing_zeros, bit_at_or}
 use Rattle.std.proofs.lemmas.Simd.{bitmask_splat, bit_mask_l, get_or-chunk}
-use Rattle.memchr.proofs.lemmas.BitLemmas.{or_ge_right}
 use Rattle.memchr.specs.Find.{is_byte}
 use Rattle.ob_script.specs.Marks.{Marks}
 
@@ -19,25 +18,13 @@ pub marks_compared : (byte : ℕ) (bytes : List ℕ) → length bytes ≡ 32
     % 2 ^ 64)
 marks_compared byte bytes long =
     subst (Marks (is_byte byte) bytes 32) (sym (bitmask_splat w8 eqb bytes 32 byte long (omega arith))) (record {
-      each = λ k within. bit_mask_l (map (is_byte byte) bytes) k
-          ∙ ap (λ b. cond b 1 0) (get_or-map (is_byte byte) bytes k 0 false (omega (arith, long, within)));
-      within = λ k set. ⊎_elim (λ within. within) (λ past. absurd (omega (arith, set, clear_past k past)))
+      each = search (arith, bit_mask_l, get_or-map);
+      within = λ k set. ⊎_elim (λ within. within) (λ past. absurd (omega (arith, clear_past k past)))
           (cases_lt k 32);
     })
   where
     clear_past : (k : ℕ) → 32 ≤ k → bit_at (mask_l (map (is_byte byte) bytes)) k ≡ 0
-    clear_past k past =
-        bit_mask_l (map (is_byte byte) bytes) k
-        ∙ ap (λ b. cond b 1 0) (get_or_past (map (is_byte byte) bytes) k false
-        (omega (arith, long, past, length-map bytes (is_byte byte))))
-
-set_tells : (b : Bool) → cond {A = ℕ} b 1 0 ≡ 1 → b ≡ true
-set_tells true is = refl
-set_tells false is = absurd (omega (arith, is))
-
-clear_tells : (b : Bool) → cond {A = ℕ} b 1 0 ≡ 0 → b ≡ false
-clear_tells true is = absurd (omega (arith, is))
-clear_tells false is = refl
+    clear_past k past = search (arith, bit_mask_l, get_or_past, length-map)
 
 module _ (text : List ℕ) (long : 32 ≤ length text) where
   from_front : (k : ℕ) → k < 32 → get_or (chunk 0 32 text) k 0 ≡ get_or text k 0
@@ -45,14 +32,11 @@ module _ (text : List ℕ) (long : 32 ≤ length text) where
 
   set_is : (byte marks k : ℕ) → Marks (is_byte byte) (chunk 0 32 text) 32 marks → bit_at marks k ≡ 1
       → is_byte byte (get_or text k 0) ≡ true
-  set_is byte marks k are set =
-      subst (λ (b : ℕ). is_byte byte b ≡ true) (from_front k (are.within k set))
-      (set_tells _ (sym (are.each k (are.within k set)) ∙ set))
+  set_is byte marks k are set = search (arith, from_front)
 
   clear_is : (byte marks k : ℕ) → Marks (is_byte byte) (chunk 0 32 text) 32 marks → k < 32 → bit_at marks k ≡ 0
       → is_byte byte (get_or text k 0) ≡ false
-  clear_is byte marks k are within clear =
-      subst (λ (b : ℕ). is_byte byte b ≡ false) (from_front k within) (clear_tells _ (sym (are.each k within) ∙ clear))
+  clear_is byte marks k are within clear = search (arith, from_front)
 
   module _ (feeds : ℕ) (fits : feeds < 2 ^ 64) (some : 0 < feeds)
       (are_feeds : Marks (is_byte 10) (chunk 0 32 text) 32 feeds) where
@@ -61,17 +45,17 @@ module _ (text : List ℕ) (long : 32 ≤ length text) where
     lowest = bit_at-trailing_zeros w64 feeds some fits
 
     near : trailing_zeros w64 feeds < 32
-    near = are_feeds.within (trailing_zeros w64 feeds) lowest.1
+    near = search (arith, lowest.1)
 
     pub line_within : trailing_zeros w64 feeds < length text
-    line_within = omega (arith, near, long)
+    line_within = omega (arith, near)
 
     -- the lowest bit is the first line feed
     pub line_ends : position_or_len (is_byte 10) text ≡ trailing_zeros w64 feeds
     line_ends =
         position_or_len_is (is_byte 10) text (trailing_zeros w64 feeds) 0 (omega (arith, line_within))
-        (λ k before. clear_is 10 feeds k are_feeds (omega (arith, before, near)) (lowest.2 k before))
-        (λ _. set_is 10 feeds (trailing_zeros w64 feeds) are_feeds lowest.1)
+        (search (arith, clear_is, lowest))
+        (search (arith, set_is, lowest.1))
 
     module _ (blanks : ℕ) (blanks_fit : blanks < 2 ^ 64)
         (are_blanks : Marks (is_byte 32) (chunk 0 32 text) 32 blanks) where
@@ -83,20 +67,19 @@ module _ (text : List ℕ) (long : 32 ≤ length text) where
           let word = trailing_zeros w64 (bit_or blanks feeds) in
           let both = bit_at_or blanks feeds in
           let set_end : 1 ≤ bit_at (bit_or blanks feeds) end = omega (arith, both end, lowest.1) in
-          let first = bit_at-trailing_zeros w64 (bit_or blanks feeds) (omega (arith, some, or_ge_right blanks feeds))
+          let first = bit_at-trailing_zeros w64 (bit_or blanks feeds) (omega arith)
           (or_lt 64 blanks feeds blanks_fit fits) in
-          let no_later : word ≤ end = ⊎_elim (λ later. absurd (omega (arith, first.2 end later, set_end))) (λ le. le)
-          (cases_lt end word) in
-          let len : length (take end text) ≡ end = length-take-le end text (omega (arith, near, long)) in
-          position_or_len_is (is_byte 32) (take end text) word 0 (omega (arith, len, no_later))
+          let no_later : word ≤ end = search arith in
+          let len : length (take end text) ≡ end = search (arith, length-take-le) in
+          position_or_len_is (is_byte 32) (take end text) word 0 (omega arith)
           (λ k before.
-          ap (is_byte 32) (get_or-take end text k 0 (omega (arith, before, no_later)))
-          ∙ clear_is 32 blanks k are_blanks (omega (arith, before, no_later, near))
+          ap (is_byte 32) (get_or-take end text k 0 (omega arith))
+          ∙ clear_is 32 blanks k are_blanks (omega (arith, near))
           (omega (arith, both k, first.2 k before)))
           (λ within.
-          let before : word < end = omega (arith, len, within) in
+          let before : word < end = omega arith in
           ap (is_byte 32) (get_or-take end text word 0 before)
-          ∙ set_is 32 blanks word are_blanks (omega (arith, both word, first.1, lowest.2 word before)))
+          ∙ set_is 32 blanks word are_blanks (omega (arith, both word, lowest.2 word before)))
 
 -- where a line and its first word end
 pub ruleset near_laws = (line_within, line_ends, word_ends)

@@ -1,9 +1,7 @@
 -- The grammar reads the line of a call as that call.
-use Rattle.std.proofs.Common.{◌≡◌, ℕ, ◌-◌, ◌≤◌, arith, refl, ap, sym, ◌∙◌, List, [], ◌∷◌, ◌++◌, length, Bool, true, false, not, ◌&&◌, ◌==◌, Option, Some, None, IfSome, decimal, map, codes, nat_lt, if◌then◌else◌, take, ℤ, length-append, eq-eqb, true≢false}
+use Rattle.std.proofs.Common.{◌≡◌, ℕ, ◌-◌, ◌≤◌, arith, refl, ap, ◌∙◌, List, [], ◌∷◌, ◌++◌, length, Bool, true, false, not, ◌&&◌, ◌==◌, Option, Some, None, IfSome, decimal, map, codes, nat_lt, if◌then◌else◌, take, ℤ, length-append, eq-eqb}
 use Rattle.std.specs.Prelude.{slice_index}
 use Rattle.std.specs.Fmt.{signed_decimal}
-use Rattle.std.specs.Str.{bytes_eq}
-use Rattle.std.proofs.lemmas.Bool.Decides.{nat_tests}
 use Rattle.std.proofs.Math.Seq.{take-append_seam, get_or-append_seam}
 use Rattle.ob_rights.specs.declared.rights.Rights.{Rights}
 use Rattle.ob_waits.specs.declared.wait.Mode.{Mode}
@@ -19,12 +17,12 @@ use Rattle.ob_script.specs.Grammar.{act_of, act_of_text, act_of_words, text_of, 
 use Rattle.ob_script.specs.Fitting.{Small, FitsSign, FitsMake, FitsTarget, FitsTimeout, FitHandles, Fits}
 use Rattle.ob_script.specs.Writing.{label, id_word, mask_word, either_word, word_if, make_words, kind_word, mode_word, timeout_word, target_word, access_word, handle_words, words_for, text_for, ended, can_be_said, is_line, line_of, as_said, said}
 use Rattle.ob_script.proofs.Numerals.{reads_number, reads_signed, reads_due, reads_moment}
-use Rattle.ob_script.proofs.Spaces.{said_joined, is_word, AreWords, read_words, reads_front, reads_all, decimal_word, hex_word, signed_word}
-use Rattle.ob_script.proofs.Fields.{said_timeout, reads_either, reads_rights, reads_make, reads_make_words, make_read, reads_text, reads_open_words, reads_id, reads_kind, reads_mode, reads_timeout, reads_handles, reads_target, reads_access, reads_closing, no_inherit_close, options_are, behind_inherit, begins_inherit, dup_words_are, handles_are_words, id_is_word, kind_is_word, mode_is_word, timeout_is_word, target_is_word, access_is_word, either_is_word}
+use Rattle.ob_script.proofs.Spaces.{said_joined, is_word, AreWords, read_words, reads_front, reads_all, decimal_word, hex_word}
+use Rattle.ob_script.proofs.Fields.{said_timeout, reads_either, reads_rights, reads_make, reads_make_words, make_read, reads_text, reads_open_words, reads_id, reads_kind, reads_mode, reads_timeout, reads_handles, reads_target, reads_access, reads_closing, no_inherit_close, options_are, behind_inherit, begins_inherit, handles_are_words, id_is_word, kind_is_word, target_is_word, access_is_word, either_is_word}
 
 module _ (thread handle : ℕ) (thread_fits : Small thread) (handle_fits : Small handle) where
   names_handle : handle_of (label 116 thread ∷ label 104 handle ∷ []) ≡ Some (thread, handle)
-  names_handle = rw (reads_number thread thread_fits, reads_number handle handle_fits)
+  names_handle = search (arith, reads_number)
 
   of_handle : (verb : List ℕ) (call : ℕ → ℕ → Call) → is_word verb ≡ true
       → act_of_words (verb ∷ label 116 thread ∷ label 104 handle ∷ [])
@@ -32,7 +30,7 @@ module _ (thread handle : ℕ) (thread_fits : Small thread) (handle_fits : Small
       → act_of_words (read_words (handle_words verb thread handle [])) ≡ Asks (call thread handle)
   of_handle verb call is asks =
       ap act_of_words (reads_all (handle_words verb thread handle [])
-      (is, (decimal_word thread, (decimal_word handle, tt))))
+      (is, search (arith, decimal_word)))
       ∙ asks ∙ ap (λ read. asked (read >>= (λ named. Some (call named.0 named.1)))) names_handle
 
   -- a verb with a handle and a word that is read as a number with a sign
@@ -45,7 +43,7 @@ module _ (thread handle : ℕ) (thread_fits : Small thread) (handle_fits : Small
       ≡ Asks (call thread handle z)
   signed_behind verb read call z is reads asks =
       ap act_of_words (reads_all (handle_words verb thread handle (signed_decimal z ∷ []))
-      (is, (decimal_word thread, (decimal_word handle, (signed_word z, tt)))))
+      (is, search (arith, decimal_word)))
       ∙ asks ∙ rw (reads_number thread thread_fits, reads_number handle handle_fits, reads)
 
 -- one word behind the verb, that is read as a number
@@ -60,13 +58,13 @@ lone verb word read value call is word_is reads asks =
 -- words in front, and what is read behind them
 behind_front : (front words got : List (List ℕ)) → AreWords front → read_words words ≡ got
     → act_of_words (read_words (front ++ words)) ≡ act_of_words (front ++ got)
-behind_front front words got are is = ap act_of_words (reads_front front words are ∙ ap (λ rest. front ++ rest) is)
+behind_front front words got are is = search (arith, reads_front)
 
 reads_child : (thread : ℕ) (inherit : Bool) → Small thread
     → act_of_words (read_words (words_for (calls.Child thread inherit))) ≡ Asks (calls.Child thread inherit)
 reads_child thread inherit fits =
     ap act_of_words (reads_all (words_for (calls.Child thread inherit))
-    (refl, (decimal_word thread, (either_is_word (codes "plain") (codes "inherit") inherit refl refl, tt))))
+    (refl, search (arith, decimal_word)))
     ∙ rw (reads_number thread fits, reads_either (codes "plain") (codes "inherit") inherit refl refl refl)
 
 reads_event : (thread : ℕ) (make : Making) (manual set : Bool) → Small thread → FitsMake make
@@ -78,7 +76,7 @@ reads_event thread make manual set fits make_fits =
     let reset_is = either_is_word (codes "auto") (codes "manual") manual refl refl in
     let state_is = either_is_word (codes "clear") (codes "set") set refl refl in
     behind_front (codes "event" ∷ label 116 thread ∷ reset ∷ state ∷ []) (make_words make) (make_read make)
-    (refl, (decimal_word thread, (reset_is, (state_is, tt)))) (reads_make_words make)
+    (refl, search (arith, decimal_word)) (reads_make_words make)
     ∙ rw (
       reads_number thread fits,
       reads_either (codes "auto") (codes "manual") manual refl refl refl,
@@ -106,7 +104,7 @@ reads_semaphore : (thread : ℕ) (make : Making) (initial max : ℤ) → Small t
     ≡ Asks (calls.MakeSemaphore thread make initial max)
 reads_semaphore thread make initial max fits make_fits initial_fits max_fits =
     behind_front (codes "semaphore" ∷ label 116 thread ∷ signed_decimal initial ∷ signed_decimal max ∷ [])
-    (make_words make) (make_read make) (refl, (decimal_word thread, (signed_word initial, (signed_word max, tt))))
+    (make_words make) (make_read make) (refl, search (arith, decimal_word))
     (reads_make_words make)
     ∙ rw (
       reads_number thread fits,
@@ -147,8 +145,8 @@ module _ (thread source handle : ℕ) (target : Option ℕ) (mask : Rights) (inh
       let access_is = access_is_word (keeps_rights options) mask in
       behind_front (codes "dup" ∷ label 116 thread ∷ label 112 source ∷ label 104 handle ∷ target_word target
       ∷ access_word options mask ∷ []) words words
-      (refl, (decimal_word thread, (decimal_word source, (decimal_word handle, (target_is, (access_is, tt))))))
-      (reads_all words (dup_words_are inherit (closes options)))
+      (refl, search (arith, decimal_word))
+      (search arith)
       ∙ rw (
         reads_number thread fits,
         reads_number source source_fits,
@@ -166,7 +164,7 @@ reads_setflags : (thread handle mask flags : ℕ) → Small thread → Small han
     ≡ Asks (calls.SetFlags thread handle mask flags)
 reads_setflags thread handle mask flags fits handle_fits mask_fits flags_fits =
     ap act_of_words (reads_all (words_for (calls.SetFlags thread handle mask flags))
-    (refl, (decimal_word thread, (decimal_word handle, (decimal_word mask, (decimal_word flags, tt))))))
+    (refl, search (arith, decimal_word)))
     ∙ rw (
       reads_number thread fits,
       reads_number handle handle_fits,
@@ -187,7 +185,7 @@ reads_wait thread mode timeout handles fits timeout_fits handles_fit =
     let list = map (label 104) handles in
     let are = reads_handles handles handles_fit in
     behind_front (codes "wait" ∷ label 116 thread ∷ mode_word mode ∷ timeout_word timeout ∷ []) list list
-    (refl, (decimal_word thread, (mode_is_word mode, (timeout_is_word timeout, tt))))
+    (refl, search (arith, decimal_word))
     (reads_all list (handles_are_words handles))
     ∙ rw (
       reads_number thread fits,
@@ -210,14 +208,14 @@ reads (calls.StartThread process) fits can =
 reads (calls.MakeEvent thread make manual set) fits can = reads_event thread make manual set fits.0 fits.1
 reads (calls.MakeMutex thread make owned) fits can =
     reads_state (codes "mutex") (codes "free") (codes "owned") calls.MakeMutex thread make owned
-    (refl, (either_is_word (codes "free") (codes "owned") owned refl refl, tt))
-    (reads_either (codes "free") (codes "owned") owned refl refl refl) fits.0 fits.1 refl
+    (refl, search arith)
+    (search arith) fits.0 fits.1 refl
 reads (calls.MakeSemaphore thread make initial max) fits can =
     reads_semaphore thread make initial max fits.0 fits.1 fits.2 fits.3
 reads (calls.MakeTimer thread make manual) fits can =
     reads_state (codes "timer") (codes "auto") (codes "manual") calls.MakeTimer thread make manual
-    (refl, (either_is_word (codes "auto") (codes "manual") manual refl refl, tt))
-    (reads_either (codes "auto") (codes "manual") manual refl refl refl) fits.0 fits.1 refl
+    (refl, search arith)
+    (search arith) fits.0 fits.1 refl
 reads (calls.OpenNamed thread kind mask inherit text) fits can = reads_open thread kind mask inherit text fits.0 fits.1
 reads (calls.Duplicate thread source handle target mask inherit options) fits can =
     reads_dup thread source handle target mask inherit options fits.0 fits.1 fits.2 fits.3 fits.4 can
@@ -225,8 +223,7 @@ reads (calls.CloseHandle thread handle) fits can =
     of_handle thread handle fits.0 fits.1 (codes "close") calls.CloseHandle refl refl
 reads (calls.GetFlags thread handle) fits can = of_handle thread handle fits.0 fits.1
     (codes "flags") calls.GetFlags refl refl
-reads (calls.SetFlags thread handle mask flags) fits can =
-    reads_setflags thread handle mask flags fits.0 fits.1 fits.2 fits.3
+reads (calls.SetFlags thread handle mask flags) fits can = search (arith, reads_setflags)
 reads (calls.SetEvent thread handle) fits can = of_handle thread handle fits.0 fits.1
     (codes "set") calls.SetEvent refl refl
 reads (calls.ResetEvent thread handle) fits can = of_handle thread handle fits.0 fits.1
@@ -242,7 +239,7 @@ reads (calls.SetTimer thread handle due) fits can =
 reads (calls.CancelTimer thread handle) fits can =
     of_handle thread handle fits.0 fits.1 (codes "cancel") calls.CancelTimer refl refl
 reads (calls.Tick now) fits can =
-    let most : now ≤ 9223372036854775807 = grind (arith, nat_tests) in
+    let most : now ≤ 9223372036854775807 = grind arith in
     lone (codes "tick") (decimal now) moment_of now calls.Tick refl (decimal_word now) (reads_moment now most) refl
 reads (calls.WaitFor thread mode timeout handles) fits can = reads_wait thread mode timeout handles fits.0 fits.1 fits.2
 reads (calls.WaitResult number) fits can =
@@ -263,17 +260,10 @@ reads (calls.Reap slot) fits can =
 reads (calls.Counts id) fits can =
     lone (codes "count") (id_word id) id_of id calls.Counts refl (id_is_word id) (reads_id id fits.0 fits.1) refl
 
--- a text that begins with a verb is words
-is_words : (text : List ℕ) → nat_lt 64 (slice_index text 0) ≡ true → bytes_eq text (codes "dir") ≡ false
-    → nat_lt 4096 (length text) ≡ false
-    → act_of_text text ≡ act_of_words (words_of text)
-is_words [] letter no_dir short = absurd (true≢false (sym letter))
-is_words (first ∷ rest) letter no_dir short = grind (arith, nat_tests)
-
 starts : (call : Call) → nat_lt 4096 (length (text_for call)) ≡ false
     → act_of_text (text_for call) ≡ act_of_words (read_words (words_for call))
-starts (calls.Spawn session) short = is_words (text_for (calls.Spawn session)) refl refl short
-starts call short = is_words (text_for call) refl refl short
+starts (calls.Spawn session) short = search arith
+starts call short = search arith
 
 -- a line drops the carriage return that is one more
 drops_return : (text : List ℕ) → text_of (ended text) ≡ text
@@ -291,7 +281,7 @@ drops_return text = by (slice_index text (length text - 1) == 13) refl
         → text_of (if b then text ++ 13 ∷ [] else text) ≡ text
     by true is = ap (λ t. if t then take (length (text ++ 13 ∷ []) - 1) (text ++ 13 ∷ []) else text ++ 13 ∷ [])
         (eq-eqb _ 13 last) ∙ without
-    by false is = ap (λ t. if t then take (length text - 1) text else text) is
+    by false is = search arith
 
 pub line_is_read : (call : Call) → Fits call → IfSome (line_of call) (λ line. act_of line ≡ Asks (as_said call))
 line_is_read call fits = by (can_be_said call) (nat_lt 4096 (length (text_for call))) _ refl refl
@@ -307,21 +297,9 @@ line_is_read call fits = by (can_be_said call) (nat_lt 4096 (length (text_for ca
 
 -- the text that was written, and what becomes of it
 module _ (call : Call) (text : List ℕ) (written : text ≡ [] ++ said (words_for call)) where
-  is_text : text ≡ text_for call
-  is_text = written ∙ said_joined (words_for call)
-
   pub gives_none : is_line text ≡ false → None ≡ line_of call
-  gives_none none =
-      by (can_be_said call) ∙ ap (λ b. if can_be_said call && b then Some (ended (text_for call)) else None)
-      (sym (ap is_line (sym is_text) ∙ none))
-    where
-      by : (can : Bool) → None ≡ (if can && false then Some (ended (text_for call)) else None)
-      by true = refl
-      by false = refl
+  gives_none none = search (arith, said_joined)
 
   pub gives_line : (line : List ℕ) → can_be_said call ≡ true → is_line text ≡ true → line ≡ ended text
       → Some line ≡ line_of call
-  gives_line line can is ends =
-      ap (λ l. Some l) (ends ∙ ap ended is_text)
-      ∙ ap (λ b. if b then Some (ended (text_for call)) else None)
-      (sym (ap (λ b. b && is_line (text_for call)) can ∙ ap is_line (sym is_text) ∙ is))
+  gives_line line can is ends = search (arith, said_joined)

@@ -1,9 +1,7 @@
 -- A call whose name and handles are few enough has a line.
-use Rattle.std.proofs.Common.{◌≡◌, ℕ, suc, ◌+◌, ◌*◌, ◌^◌, ◌<◌, ◌≤◌, arith, refl, ◌∙◌, List, [], ◌∷◌, ◌++◌, length, Bool, true, false, not, ◌&&◌, ◌==◌, Option, Some, None, decimal, map, codes, nat_lt, if◌then◌else◌, ℤ, pos, negsuc, length-append}
-use Rattle.std.proofs.lemmas.Bool.{and_from}
+use Rattle.std.proofs.Common.{◌≡◌, ℕ, suc, ◌+◌, ◌*◌, ◌^◌, ◌<◌, ◌≤◌, arith, refl, List, [], ◌∷◌, ◌++◌, length, Bool, true, false, not, ◌==◌, Option, Some, None, decimal, map, codes, if◌then◌else◌, ℤ, pos, negsuc, length-append}
 use Rattle.std.specs.Fmt.{digits, signed_decimal}
 use Rattle.std.specs.List.{list_all}
-use Rattle.std.proofs.lemmas.Bool.Decides.{nat_tests}
 use Rattle.std.proofs.lemmas.Fmt.{length-decimal-le}
 use Rattle.std.proofs.lemmas.List.Folds.{list_all-append}
 use Rattle.pin_core.specs.declared.id.Id.{Id}
@@ -18,7 +16,7 @@ use Rattle.ob_manager.specs.Makings.{Making}
 use Rattle.ob_manager.specs.Calls.{Call}
 use Rattle.ob_script.specs.Words.{joined}
 use Rattle.ob_script.specs.Fitting.{FitsMask, FitsSign, FitsTarget, FitsTimeout, FitHandles}
-use Rattle.ob_script.specs.Writing.{label, id_word, mask_word, either_word, word_if, mask_words, name_words, make_words, kind_word, mode_word, timeout_word, target_word, ended, words_for, text_for, can_be_said, is_line, line_of}
+use Rattle.ob_script.specs.Writing.{label, id_word, mask_word, either_word, word_if, mask_words, make_words, kind_word, mode_word, timeout_word, target_word, words_for, can_be_said, line_of}
 use Rattle.ob_script.proofs.Numerals.{digits_pass, hex_few}
 
 -- a byte that is no line feed
@@ -38,23 +36,14 @@ AreShort most (word ∷ words) = IsShort most word × AreShort most words
 joined_within : (most : ℕ) (words : List (List ℕ)) → AreShort most words → list_all no_feed (joined words) ≡ true
 joined_within most [] are = refl
 joined_within most (word ∷ []) are = are.0.within
-joined_within most (word ∷ next ∷ words) are =
-    list_all-append no_feed word (32 ∷ joined (next ∷ words))
-    ∙ and_from (list_all no_feed word) (list_all no_feed (joined (next ∷ words))) are.0.within
-    (joined_within most (next ∷ words) are.1)
+joined_within most (word ∷ next ∷ words) are = search (arith, list_all-append, joined_within most (next ∷ words) are.1)
 
 joined_len : (most : ℕ) (words : List (List ℕ)) → AreShort most words
     → length (joined words) ≤ (most + 1) * length words
 joined_len most [] are = omega arith
-joined_len most (word ∷ []) are = omega (arith, are.0.len)
+joined_len most (word ∷ []) are = omega arith
 joined_len most (word ∷ next ∷ words) are =
-    omega (
-      arith,
-      length-append word (32 ∷ joined (next ∷ words)),
-      are.0.len,
-      joined_len most (next ∷ words) are.1,
-      more (length (next ∷ words)),
-    )
+    omega (arith, length-append word (32 ∷ joined (next ∷ words)), joined_len most (next ∷ words) are.1)
   where
     more : (n : ℕ) → (most + 1) * suc n ≡ (most + 1) + (most + 1) * n
     more n = search (arith)
@@ -63,64 +52,48 @@ joined_len most (word ∷ next ∷ words) are =
 pub have_line : (most : ℕ) (call : Call) → can_be_said call ≡ true → AreShort most (words_for call)
     → (most + 1) * length (words_for call) ≤ 4096
     → line_of call ≡ None → ⊥
-have_line most call can are few none = by (can_be_said call) (is_line (text_for call)) can is none
-  where
-    is : is_line (text_for call) ≡ true
-    is =
-        let short = joined_len most (words_for call) are in
-        and_from (not (nat_lt 4096 (length (text_for call)))) (list_all no_feed (text_for call))
-        (grind (arith, nat_tests)) (joined_within most (words_for call) are)
-
-    by : (a b : Bool) → a ≡ true → b ≡ true → (if a && b then Some (ended (text_for call)) else None) ≡ None → ⊥
-    by true true can is none = cc
-    by true false can is none = cc
-    by false b can is none = cc
+have_line most call can are few none = search (arith, joined_within, joined_len)
 
 -- digits are short, and no line feed
 pub digits_within : (base n : ℕ) → 0 < base → list_all no_feed (digits base false n) ≡ true
-digits_within base n positive = digits_pass no_feed base positive (λ d small. grind (arith, nat_tests)) n
+digits_within base n positive = search (arith, digits_pass)
 
 module _ (most : ℕ) (room : 21 ≤ most) where
   pub number_short : (n : ℕ) → n < 2 ^ 64 → IsShort most (decimal n)
   number_short n small = record {
-    len = omega (arith, room, length-decimal-le 20 n (omega arith) (omega arith) small);
+    len = omega (arith, length-decimal-le 20 n (omega arith) (omega arith) small);
     within = digits_within 10 n (omega arith);
   }
 
   pub label_short : (letter n : ℕ) → no_feed letter ≡ true → n ≤ 4294967295 → IsShort most (label letter n)
   label_short letter n is fits = record {
-    len = omega (arith, room, length-decimal-le 10 n (omega arith) (omega arith) (omega (arith, fits)));
-    within = and_from (no_feed letter) (list_all no_feed (decimal n)) is (digits_within 10 n (omega arith));
+    len = omega (arith, length-decimal-le 10 n (omega arith) (omega arith) (omega (arith, fits)));
+    within = search (arith, digits_within);
   }
 
   pub id_short : (id : Id) → id.slot ≤ 4294967295 → id.generation ≤ 4294967295 → IsShort (most + most) (id_word id)
   id_short id slot_fits generation_fits =
       let slot = label_short 115 id.slot refl slot_fits in
       let generation = label_short 46 id.generation refl generation_fits in record {
-        len = omega (arith, length-append (label 115 id.slot) (label 46 id.generation), slot.len, generation.len);
+        len = omega (arith, length-append (label 115 id.slot) (label 46 id.generation));
         within =
-            list_all-append no_feed (label 115 id.slot) (label 46 id.generation)
-            ∙ and_from (list_all no_feed (label 115 id.slot))
-            (list_all no_feed (label 46 id.generation)) slot.within generation.within;
+            search (arith, list_all-append);
       }
 
   pub signed_short : (limit : ℕ) (z : ℤ) → limit ≤ 9223372036854775808 → FitsSign limit z
       → IsShort most (signed_decimal z)
-  signed_short limit (pos n) low fits = number_short n (omega (arith, fits))
+  signed_short limit (pos n) low fits = number_short n (omega arith)
   signed_short limit (negsuc n) low fits = record {
     len = omega (arith, room, length-decimal-le 20 (suc n) (omega arith) (omega (arith, fits)) (omega (arith, fits)));
     within = digits_within 10 (suc n) (omega arith);
   }
 
   pub mask_short : (mask : Rights) → mask.0 ≤ 4294967295 → IsShort most (mask_word mask)
-  mask_short mask fits = record {
-    len = omega (arith, room, hex_few mask.0 fits);
-    within = digits_within 16 mask.0 (omega arith);
-  }
+  mask_short mask fits = search (arith, digits_within, hex_few)
 
   -- a keyword
   pub known_short : (word : List ℕ) → length word ≤ 21 → list_all no_feed word ≡ true → IsShort most word
-  known_short word len within = record { len = omega (arith, room, len); within = within }
+  known_short word len within = search arith
 
   pub either_short : (first second : List ℕ) (is_so : Bool) → IsShort most first → IsShort most second
       → IsShort most (either_word first second is_so)
@@ -128,27 +101,27 @@ module _ (most : ℕ) (room : 21 ≤ most) where
   either_short first second false first_is second_is = first_is
 
   pub kind_short : (kind : Kind) → IsShort most (kind_word kind)
-  kind_short Event = known_short (codes "event") (omega arith) refl
-  kind_short Mutex = known_short (codes "mutex") (omega arith) refl
-  kind_short Semaphore = known_short (codes "semaphore") (omega arith) refl
-  kind_short Timer = known_short (codes "timer") (omega arith) refl
+  kind_short Event = search arith
+  kind_short Mutex = search arith
+  kind_short Semaphore = search arith
+  kind_short Timer = search arith
 
   pub mode_short : (mode : Mode) → IsShort most (mode_word mode)
-  mode_short Any = known_short (codes "any") (omega arith) refl
-  mode_short All = known_short (codes "all") (omega arith) refl
+  mode_short Any = search arith
+  mode_short All = search arith
 
   pub timeout_short : (timeout : Timeout) → FitsTimeout timeout → IsShort most (timeout_word timeout)
   timeout_short Zero fits = number_short 0 (omega arith)
-  timeout_short Infinite fits = known_short (codes "inf") (omega arith) refl
-  timeout_short (Millis millis) fits = number_short millis (omega (arith, fits))
+  timeout_short Infinite fits = search arith
+  timeout_short (Millis millis) fits = search (arith, number_short)
 
   pub target_short : (target : Option ℕ) → FitsTarget target → IsShort most (target_word target)
-  target_short None fits = known_short (codes "-") (omega arith) refl
+  target_short None fits = search arith
   target_short (Some process) fits = label_short 112 process refl fits
 
   pub access_short : (same : Bool) (mask : Rights) → mask.0 ≤ 4294967295
       → IsShort most (if same then codes "same" else mask_word mask)
-  access_short true mask fits = known_short (codes "same") (omega arith) refl
+  access_short true mask fits = search arith
   access_short false mask fits = mask_short mask fits
 
   pub handles_short : (handles : List ℕ) → FitHandles handles → AreShort most (map (label 104) handles)
@@ -174,25 +147,5 @@ pub if_few : (is_so : Bool) (word : List ℕ) → length (word_if is_so word) �
 if_few true word = omega arith
 if_few false word = omega arith
 
-masks_few : (keyword : List ℕ) (mask : Option Rights) → length (mask_words keyword mask) ≤ 2
-masks_few keyword None = omega arith
-masks_few keyword (Some mask) = omega arith
-
-name_few : (name : Option (List ℕ)) → length (name_words name) ≤ 2
-name_few None = omega arith
-name_few (Some text) = omega arith
-
 pub make_few : (make : Making) → length (make_words make) ≤ 7
-make_few make =
-    let grant = mask_words (codes "grant") make.grant in
-    let access = mask_words (codes "access") make.access in
-    omega (
-      arith,
-      length-append (word_if make.inherit (codes "inherit")) (access ++ (grant ++ name_words make.name)),
-      length-append access (grant ++ name_words make.name),
-      length-append grant (name_words make.name),
-      if_few make.inherit (codes "inherit"),
-      masks_few (codes "access") make.access,
-      masks_few (codes "grant") make.grant,
-      name_few make.name,
-    )
+make_few make = search arith

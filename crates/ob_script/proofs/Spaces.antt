@@ -1,10 +1,9 @@
 -- Words that are joined by spaces are read as they were.
-use Rattle.std.proofs.Common.{◌≡◌, ℕ, suc, ℤ, pos, negsuc, arith, refl, ap, sym, ◌∙◌, List, [], ◌∷◌, ◌++◌, Bool, true, false, not, ◌==◌, All, decimal, append-nil, map}
-use Rattle.std.proofs.lemmas.Bool.{and_from, not-true}
+use Rattle.std.proofs.Common.{◌≡◌, ℕ, suc, ℤ, pos, negsuc, arith, refl, List, [], ◌∷◌, ◌++◌, Bool, true, false, not, ◌==◌, All, decimal, append-nil, map}
+use Rattle.std.proofs.lemmas.Bool.{not-true}
 use Rattle.std.specs.Fmt.{digits, signed_decimal}
 use Rattle.std.specs.List.{list_all, flat_map}
 use Rattle.std.proofs.lemmas.List.Folds.{flat_map-map, list_all-append}
-use Rattle.std.proofs.lemmas.Bool.Decides.{nat_tests}
 use Rattle.std.proofs.lemmas.List.Splits.{slice_split_at, slice_split_none}
 use Rattle.std.proofs.lemmas.List.Sums.{AllPass-from_list_all}
 use Rattle.memchr.specs.Find.{is_byte}
@@ -31,40 +30,38 @@ read_words (word ∷ words) = words_of (joined (word ∷ words))
 
 pub reads_next : (word : List ℕ) (words : List (List ℕ)) → is_word word ≡ true
     → read_words (word ∷ words) ≡ word ∷ read_words words
-reads_next word [] is = slice_split_none (is_byte 32) word (no_spaces word is)
-reads_next word (next ∷ words) is = slice_split_at (is_byte 32) word 32 (joined (next ∷ words)) (no_spaces word is) refl
+reads_next word [] is = search (arith, no_spaces, slice_split_none)
+reads_next word (next ∷ words) is = search (arith, no_spaces, slice_split_at)
 
 pub reads_front : (front words : List (List ℕ)) → AreWords front
     → read_words (front ++ words) ≡ front ++ read_words words
 reads_front [] words are = refl
-reads_front (word ∷ front) words are = reads_next word (front ++ words) are.0
-    ∙ ap (λ rest. word ∷ rest) (reads_front front words are.1)
+reads_front (word ∷ front) words are = search (arith, reads_next, reads_front front words are.1)
 
 pub reads_all : (words : List (List ℕ)) → AreWords words → read_words words ≡ words
 reads_all [] are = refl
-reads_all (word ∷ words) are = reads_next word words are.0 ∙ ap (λ rest. word ∷ rest) (reads_all words are.1)
+reads_all (word ∷ words) are = search (arith, reads_next, reads_all words are.1)
 
 -- digits have no space
 pub hex_word : (n : ℕ) → is_word (digits 16 false n) ≡ true
-hex_word n = digits_pass (λ byte. not (byte == 32)) 16 (omega arith) (λ d small. grind (arith, nat_tests)) n
+hex_word n = search (arith, digits_pass)
 
 pub decimal_word : (n : ℕ) → is_word (decimal n) ≡ true
-decimal_word n = digits_pass (λ byte. not (byte == 32)) 10 (omega arith) (λ d small. grind (arith, nat_tests)) n
+decimal_word n = search (arith, digits_pass)
 
 pub signed_word : (z : ℤ) → is_word (signed_decimal z) ≡ true
 signed_word (pos n) = decimal_word n
 signed_word (negsuc n) = decimal_word (suc n)
 
 pub word_append : (front back : List ℕ) → is_word front ≡ true → is_word back ≡ true → is_word (front ++ back) ≡ true
-word_append front back front_is back_is = list_all-append (λ byte. not (byte == 32)) front back
-    ∙ and_from (is_word front) (is_word back) front_is back_is
+word_append front back front_is back_is = search (arith, list_all-append)
 
 -- words that each have a space before them
 pub said_joined : (words : List (List ℕ)) → said words ≡ joined words
 said_joined [] = refl
 said_joined (word ∷ []) = append-nil word
-said_joined (word ∷ next ∷ words) = ap (λ rest. word ++ 32 ∷ rest) (said_joined (next ∷ words))
+said_joined (word ∷ next ∷ words) = search (arith, said_joined (next ∷ words))
 
 pub spaces_of_handles : (handles : List ℕ) → flat_map (λ handle. 32 ∷ label 104 handle) handles
     ≡ behind_spaces (map (label 104) handles)
-spaces_of_handles handles = sym (flat_map-map (λ word. 32 ∷ word) (label 104) handles)
+spaces_of_handles handles = search (arith, flat_map-map)

@@ -123,6 +123,7 @@ impl<'a> Words<'a> {
     }
 
     /// Whether no word is left.
+    #[tactic(auto, using(crate::proofs::Cuts::words_some))]
     pub fn is_empty(&self) -> bool
         ensures { IsTrue result ↔ (self.now ≡ []) }
     {
@@ -133,6 +134,7 @@ impl<'a> Words<'a> {
     }
 
     /// `Some` where no word is left, so that `?` refuses a line with more words.
+    #[tactic(auto, using(crate::proofs::Cuts::words_some))]
     pub fn end(self) -> Option<()>
         ensures { IsSome result ↔ (self.entry ≡ []) }
     {

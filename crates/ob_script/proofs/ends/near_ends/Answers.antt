@@ -4,4 +4,4 @@ use Rattle.ob_script.proofs.ends.near_ends.Goals as goal
 
 pub returns-clause-line : goal.returns-clause-line
 returns-clause-line c = line_ends c.args.text.now c.requires c.marks_of-feeds.result c.marks_of-feeds.type_inv
-    (omega (arith, c.if-feeds-eq0.false)) c.marks_of-feeds.ensures
+    (omega arith) c.marks_of-feeds.ensures

@@ -20,7 +20,7 @@ overflow_add-value c = omega (
 pub loop-count-preserved : goal.loop-count-preserved
 loop-count-preserved c =
     let text = c.args.text.now in let count = c.loop-count.count in record {
-      digits = digits_more text count (search rules) c.loop-count.invariant.digits (search rules);
-      value = rw (value_more text count (search rules), c.loop-count.invariant.value) (search rules);
+      digits = search (arith, digits_more, c.loop-count.invariant.digits);
+      value = search (arith, value_more, c.loop-count.invariant.value);
       at_most = one_more_digit c.loop-count.value c.from.result count c.loop-count.invariant.at_most (search rules);
     }

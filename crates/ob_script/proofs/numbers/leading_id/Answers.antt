@@ -13,7 +13,7 @@ returns-then-count-eq0-clause-none c =
     let found = c.leading_digits-slot in
     no_slot c.args.text.now (rest_from 1 c.args.text.now) found.result.1 found.result.0 c.in-115.len_at_least
     (search rules) (take_rest c.args.text.now 1) found.ensures.digits found.ensures.value found.ensures.within
-    found.ensures.stop (λ some few small before. absurd (omega (arith, c.then-count-eq0.either, some, few, small)))
+    found.ensures.stop (search arith)
 
 pub returns-then-count-rest-clause-none : goal.returns-then-count-rest-clause-none
 returns-then-count-rest-clause-none c =
