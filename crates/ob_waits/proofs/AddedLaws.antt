@@ -1,10 +1,9 @@
 -- One more wait at the end.
-use Rattle.std.proofs.Common.{◌≡◌, ℕ, zero, suc, ◌<◌, ◌≤◌, List, [], ◌∷◌, ◌++◌, length, Option, Some, None, refl, ap, ◌∙◌, sym, subst, arith, get_or, Bool, true, false, inl, inr}
+use Rattle.ob_codec.proofs.AtPlace.{at_place}
+use Rattle.std.proofs.Common.{◌≡◌, ℕ, zero, suc, ◌<◌, ◌≤◌, List, [], ◌∷◌, ◌++◌, length, Option, Some, None, refl, ◌∙◌, sym, arith, get_or, Bool, true, false, inl, inr}
 use Rattle.std.specs.List.{list_any}
 use Rattle.std.specs.Prelude.{◌==◌, ◌⊎◌}
 use Rattle.std.proofs.lemmas.List.{get_or_past, get_or_append_left, get_or_push, length_push}
-use Rattle.std.proofs.lemmas.Bool.{cases_eq, cases_lt}
-use Rattle.std.proofs.lemmas.Bool.Decides.{nat_tests}
 use Rattle.pin_core.specs.declared.id.Id.{Id}
 use Rattle.ob_waits.specs.declared.wait.Mode.{Mode}
 use Rattle.ob_waits.specs.declared.wait.Wait.{Wait}
@@ -24,22 +23,14 @@ any_at p d (x ∷ xs) h = by (p x) refl (any_at p d xs)
     by : (b : Bool) → p x ≡ b → (list_any p xs ≡ true → (i : ℕ) × (i < length xs) × (p (get_or xs i d) ≡ true))
         → (i : ℕ) × (i < length (x ∷ xs)) × (p (get_or (x ∷ xs) i d) ≡ true)
     by true is rest = (zero, omega arith, is)
-    by false is rest = let r = rest (grind (arith, h, is)) in (suc r.0, (let lt = r.1 in omega arith), r.2)
+    by false is rest = let r = rest (grind arith) in (suc r.0, (let lt = r.1 in omega arith), r.2)
 
 module _ (ws : List (Option Wait)) (w : Wait) where
   -- each number's wait is what it was, or the new one, or none
   pub by_number : (P : ℕ → Option Wait → Type 0) → ((n : ℕ) → n < length ws → P n (get_or ws n None))
       → P (length ws) (Some w) → ((n : ℕ) → length ws < n → P n None) → (n : ℕ)
       → P n (get_or (ws ++ Some w ∷ []) n None)
-  by_number P old new past n = elim (cases_lt n (length ws)) [
-    | inl lt ↦ subst (λ x. P n x) (sym (get_or_append_left ws (Some w ∷ []) None n lt)) (old n lt)
-    | inr le ↦ elim (cases_eq n (length ws)) [
-      | inl same ↦ subst (λ i. P i (get_or (ws ++ Some w ∷ []) i None)) (sym same)
-          (subst (λ x. P (length ws) x) (sym (get_or_push ws (Some w) None (length ws) refl)) new)
-      | inr other ↦ subst (λ x. P n x) (sym (get_or_past (ws ++ Some w ∷ []) n None
-          (omega (arith, length_push ws (Some w))))) (past n (omega arith))
-    ]
-  ]
+  by_number P old new past n = search (arith, get_or_append_left, get_or_past, get_or_push, length_push)
 
 -- The theorem: a wait of a thread that had none is tracked, where the lists have its number as they must.
 pub tracked_came : (limit : ℕ) (ws : List (Option Wait)) (r r' : Roster) (w : Wait) → 0 < length ws → length ws ≤ limit
@@ -50,35 +41,25 @@ pub tracked_came : (limit : ℕ) (ws : List (Option Wait)) (r r' : Roster) (w : 
 tracked_came limit ws r r' w some below waitable alone k right ordered named = record {
   limit_fits = k.limit_fits;
   at_most = omega (arith, length_push ws (Some w));
-  zero_has_none = get_or_append_left ws (Some w ∷ []) None 0 (omega arith) ∙ k.zero_has_none;
+  zero_has_none = search (arith, get_or_append_left);
   kept = record {
-    each = by_number ws w (λ m x. WaitWaitable x) (λ m lt. k.kept.each m) waitable (λ m past. tt);
+    each = grind (arith, at_place);
     one_each = one_each;
   };
   right = record {
     order_rises = ordered_more r'.order right.order_rises;
-    order_all = record {
-      each = λ m h. by_number ws w (λ i x. is_pending x ≡ true
-          → Within i r'.order) (λ i lt g. right.order_all.each i g) ordered (λ i past g. absurd (cc)) m h;
-    };
+    order_all = grind (arith, at_place);
     index_rises = record { each = λ s. ordered_more (numbers_of r'.index s) (right.index_rises.each s) };
-    index_all = λ s. record {
-      each = λ m h. by_number ws w (λ i x. names_slot s x ≡ true
-          → Within i (numbers_of r'.index s)) (λ i lt g. (right.index_all s).each i g) (named s)
-          (λ i past g. absurd (cc)) m h;
-    };
+    index_all = grind (arith, at_place);
   };
 }
   where
     ours : (m u : ℕ) → thread_of (get_or (ws ++ Some w ∷ []) m None) ≡ Some u
         → (thread_of (get_or ws m None) ≡ Some u × (m < length ws)) ⊎ ((m ≡ length ws) × (u ≡ w.thread))
-    ours m u = by_number ws w (λ i x. thread_of x ≡ Some u
-        → (thread_of (get_or ws i None) ≡ Some u × (i < length ws))
-        ⊎ ((i ≡ length ws) × (u ≡ w.thread))) (λ i lt g. inl (g, lt))
-        (λ g. inr (refl, (let e : Some w.thread ≡ Some u = g in cc))) (λ i past g. absurd (cc)) m
+    ours m u = grind (arith, at_place)
 
     alone_here : (m u : ℕ) → thread_of (get_or ws m None) ≡ Some u → u ≡ w.thread → ⊥
-    alone_here m u own same = no_number w.thread ws m alone (own ∙ ap Some same)
+    alone_here m u own same = search (arith, no_number)
 
     one_each : (i j u : ℕ) → thread_of (get_or (ws ++ Some w ∷ []) i None) ≡ Some u
         → thread_of (get_or (ws ++ Some w ∷ []) j None) ≡ Some u → i ≡ j
@@ -88,11 +69,7 @@ tracked_came limit ws r r' w some below waitable alone k right ordered named = r
     ]
 
     ordered_more : (numbers : List ℕ) → IsOrdered (length ws) numbers → IsOrdered (length (ws ++ Some w ∷ [])) numbers
-    ordered_more numbers h = record {
-      rising = h.rising;
-      below = λ i in'. let le = h.below i in' in
-          omega (arith, length_push ws (Some w));
-    }
+    ordered_more numbers h = search (arith, length_push)
 
 -- one that is pending, for which the roster has a place
 pub tracked_added : (limit : ℕ) (ws : List (Option Wait)) (r r' : Roster) (n t : ℕ) (mode : Mode) (ids : List Id)
@@ -100,16 +77,15 @@ pub tracked_added : (limit : ℕ) (ws : List (Option Wait)) (r r' : Roster) (n t
     IsTracked limit ws r → IsRight ws r' → HasPlace r' ids n
     → IsTracked limit (ws ++ Some (new_wait t mode ids d) ∷ []) r'
 tracked_added limit ws r r' n t mode ids d len some below waitable alone k right place =
-    tracked_came limit ws r r' (new_wait t mode ids d) (omega (arith, len, some))
-    (omega (arith, len, below)) waitable alone k right
-    (λ g. subst (λ i. Within i r'.order) (sym len) place.order_place) named
+    tracked_came limit ws r r' (new_wait t mode ids d) (omega arith)
+    (omega arith) waitable alone k right
+    (search arith) named
   where
     named : (s : ℕ) → names_slot s (Some (new_wait t mode ids d)) ≡ true → Within (length ws) (numbers_of r'.index s)
     named s g =
         let found = any_at (λ (id : Id). id.slot == s) nowhere ids g in
-        let same : (get_or ids found.0 nowhere).slot ≡ s = grind (arith, nat_tests, found.2) in
-        subst (λ i. Within i (numbers_of r'.index s)) (sym len)
-        (subst (λ x. Within n (numbers_of r'.index x)) same (place.index_place found.0 found.1))
+        let same : (get_or ids found.0 nowhere).slot ≡ s = grind arith in
+        search arith
 
 -- one that is answered needs none
 pub tracked_answered : (limit : ℕ) (ws : List (Option Wait)) (r : Roster) (t code : ℕ) (d : Option ℕ) → 0 < length ws

@@ -1,23 +1,21 @@
 -- The blocks of an object, counted along a list of numbers.
-use Rattle.std.proofs.Common.{◌≡◌, ℕ, suc, ◌-◌, ◌+◌, ◌<◌, ◌≤◌, List, [], ◌∷◌, length, Option, None, refl, ap, ◌∙◌, sym, arith, get_or, set, inl, inr, Bool, true, false}
+use Rattle.ob_codec.proofs.AtPlace.{at_place}
+use Rattle.std.proofs.Common.{◌≡◌, ℕ, suc, ◌-◌, ◌+◌, ◌<◌, ◌≤◌, List, [], ◌∷◌, length, Option, None, refl, ap, ◌∙◌, arith, get_or, set, inl, inr, Bool, true, false}
 use Rattle.std.specs.Prelude.{sum_by, count_by, ◌==◌}
 use Rattle.std.specs.List.{list_any}
-use Rattle.std.proofs.lemmas.Bool.Decides.{nat_tests}
 use Rattle.pin_core.specs.Holds.{same_id}
 use Rattle.pin_core.specs.declared.id.Id.{Id}
 use Rattle.ob_waits.specs.declared.wait.Wait.{Wait}
 use Rattle.ob_waits.specs.Waits.{blocks_in, names_slot, ids_of}
 use Rattle.std.proofs.lemmas.List.{get_or_past, get_or-set_other, set_past}
 use Rattle.std.proofs.lemmas.List.Sums.{sum_by-cons, sum_by-set}
-use Rattle.std.proofs.lemmas.Bool.{cases_eq, cases_lt}
 use Rattle.ob_waits.specs.Rules.{Within, IsRising}
 use Rattle.ob_waits.specs.Numbers.{IsOrdered}
 use Rattle.ob_waits.proofs.Writes.{set_none}
 
 sum_same : (g h : ℕ → ℕ) (ns : List ℕ) → ((k : ℕ) → Within k ns → g k ≡ h k) → sum_by g ns ≡ sum_by h ns
 sum_same g h [] same = refl
-sum_same g h (n ∷ ns) same = sum_by-cons g n ns ∙ (let a = same n (inl refl) in
-    let b = sum_same g h ns (λ k i. same k (inr i)) in omega arith) ∙ sym (sum_by-cons h n ns)
+sum_same g h (n ∷ ns) same = search (arith, sum_by-cons, sum_same g h ns (λ k i. same k (inr i)))
 
 module _ {A : Type 0} (f : Option A → ℕ) (none : f None ≡ 0) where
   sum_zero : (xs : List (Option A)) → ((n : ℕ) → f (get_or xs n None) ≡ 0) → sum_by f xs ≡ 0
@@ -27,42 +25,26 @@ module _ {A : Type 0} (f : Option A → ℕ) (none : f None ≡ 0) where
   -- an element is replaced by one that counts nothing
   pub sum_cleared : (xs : List (Option A)) (n : ℕ) (x : Option A) → f x ≡ 0
       → sum_by f (set xs n x) + f (get_or xs n None) ≡ sum_by f xs
-  sum_cleared xs n x zero = elim (cases_lt n (length xs)) [
-    | inl lt ↦ (let e = sum_by-set f xs n x None lt in omega (arith, e, zero))
-    | inr past ↦ (let e = ap (sum_by f) (set_past xs n x past) in let z = ap f (get_or_past xs n None past) in
-        omega (arith, e, z, none))
-  ]
+  sum_cleared xs n x zero = search (arith, get_or_past, set_past, sum_by-set)
 
   -- numbers that rise and have each place that counts sum up to the whole
   pub sum_numbers : (ns : List ℕ) (xs : List (Option A)) → IsRising ns
       → ((n : ℕ) → 0 < f (get_or xs n None) → Within n ns) → sum_by (λ n. f (get_or xs n None)) ns ≡ sum_by f xs
-  sum_numbers [] xs rising has = sym (sum_zero xs (λ n. elim (cases_eq (f (get_or xs n None)) 0) [
-    | inl z ↦
-        z
-    | inr other ↦ absurd (has n (omega arith))
-  ]))
+  sum_numbers [] xs rising has = search (arith, sum_zero)
   sum_numbers (m ∷ ns) xs rising has =
       sum_by-cons (λ n. f (get_or xs n None)) m ns
       ∙ (let a = sum_same (λ n. f (get_or xs n None)) (λ n. f (get_or (set xs m None) n None)) ns apart in
       let b = sum_numbers ns (set xs m None) rising.1 rest in
-      let c = sum_cleared xs m None none in omega (arith, a, b, c))
+      let c = sum_cleared xs m None none in omega arith)
     where
       apart : (k : ℕ) → Within k ns → f (get_or xs k None) ≡ f (get_or (set xs m None) k None)
-      apart k i = ap f (sym (get_or-set_other xs m k None None (λ e. let lt = rising.0 k i in omega arith)))
+      apart k i = search (arith, get_or-set_other)
 
       here : f (get_or (set xs m None) m None) ≡ 0
       here = ap f (set_none xs m) ∙ none
 
       rest : (n : ℕ) → 0 < f (get_or (set xs m None) n None) → Within n ns
-      rest n some = elim (cases_eq n m) [
-        | inl same ↦ absurd (let z : f (get_or (set xs m None) n None) ≡ 0 =
-            ap (λ i. f (get_or (set xs m None) i None)) same ∙ here in omega (arith, z))
-        | inr other ↦ elim (has n (let e : f (get_or (set xs m None) n None) ≡ f (get_or xs n None) =
-            ap f (get_or-set_other xs m n None None other) in omega (arith, e))) [
-              | inl same ↦ absurd (other same)
-              | inr in' ↦ in'
-            ]
-      ]
+      rest n some = grind (arith, at_place)
 
 ordered_below : (low m : ℕ) (ns : List ℕ) → IsRising ns → ((k : ℕ) → Within k ns → low ≤ k)
     → ((k : ℕ) → Within k ns → k ≤ m) → length ns ≤ suc m - low
@@ -87,9 +69,9 @@ ids_named id (x ∷ ids) some = by (x.slot == id.slot) refl (ids_named id ids)
     by : (b : Bool) → (x.slot == id.slot) ≡ b → (0 < count_by (same_id id) ids
         → list_any (λ (y : Id). y.slot == id.slot) ids ≡ true)
         → list_any (λ (y : Id). y.slot == id.slot) (x ∷ ids) ≡ true
-    by true is rest = grind (arith, is)
+    by true is rest = grind arith
     by false is rest = let later : list_any (λ (y : Id). y.slot == id.slot) ids ≡ true =
-        rest (grind (arith, nat_tests, is, some)) in grind (arith, is, later)
+        rest (grind arith) in grind arith
 
 pub blocks_named : (id : Id) (w : Option Wait) → 0 < blocks_in id w → names_slot id.slot w ≡ true
 blocks_named id w some = ids_named id (ids_of w) some

@@ -1,64 +1,51 @@
 -- How the numbers of blocks change with the waits, by slot and by Id.
-use Rattle.std.proofs.Common.{◌≡◌, ℕ, ◌+◌, ◌*◌, ◌<◌, ◌≤◌, List, [], ◌∷◌, ◌++◌, length, Option, Some, None, refl, ap, ◌∙◌, sym, subst, arith, get_or, set, map, Bool, true, false, cond, inl, inr}
+use Rattle.std.proofs.Common.{◌≡◌, ℕ, ◌+◌, ◌*◌, ◌<◌, ◌≤◌, List, [], ◌∷◌, ◌++◌, length, Option, Some, None, refl, ap, ◌∙◌, subst, arith, get_or, set, map, Bool, true, false, cond}
 use Rattle.std.specs.Prelude.{count_by, sum_by, ◌==◌}
 use Rattle.std.specs.List.{list_any}
 use Rattle.std.proofs.lemmas.List.{length-set, length-map, get_or_past, get_or-set_same, get_or-set_other, get_or-map, ext_get_or}
 use Rattle.std.proofs.lemmas.List.Elements.{All-from_get_or}
 use Rattle.std.proofs.lemmas.List.Quantifiers.{position-Some}
 use Rattle.std.proofs.lemmas.List.Sums.{sum_by-cons, sum_by-append, sum_by-le, get_or-le-sum_by, count_by-le-length}
-use Rattle.std.proofs.lemmas.Bool.{cases_eq, cases_lt, false_from_ne_true}
-use Rattle.std.proofs.lemmas.Bool.Decides.{nat_tests}
+use Rattle.std.proofs.lemmas.Bool.{false_from_ne_true}
 use Rattle.pin_core.specs.Holds.{same_id}
 use Rattle.pin_core.specs.declared.id.Id.{Id}
 use Rattle.ob_waits.specs.declared.wait.Mode.{Mode}
 use Rattle.ob_waits.specs.declared.wait.Wait.{Wait}
 use Rattle.ob_waits.specs.declared.wait.State.{State}
 use Rattle.ob_waits.specs.declared.wait.State.TheVariants.{Pending, Answered}
-use Rattle.ob_waits.specs.Rules.{thread_of, IsKept, WaitWaitable, StateWaitable}
+use Rattle.ob_waits.specs.Rules.{thread_of, IsKept}
 use Rattle.ob_waits.specs.Waits.{nowhere, new_wait, answered, ids_of, state_ids, names_slot, slot_places, slot_blocks, blocks_in, blocks_among, code_at, state_code, Scene, is_ready, effect, settled, answered_wait, number_of, numbered_ids, thread_ids, is_waits_of, unless_of}
 use Rattle.ob_waits.proofs.BlockLaws.{sum_cleared}
 use Rattle.ob_waits.proofs.Settling.{answers, settled_by_effects}
 use Rattle.ob_waits.proofs.TrackedLaws.{thread_waits, waits_thread, no_number}
 
--- a sum over the waits
-sum_added : (f : Option Wait → ℕ) (ws : List (Option Wait)) (w : Option Wait)
-    → sum_by f (ws ++ w ∷ []) ≡ sum_by f ws + f w
-sum_added f ws w = let a = sum_by-append f ws (w ∷ []) in let b = sum_by-cons f w [] in omega (arith, a, b)
-
 -- a wait becomes pending
 pub slot_added : (k : ℕ) (ws : List (Option Wait)) (t : ℕ) (mode : Mode) (ids : List Id) (d : Option ℕ)
     → slot_blocks k (ws ++ Some (new_wait t mode ids d) ∷ []) ≡ slot_blocks k ws + slot_places k ids
-slot_added k ws t mode ids d = sum_added (λ w. slot_places k (ids_of w)) ws (Some (new_wait t mode ids d))
+slot_added k ws t mode ids d = search (arith, sum_by-append)
 
 pub blocks_added : (id : Id) (ws : List (Option Wait)) (t : ℕ) (mode : Mode) (ids : List Id) (d : Option ℕ)
     → blocks_among id (ws ++ Some (new_wait t mode ids d) ∷ []) ≡ blocks_among id ws + count_by (same_id id) ids
-blocks_added id ws t mode ids d = sum_added (blocks_in id) ws (Some (new_wait t mode ids d))
-
--- a wait is answered without taking anything
-no_ids : (w : Option Wait) (code : ℕ) → ids_of (answered w code) ≡ []
-no_ids None code = refl
-no_ids (Some w) code = refl
+blocks_added id ws t mode ids d = search (arith, sum_by-append)
 
 pub slot_answered : (k : ℕ) (ws : List (Option Wait)) (n code : ℕ)
     → slot_blocks k (set ws n (answered (get_or ws n None) code)) + slot_places k (ids_of (get_or ws n None))
     ≡ slot_blocks k ws
-slot_answered k ws n code = sum_cleared (λ w. slot_places k (ids_of w)) refl ws n (answered (get_or ws n None) code)
-    (ap (slot_places k) (no_ids (get_or ws n None) code))
+slot_answered k ws n code = search (arith, sum_cleared)
 
 pub blocks_answered : (id : Id) (ws : List (Option Wait)) (n code : ℕ)
     → blocks_among id (set ws n (answered (get_or ws n None) code)) + blocks_in id (get_or ws n None)
     ≡ blocks_among id ws
-blocks_answered id ws n code = sum_cleared (blocks_in id) refl ws n (answered (get_or ws n None) code)
-    (ap (count_by (same_id id)) (no_ids (get_or ws n None) code))
+blocks_answered id ws n code = search (arith, sum_cleared)
 
 -- a wait goes
 pub slot_removed : (k : ℕ) (ws : List (Option Wait)) (n : ℕ)
     → slot_blocks k (set ws n None) + slot_places k (ids_of (get_or ws n None)) ≡ slot_blocks k ws
-slot_removed k ws n = sum_cleared (λ w. slot_places k (ids_of w)) refl ws n None refl
+slot_removed k ws n = search (arith, sum_cleared)
 
 pub blocks_removed : (id : Id) (ws : List (Option Wait)) (n : ℕ)
     → blocks_among id (set ws n None) + blocks_in id (get_or ws n None) ≡ blocks_among id ws
-blocks_removed id ws n = sum_cleared (blocks_in id) refl ws n None refl
+blocks_removed id ws n = search (arith, sum_cleared)
 
 code_ids : (st : State) (code : ℕ) → state_code st ≡ Some code → state_ids st ≡ []
 code_ids (Pending mode ids) code h = absurd (cc)
@@ -73,30 +60,19 @@ answered_ids (Some w) code h = code_ids w.state code h
 unless_other : (t : ℕ) (w : Option Wait) → is_waits_of t w ≡ false → unless_of t w ≡ w
 unless_other t w h = ap (λ b. cond b None w) h
 
-unless_own : (t : ℕ) (w : Option Wait) → is_waits_of t w ≡ true → unless_of t w ≡ None
-unless_own t w h = ap (λ b. cond b None w) h
-
 pub dropped_found : (ws : List (Option Wait)) (t n : ℕ) → IsKept ws → number_of t ws ≡ Some n
     → map (unless_of t) ws ≡ set ws n None
 dropped_found ws t n kept found =
     let at = position-Some (is_waits_of t) ws n None found in
     let own : thread_of (get_or ws n None) ≡ Some t = waits_thread t (get_or ws n None) at.1 in
-    ext_get_or None (map (unless_of t) ws) (set ws n None) (length-map ws (unless_of t) ∙ sym (length-set ws n None))
-    (λ i lt. get_or-map (unless_of t) ws i None None (omega (arith, length-map ws (unless_of t)))
-    ∙ elim (cases_eq i n) [
-      | inl same ↦ unless_own t (get_or ws i None)
-          (thread_waits t (get_or ws i None) (ap (λ j. thread_of (get_or ws j None)) same ∙ own))
-          ∙ sym (ap (λ j. get_or (set ws n None) j None) same ∙ get_or-set_same ws n None None at.0)
-      | inr other ↦ unless_other t (get_or ws i None)
-          (false_from_ne_true _ (λ h. other (kept.one_each i n t (waits_thread t (get_or ws i None) h) own)))
-          ∙ sym (get_or-set_other ws n i None None other)
-    ])
+    ext_get_or None (map (unless_of t) ws) (set ws n None) (search (arith, length-map, length-set))
+    (search (arith, false_from_ne_true, get_or-map, get_or-set_other, get_or-set_same, length-map, thread_waits))
 
 pub dropped_missing : (ws : List (Option Wait)) (t : ℕ) → number_of t ws ≡ None → map (unless_of t) ws ≡ ws
 dropped_missing ws t none = ext_get_or None (map (unless_of t) ws) ws (length-map ws (unless_of t))
-    (λ i lt. get_or-map (unless_of t) ws i None None (omega (arith, length-map ws (unless_of t)))
+    (λ i lt. get_or-map (unless_of t) ws i None None (search (arith, length-map))
     ∙ unless_other t (get_or ws i None) (false_from_ne_true _
-    (λ h. no_number t ws i none (waits_thread t (get_or ws i None) h))))
+    (search (arith, no_number, waits_thread))))
 
 sum_dropped : (f : Option Wait → ℕ) (g : List Id → ℕ) → ((w : Option Wait) → f w ≡ g (ids_of w)) → g [] ≡ 0
     → (t : ℕ) (ws : List (Option Wait)) → IsKept ws →
@@ -105,13 +81,12 @@ sum_dropped f g same zero t ws kept = by (number_of t ws) refl
   where
     by : (n : Option ℕ) → number_of t ws ≡ n → sum_by f (map (unless_of t) ws) + g (thread_ids t ws) ≡ sum_by f ws
     by None is =
-        let all = ap (sum_by f) (dropped_missing ws t is) in
-        let ids = ap (λ m. g (numbered_ids ws m)) is in omega (arith, all, ids, zero)
+        search (arith, dropped_missing)
     by (Some n) is =
         let all = ap (sum_by f) (dropped_found ws t n kept is) in
         let ids = ap (λ m. g (numbered_ids ws m)) is in
         let one = sum_cleared f (same None ∙ zero) ws n None (same None ∙ zero) in
-        let here = same (get_or ws n None) in omega (arith, all, ids, one, here)
+        let here = same (get_or ws n None) in omega arith
 
 pub slot_dropped : (k t : ℕ) (ws : List (Option Wait)) → IsKept ws
     → slot_blocks k (map (unless_of t) ws) + slot_places k (thread_ids t ws) ≡ slot_blocks k ws
@@ -129,9 +104,9 @@ places_named k (x ∷ xs) h = by (x.slot == k) refl (places_named k xs)
     by : (b : Bool) → (x.slot == k) ≡ b → (list_any (λ (id : Id). id.slot == k) xs ≡ true → 0 < slot_places k xs)
         → 0 < slot_places k (x ∷ xs)
     by true is later = let e = sum_by-cons (λ (y : Id). cond (y.slot == k) 1 0) x xs in
-        let one : cond (x.slot == k) 1 0 ≡ 1 = ap {B = ℕ} (λ b. cond b 1 0) is in omega (arith, e, one)
+        search arith
     by false is later = let e = sum_by-cons (λ (y : Id). cond (y.slot == k) 1 0) x xs in
-        let some = later (grind (arith, is, h)) in omega (arith, e, some)
+        let some = later (grind arith) in omega arith
 
 -- each place of a list counts in its slot
 pub places_at : (ids : List Id) (i : ℕ) → i < length ids → 0 < slot_places (get_or ids i nowhere).slot ids
@@ -139,41 +114,27 @@ places_at ids i lt =
     let k = (get_or ids i nowhere).slot in
     let f : Id → ℕ = λ x. cond (x.slot == k) 1 0 in
     let here : f (get_or ids i nowhere) ≡ 1 = ap {B = ℕ} (λ b. cond b 1 0) (let yes : (k == k) ≡ true =
-    grind (arith, nat_tests) in yes) in
-    omega (arith, get_or-le-sum_by f ids i nowhere lt, here)
+    grind arith in yes) in
+    omega (arith, get_or-le-sum_by f ids i nowhere lt)
 
 pub wait_counts : (k n : ℕ) (ws : List (Option Wait)) → slot_places k (ids_of (get_or ws n None)) ≤ slot_blocks k ws
-wait_counts k n ws = elim (cases_lt n (length ws)) [
-  | inl lt ↦ get_or-le-sum_by (λ w. slot_places k (ids_of w)) ws n None lt
-  | inr past ↦ (let none : slot_places k (ids_of (get_or ws n None)) ≡ 0 =
-      ap (λ w. slot_places k (ids_of w)) (get_or_past ws n None past) in omega (arith, none))
-]
+wait_counts k n ws = search (arith, get_or-le-sum_by, get_or_past)
 
 pub named_counts : (k n : ℕ) (ws : List (Option Wait)) → names_slot k (get_or ws n None) ≡ true → 0 < slot_blocks k ws
 named_counts k n ws named = let some = places_named k (ids_of (get_or ws n None)) named in
-    let le = wait_counts k n ws in omega (arith, some, le)
+    let le = wait_counts k n ws in omega arith
 
 pub unnamed_ids : (k n : ℕ) (ws : List (Option Wait)) → slot_blocks k ws ≡ 0 → (i : ℕ)
     → i < length (ids_of (get_or ws n None)) → (get_or (ids_of (get_or ws n None)) i nowhere).slot ≡ k → ⊥
 unnamed_ids k n ws unnamed i lt same =
     let some : 0 < slot_places k (ids_of (get_or ws n None)) =
-    subst (λ j. 0 < slot_places j (ids_of (get_or ws n None))) same (places_at (ids_of (get_or ws n None)) i lt) in
-    let le = wait_counts k n ws in omega (arith, some, le, unnamed)
-
--- each wait has at most 64 blocks
-few_places : (k : ℕ) (w : Option Wait) → WaitWaitable w → slot_places k (ids_of w) ≤ 64
-few_places k None h = omega arith
-few_places k (Some w) h = by w.state h
-  where
-    by : (st : State) → StateWaitable st → slot_places k (state_ids st) ≤ 64
-    by (Pending mode ids) waitable = let le = count_by-le-length (λ (id : Id). id.slot == k) ids in
-        let few = waitable.at_most in omega (arith, le, few)
-    by (Answered code) waitable = omega arith
+    subst (λ j. 0 < slot_places j (ids_of (get_or ws n None))) same (search (arith, places_at)) in
+    let le = wait_counts k n ws in omega arith
 
 pub slot_blocks-few : (k : ℕ) (ws : List (Option Wait)) → IsKept ws → slot_blocks k ws ≤ length ws * 64
 slot_blocks-few k ws kept = sum_by-le (λ w. slot_places k (ids_of w)) 64 ws
     (All-from_get_or (λ w. slot_places k (ids_of w) ≤ 64) ws None
-    (λ n lt. few_places k (get_or ws n None) (kept.each n)))
+    (search (arith, count_by-le-length)))
 
 -- settling answers waits
 blocks_effect : (id : Id) (s : Scene) (n : ℕ) → is_ready s.objects.bodies (get_or s.waits n None) ≡ true
@@ -181,8 +142,8 @@ blocks_effect : (id : Id) (s : Scene) (n : ℕ) → is_ready s.objects.bodies (g
 blocks_effect id s n ready =
     let a = answers s n ready in
     let e = ap (blocks_among id) a.waits in
-    let c = sum_cleared (blocks_in id) refl s.waits n (answered_wait a.wait a.code) refl in omega (arith, e, c)
+    let c = sum_cleared (blocks_in id) refl s.waits n (answered_wait a.wait a.code) refl in omega arith
 
 pub blocks_settled : (id : Id) (scene : Scene) → blocks_among id (settled scene).waits ≤ blocks_among id scene.waits
 blocks_settled id scene = settled_by_effects (λ (a b : Scene). blocks_among id b.waits ≤ blocks_among id a.waits)
-    (λ s. omega arith) (λ a b c x y. omega (arith, x, y)) (blocks_effect id) scene
+    (λ s. omega arith) (λ a b c x y. omega arith) (blocks_effect id) scene

@@ -1,27 +1,25 @@
 -- Deadlines go on being ahead and listed while waits come, are answered and go, and the code finds those that are over.
-use Rattle.std.proofs.Common.{◌≡◌, ◌⊎◌, ℕ, ◌++◌, ◌∷◌, [], ◌<◌, ◌≤◌, List, length, Option, Some, None, refl, ap, ◌∙◌, sym, subst, arith, get_or, set, Bool, true, false, inl, inr}
+use Rattle.ob_codec.proofs.AtPlace.{at_place}
+use Rattle.std.proofs.Common.{◌≡◌, ◌⊎◌, ℕ, ◌++◌, ◌∷◌, [], ◌<◌, ◌≤◌, List, length, Option, Some, None, refl, ap, ◌∙◌, sym, subst, arith, get_or, set, true, false, inl, inr}
 use Rattle.std.specs.Prelude.{IfSome, is_some, map}
 use Rattle.std.proofs.Math.ListN.{get_or-map}
 use Rattle.std.proofs.lemmas.List.{get_or-set_same, get_or-set_other}
 use Rattle.std.proofs.lemmas.Bool.{cases_eq}
-use Rattle.std.proofs.lemmas.Bool.Decides.{nat_tests}
 use Rattle.least.specs.Dues.{IsLeast, NotAfter}
 use Rattle.ob_body.specs.Timer.{is_due}
 use Rattle.pin_core.specs.declared.id.Id.{Id}
 use Rattle.ob_waits.specs.declared.wait.Mode.{Mode}
 use Rattle.ob_waits.specs.declared.wait.Wait.{Wait}
-use Rattle.ob_waits.specs.declared.wait.State.{State}
-use Rattle.ob_waits.specs.declared.wait.State.TheVariants.{Pending, Answered}
-use Rattle.ob_waits.specs.Deadlines.{AreListed, AreTimely, deadline_of, is_overdue, state_deadline}
+use Rattle.ob_waits.specs.declared.wait.State.TheVariants.{Answered}
+use Rattle.ob_waits.specs.Deadlines.{AreListed, AreTimely, deadline_of, is_overdue}
 use Rattle.ob_waits.specs.Form.{IsAfter}
 use Rattle.ob_waits.specs.Objects.{Objects}
 use Rattle.ob_waits.specs.Rules.{thread_of}
-use Rattle.ob_waits.specs.Waits.{Scene, is_pending, new_wait, number_of, settled}
+use Rattle.ob_waits.specs.Waits.{Scene, new_wait, number_of, settled}
 use Rattle.ob_waits.proofs.AddedLaws.{by_number}
 use Rattle.ob_waits.proofs.Keeping.{Fade}
 use Rattle.ob_waits.proofs.Staying.{settled_stays}
-use Rattle.ob_waits.proofs.TrackedLaws.{no_number, no_wait}
-use Rattle.ob_waits.proofs.Writes.{set_at}
+use Rattle.ob_waits.proofs.TrackedLaws.{no_number}
 
 -- a wait is what it was, or has no deadline any more
 abbrev Follows : Option Wait → Option Wait → Type 0
@@ -29,39 +27,12 @@ Follows old new = (new ≡ old) ⊎ (deadline_of new ≡ None)
 
 pub timely_by : (clock : ℕ) (ws ws' : List (Option Wait)) (dues : List (Option ℕ))
     → ((n : ℕ) → Follows (get_or ws n None) (get_or ws' n None)) → AreTimely clock ws dues → AreTimely clock ws' dues
-timely_by clock ws ws' dues follows timely = record {
-  moment = timely.moment;
-  ahead = record {
-    each = λ n. elim (follows n) [
-      | inl same ↦ subst (λ (w : Option Wait). IsAfter clock (deadline_of w)) (sym same) (timely.ahead.each n)
-      | inr none ↦ subst (IsAfter clock) (sym none) tt
-    ];
-  };
-  listed = record {
-    each = λ n t d own due. elim (follows n) [
-      | inl same ↦ timely.listed.each n t d (sym (ap thread_of same) ∙ own) (sym (ap deadline_of same) ∙ due)
-      | inr none ↦ absurd (cc (none, due))
-    ];
-  };
-}
-
-unpending : (w : Option Wait) → is_pending w ≡ false → deadline_of w ≡ None
-unpending None h = refl
-unpending (Some w) h = by w.state h
-  where
-    by : (s : State) → is_pending (Some (record w { state = s })) ≡ false → state_deadline w.deadline s ≡ None
-    by (Pending mode ids) h = absurd (cc)
-    by (Answered code) h = refl
+timely_by clock ws ws' dues follows timely = search arith
 
 -- some waits were answered
 pub timely_faded : (clock : ℕ) (ws ws' : List (Option Wait)) (dues : List (Option ℕ)) → Fade ws ws'
     → AreTimely clock ws dues → AreTimely clock ws' dues
-timely_faded clock ws ws' dues fade timely = timely_by clock ws ws' dues
-    (λ n. by n (is_pending (get_or ws' n None)) refl) timely
-  where
-    by : (n : ℕ) (b : Bool) → is_pending (get_or ws' n None) ≡ b → Follows (get_or ws n None) (get_or ws' n None)
-    by n true is = inl ((fade.each n).stays is)
-    by n false is = inr (unpending (get_or ws' n None) is)
+timely_faded clock ws ws' dues fade timely = search arith
 
 pub timely_settled : (clock : ℕ) (before after : Objects) (ws ws' : List (Option Wait)) (dues : List (Option ℕ))
     → ◌≡◌ {A = Scene} (record { objects = after; waits = ws' }) (settled (record { objects = before; waits = ws }))
@@ -73,16 +44,11 @@ timely_settled clock before after ws ws' dues value timely =
 -- one went
 pub timely_removed : (clock : ℕ) (ws : List (Option Wait)) (n : ℕ) (dues : List (Option ℕ)) → AreTimely clock ws dues
     → AreTimely clock (set ws n None) dues
-timely_removed clock ws n dues timely = timely_by clock ws (set ws n None) dues
-    (λ m. set_at (Follows (get_or ws m None)) ws n m None None (λ _. inr refl) (inl refl)) timely
+timely_removed clock ws n dues timely = grind (arith, at_place)
 
 -- no waits
 pub timely_none : AreTimely 0 (None ∷ []) []
-timely_none = record {
-  moment = omega arith;
-  ahead = record { each = λ n. subst (λ (w : Option Wait). IsAfter 0 (deadline_of w)) (sym (no_wait n)) tt };
-  listed = record { each = λ n t d own due. absurd (let e = ap thread_of (no_wait n) in cc (e, own)) };
-}
+timely_none = search arith
 
 -- a wait comes, of a thread that had none, whose deadline is listed where it is pending
 pub timely_came : (clock : ℕ) (ws : List (Option Wait)) (w : Wait) (dues dues' : List (Option ℕ))
@@ -92,15 +58,12 @@ pub timely_came : (clock : ℕ) (ws : List (Option Wait)) (w : Wait) (dues dues'
     → AreTimely clock ws dues → AreTimely clock (ws ++ Some w ∷ []) dues'
 timely_came clock ws w dues dues' alone ahead others here timely = record {
   moment = timely.moment;
-  ahead = record {
-    each = λ n. by_number ws w (λ n x. IsAfter clock (deadline_of x)) (λ n lt. timely.ahead.each n) ahead
-        (λ n past. tt) n;
-  };
+  ahead = grind (arith, at_place);
   listed = record {
     each = λ n u e own due. by_number ws w (λ n x. thread_of x ≡ Some u → deadline_of x ≡ Some e
         → get_or dues' u None ≡ Some e)
         (λ n lt own due. old n u e own due)
-        (λ own due. let same_thread : w.thread ≡ u = cc in ap (λ v. get_or dues' v None) (sym same_thread) ∙ here e due)
+        (search arith)
         (λ n past own due. absurd (cc)) n own due;
   };
 }
@@ -108,8 +71,8 @@ timely_came clock ws w dues dues' alone ahead others here timely = record {
     old : (n u e : ℕ) → thread_of (get_or ws n None) ≡ Some u → deadline_of (get_or ws n None) ≡ Some e
         → get_or dues' u None ≡ Some e
     old n u e own due = elim (cases_eq u w.thread) [
-      | inl ours ↦ absurd (no_number w.thread ws n alone (own ∙ ap Some ours))
-      | inr other ↦ others u other ∙ timely.listed.each n u e own due
+      | inl ours ↦ absurd (search (arith, no_number))
+      | inr other ↦ search arith
     ]
 
 pub timely_added : (clock : ℕ) (ws : List (Option Wait)) (t : ℕ) (mode : Mode) (ids : List Id) (d : Option ℕ)
@@ -117,17 +80,14 @@ pub timely_added : (clock : ℕ) (ws : List (Option Wait)) (t : ℕ) (mode : Mod
     → ((u : ℕ) → get_or room u None ≡ get_or dues u None) → AreTimely clock ws dues
     → AreTimely clock (ws ++ Some (new_wait t mode ids d) ∷ []) (set room t d)
 timely_added clock ws t mode ids d dues room alone ahead place same timely =
-    timely_came clock ws (new_wait t mode ids d) dues (set room t d) alone ahead
-    (λ u other. get_or-set_other room t u d None other ∙ same u) (λ e due. get_or-set_same room t d None place
-    ∙ due) timely
+    search (arith, timely_came, get_or-set_other, get_or-set_same)
 
 pub timely_answered : (clock : ℕ) (ws : List (Option Wait)) (t code : ℕ) (d : Option ℕ) (dues : List (Option ℕ))
     → number_of t ws ≡ None
     → AreTimely clock ws dues → AreTimely clock (ws
     ++ Some (record { thread = t; deadline = d; state = Answered code }) ∷ []) dues
 timely_answered clock ws t code d dues alone timely =
-    timely_came clock ws (record { thread = t; deadline = d; state = Answered code }) dues dues alone tt
-    (λ u other. refl) (λ e due. absurd (cc)) timely
+    grind (arith, at_place)
 
 -- where none that is listed is due, no wait is overdue
 pub none_overdue : (now : ℕ) (ws : List (Option Wait)) (dues : List (Option ℕ))
@@ -148,8 +108,7 @@ none_overdue now ws dues none listed n = by (get_or ws n None) refl
 pub due_too : (now due : ℕ) (dues : List (Option ℕ)) (x : Option ℕ) → IsLeast dues (Some due) → due ≤ now
     → IsLeast dues x → is_due now x ≡ true
 due_too now due dues None is soon other = absurd (other.first is.stands.0 due is.stands.1)
-due_too now due dues (Some moment) is soon other = let before : moment ≤ due =
-    other.first is.stands.0 due is.stands.1 in grind (arith, nat_tests, before, soon)
+due_too now due dues (Some moment) is soon other = search arith
 
 -- what is listed for a deadline that some wait has
 listed_at : (ws : List (Option Wait)) (dues : List (Option ℕ)) (n d : ℕ) → AreListed ws dues
@@ -157,7 +116,7 @@ listed_at : (ws : List (Option Wait)) (dues : List (Option ℕ)) (n d : ℕ) →
 listed_at ws dues n d listed is = by (get_or ws n None) refl
   where
     by : (w : Option Wait) → get_or ws n None ≡ w → (t : ℕ) × (get_or dues t None ≡ Some d)
-    by None at = absurd (let e : deadline_of (get_or ws n None) ≡ None = ap deadline_of at in cc (e, is))
+    by None at = search arith
     by (Some w) at = (w.thread, listed.each n w.thread d (ap thread_of at) is)
 
 not_before_least : (ws : List (Option Wait)) (dues : List (Option ℕ)) (least : Option ℕ) → AreListed ws dues
@@ -168,29 +127,28 @@ not_before_least ws dues least listed is n d at = let there = listed_at ws dues 
 
 pub least_none : (ws : List (Option Wait)) (dues : List (Option ℕ)) → AreListed ws dues → IsLeast dues None
     → IsLeast (map deadline_of ws) None
-least_none ws dues listed is = record { stands = tt; first = not_before_least ws dues None listed is }
+least_none ws dues listed is = search (arith, not_before_least)
 
 least_deadline : (ws : List (Option Wait)) (dues : List (Option ℕ)) (n due : ℕ) → AreListed ws dues
     → IsLeast dues (Some due) → is_overdue due (get_or ws n None) ≡ true → IsLeast (map deadline_of ws) (Some due)
 least_deadline ws dues n due listed is over = record {
   stands = by (deadline_of (get_or ws n None)) refl;
-  first = not_before_least ws dues (Some due) listed is;
+  first = search (arith, not_before_least);
 }
   where
     by : (x : Option ℕ) → deadline_of (get_or ws n None) ≡ x
         → (place : ℕ) × (get_or (map deadline_of ws) place None ≡ Some due)
-    by None at = absurd (let e : is_due due (deadline_of (get_or ws n None)) ≡ false = ap (is_due due) at in
-        cc (e, over))
+    by None at = search arith
     by (Some d) at =
         let soon : is_due due (Some d) ≡ true = ap (is_due due) (sym at) ∙ over in
-        let early : d ≤ due = grind (arith, nat_tests, soon) in
+        let early : d ≤ due = grind arith in
         let late : due ≤ d = not_before_least ws dues (Some due) listed is n d
         (get_or-map deadline_of ws n None ∙ at) in
-        let same : d ≡ due = omega (arith, early, late) in
+        let same : d ≡ due = omega arith in
         (n, get_or-map deadline_of ws n None ∙ at ∙ ap Some same)
 
 pub least_overdue : (ws : List (Option Wait)) (dues : List (Option ℕ)) (n : Option ℕ) (due : ℕ) → AreListed ws dues
     → IsLeast dues (Some due) → is_some n ≡ true → IfSome n (λ m. is_overdue due (get_or ws m None) ≡ true)
     → IsLeast (map deadline_of ws) (Some due)
 least_overdue ws dues None due listed is some over = absurd (cc (some))
-least_overdue ws dues (Some n) due listed is some over = least_deadline ws dues n due listed is over
+least_overdue ws dues (Some n) due listed is some over = search (arith, least_deadline)

@@ -1,11 +1,12 @@
 -- To end an object where its last block leaves is to settle first and then end every object to which nothing refers.
+use Rattle.ob_codec.proofs.AtPlace.{at_place}
 use Rattle.std.proofs.Common.{◌≡◌, ℕ, zero, suc, ◌+◌, ◌-◌, ◌<◌, List, [], ◌∷◌, length, Option, Some, None, refl, ap, ◌∙◌, sym, subst, arith, get_or, set, Bool, true, false, cond, inl, inr, eqb, ltb}
 use Rattle.std.specs.Prelude.{is_some}
 use Rattle.std.specs.List.{position_or_len, list_any}
-use Rattle.std.proofs.lemmas.List.{length-set, get_or_past, get_or-set_same, get_or-set_other, ext_get_or}
+use Rattle.std.proofs.lemmas.List.{length-set, get_or_past, ext_get_or}
 use Rattle.std.proofs.lemmas.List.FromFn.{get_or-map-range_with_len, length-map-range_with_len}
 use Rattle.std.proofs.lemmas.List.Sums.{passes_at_first}
-use Rattle.std.proofs.lemmas.Bool.{cases_eq, cases_lt, lt-ltb, le-ltb}
+use Rattle.std.proofs.lemmas.Bool.{cases_lt, lt-ltb, le-ltb}
 use Rattle.std.proofs.lemmas.Bool.Decides.{nat_tests}
 use Rattle.pin_core.specs.declared.id.Id.{Id}
 use Rattle.ob_body.specs.declared.body.Body.{Body}
@@ -14,98 +15,45 @@ use Rattle.ob_waits.specs.declared.wait.Mode.TheVariants.{Any, All}
 use Rattle.ob_waits.specs.declared.wait.Wait.{Wait}
 use Rattle.ob_waits.specs.declared.wait.State.{State}
 use Rattle.ob_waits.specs.declared.wait.State.TheVariants.{Pending, Answered}
-use Rattle.ob_waits.specs.Objects.{Objects, slot_abandoned, slot_acquired, blocks_left, without_block, without_blocks}
+use Rattle.ob_waits.specs.Objects.{Objects, slot_acquired, blocks_left, without_block, without_blocks}
 use Rattle.ob_waits.specs.Rules.{HasBodies}
 use Rattle.ob_waits.specs.Ends.{HasBlocks, all_blocks_left, plain_effect, plain_effect_of, plain_effect_at, settled_plainly, settled_plainly_within, slot_ended, body_ended, ended, with_ends}
-use Rattle.ob_waits.specs.Waits.{nowhere, is_abandoned, first_signaled, list_ready, state_ready, is_ready, first_ready, with_acquired, with_all_acquired, bodies_after, code_of, answered_wait, ids_of, state_ids, Scene, effect, effect_of, effect_at, settled, settled_within}
+use Rattle.ob_waits.specs.Waits.{nowhere, is_abandoned, first_signaled, list_ready, state_ready, is_ready, first_ready, with_acquired, with_all_acquired, bodies_after, code_of, ids_of, state_ids, Scene, effect, effect_of, effect_at, settled, settled_within}
 use Rattle.ob_waits.proofs.Settling.{settled_first}
-use Rattle.ob_waits.proofs.References.{left_one, counts_at}
+use Rattle.ob_waits.proofs.References.{counts_at}
 use Rattle.ob_waits.proofs.Apart.{in_slot, SameAt, named_at, any_agree, first_same, ready_same}
 use Rattle.ob_waits.proofs.Counted.{named_counts}
-use Rattle.ob_waits.proofs.Ends.{body_left}
 
 -- slot by slot
 pub ended_none : (handles blocks : ℕ) → slot_ended handles blocks None ≡ None
-ended_none handles blocks = by (eqb (handles + blocks) 0)
-  where
-    by : (b : Bool) → ◌≡◌ {A = Option Body} (cond b None None) None
-    by true = refl
-    by false = refl
+ended_none handles blocks = search arith
 
 pub ended_at : (objects : Objects) (k : ℕ) → get_or (ended objects).bodies k None ≡ body_ended objects k
-ended_at objects k = elim (cases_lt k (length objects.bodies)) [
-  | inl lt ↦ get_or-map-range_with_len (body_ended objects) 0 (length objects.bodies) k k None lt (omega arith)
-  | inr past ↦ get_or_past (ended objects).bodies k None
-      (omega (arith, past, length-map-range_with_len (body_ended objects) 0 (length objects.bodies)))
-      ∙ sym (ap (slot_ended (get_or objects.handles k 0) (get_or objects.blocks k 0))
-      (get_or_past objects.bodies k None past)
-      ∙ ended_none (get_or objects.handles k 0) (get_or objects.blocks k 0))
-]
+ended_at objects k = search (arith, get_or-map-range_with_len, get_or_past, length-map-range_with_len)
 
 pub is_ended : (objects : Objects) (bodies : List (Option Body)) → length bodies ≡ length objects.bodies
     → ((k : ℕ) → get_or bodies k None ≡ body_ended objects k) → bodies ≡ (ended objects).bodies
-is_ended objects bodies len each = ext_get_or None bodies (ended objects).bodies (len
-    ∙ sym (length-map-range_with_len (body_ended objects) 0 (length objects.bodies))) (λ k lt. each k
-    ∙ sym (ended_at objects k))
+is_ended objects bodies len each = ext_get_or None bodies (ended objects).bodies (search (arith, length-map-range_with_len)) (search (arith, ended_at))
 
 pub length-ended : (objects : Objects) → length (ended objects).bodies ≡ length objects.bodies
-length-ended objects = length-map-range_with_len (body_ended objects) 0 (length objects.bodies)
+length-ended objects = search (arith, length-map-range_with_len)
 
 -- where each slot has a body exactly where something refers to it, nothing is left to end
 pub unended : (handles blocks : ℕ) (x : Option Body) → is_some x ≡ ltb 0 (handles + blocks)
     → x ≡ slot_ended handles blocks x
-unended handles blocks x has = by (eqb (handles + blocks) 0) refl x has
-  where
-    by : (b : Bool) → eqb (handles + blocks) 0 ≡ b → (y : Option Body) → is_some y ≡ ltb 0 (handles + blocks)
-        → y ≡ cond b None y
-    by false is y has = refl
-    by true is None has = refl
-    by true is (Some y) has = absurd (let none : ltb 0 (handles + blocks) ≡ false = grind (arith, nat_tests, is) in
-        cc (has, none))
+unended handles blocks x has = search arith
 
 pub none_to_end : (objects : Objects) → HasBodies objects → objects ≡ ended objects
 none_to_end objects has =
-    let bodies : objects.bodies ≡ (ended objects).bodies =
-    is_ended objects objects.bodies refl (λ k. unended (get_or objects.handles k 0) (get_or objects.blocks k 0)
-    (get_or objects.bodies k None) (has.each k)) in
-    λ i. record { bodies = bodies i; handles = objects.handles; blocks = objects.blocks }
-
--- a thread takes of what is left the same as before the end
-acquired_ended : (t handles blocks : ℕ) (x : Option Body)
-    → slot_acquired t (slot_ended handles blocks x) ≡ slot_ended handles blocks (slot_acquired t x)
-acquired_ended t handles blocks x = by (eqb (handles + blocks) 0)
-  where
-    by : (b : Bool) → slot_acquired t (cond b None x) ≡ cond b None (slot_acquired t x)
-    by true = refl
-    by false = refl
+    search (arith, is_ended)
 
 one_ended : (t : ℕ) (objects : Objects) (id : Id) →
     with_acquired t (ended objects).bodies id ≡ (ended
     (record objects { bodies = with_acquired t objects.bodies id })).bodies
 one_ended t objects id = is_ended (record objects { bodies = with_acquired t objects.bodies id })
     (with_acquired t (ended objects).bodies id)
-    (length-set (ended objects).bodies id.slot x ∙ length-ended objects ∙ sym (length-set objects.bodies id.slot y))
-    (λ k. elim (cases_eq k id.slot) [
-      | inl same ↦ elim (cases_lt id.slot (length objects.bodies)) [
-        | inl lt ↦ ap (λ i. get_or (set (ended objects).bodies id.slot x) i None) same
-            ∙ get_or-set_same (ended objects).bodies id.slot x None (omega (arith, lt, length-ended objects))
-            ∙ ap (slot_acquired t) (ended_at objects id.slot)
-            ∙ acquired_ended t (get_or objects.handles id.slot 0) (get_or objects.blocks id.slot 0)
-            (get_or objects.bodies id.slot None)
-            ∙ ap (slot_ended (get_or objects.handles id.slot 0) (get_or objects.blocks id.slot 0))
-            (sym (get_or-set_same objects.bodies id.slot y None lt))
-            ∙ ap (body_ended (record objects { bodies = set objects.bodies id.slot y })) (sym same)
-        | inr past ↦ get_or_past (set (ended objects).bodies id.slot x) k None
-            (omega (arith, same, past, length-set (ended objects).bodies id.slot x, length-ended objects))
-            ∙ sym (ap (slot_ended (get_or objects.handles k 0) (get_or objects.blocks k 0))
-            (get_or_past (set objects.bodies id.slot y) k None
-            (omega (arith, same, past, length-set objects.bodies id.slot y)))
-            ∙ ended_none (get_or objects.handles k 0) (get_or objects.blocks k 0))
-      ]
-      | inr other ↦ get_or-set_other (ended objects).bodies id.slot k x None other ∙ ended_at objects k
-          ∙ ap (slot_ended (get_or objects.handles k 0) (get_or objects.blocks k 0))
-          (sym (get_or-set_other objects.bodies id.slot k y None other))
-    ])
+    (search (arith, length-ended, length-set))
+    (grind (arith, nat_tests, at_place, ended_at))
   where
     x : Option Body
     x = slot_acquired t (get_or (ended objects).bodies id.slot None)
@@ -117,8 +65,7 @@ all_ended : (t : ℕ) (ids : List Id) (objects : Objects)
     → with_all_acquired t (ended objects).bodies ids
     ≡ (ended (record objects { bodies = with_all_acquired t objects.bodies ids })).bodies
 all_ended t [] objects = refl
-all_ended t (id ∷ ids) objects = ap (λ bodies. with_all_acquired t bodies ids) (one_ended t objects id)
-    ∙ all_ended t ids (record objects { bodies = with_acquired t objects.bodies id })
+all_ended t (id ∷ ids) objects = search (arith, one_ended, all_ended t ids (record objects { bodies = with_acquired t objects.bodies id }))
 
 -- a block leaves
 block_ended : (objects : Objects) (id : Id) → without_block (ended objects) id
@@ -128,39 +75,27 @@ block_ended objects id =
     let bodies : (without_block (ended objects) id).bodies ≡ (ended after).bodies =
     is_ended after (without_block (ended objects) id).bodies
     (len (eqb (get_or objects.handles id.slot 0 + (get_or objects.blocks id.slot 0 - 1)) 0)) at in
-    λ i. record { bodies = bodies i; handles = objects.handles; blocks = blocks_left objects.blocks id }
+    search arith
   where
     len : (b : Bool) → length (cond b (set (ended objects).bodies id.slot None) (ended objects).bodies)
         ≡ length objects.bodies
-    len true = length-set (ended objects).bodies id.slot None ∙ length-ended objects
+    len true = search (arith, length-ended, length-set)
     len false = length-ended objects
 
     pick : (h b : ℕ) (here : Bool) (x : Option Body)
         → cond here (cond (eqb (h + (b - 1)) 0) None (slot_ended h b x)) (slot_ended h b x)
         ≡ slot_ended h (b - cond here 1 0) x
-    pick h b false x = let same : b ≡ b - 0 = omega arith in ap (λ n. slot_ended h n x) same
-    pick h b true x = by (eqb (h + (b - 1)) 0) refl (eqb (h + b) 0) refl
-      where
-        by : (less : Bool) → eqb (h + (b - 1)) 0 ≡ less → (all : Bool) → eqb (h + b) 0 ≡ all
-            → cond less None (cond all None x) ≡ cond less None x
-        by true p all q = refl
-        by false p false q = refl
-        by false p true q = absurd (grind (arith, nat_tests, p, q))
+    pick h b false x = search arith
+    pick h b true x = search arith
 
     at : (k : ℕ) → get_or (without_block (ended objects) id).bodies k None
         ≡ body_ended (record objects { blocks = blocks_left objects.blocks id }) k
-    at k = body_left (ended objects) id k
-        ∙ ap (λ x. cond (eqb id.slot k) (cond (eqb (get_or objects.handles k 0 + (get_or objects.blocks k 0 - 1)) 0)
-        None x) x) (ended_at objects k)
-        ∙ pick (get_or objects.handles k 0) (get_or objects.blocks k 0) (eqb id.slot k) (get_or objects.bodies k None)
-        ∙ ap (λ n. slot_ended (get_or objects.handles k 0) n (get_or objects.bodies k None))
-        (sym (left_one objects.blocks id k))
+    at k = grind (arith, at_place, ended_at)
 
 blocks_ended : (ids : List Id) (objects : Objects)
     → without_blocks (ended objects) ids ≡ ended (record objects { blocks = all_blocks_left objects.blocks ids })
 blocks_ended [] objects = refl
-blocks_ended (id ∷ ids) objects = ap (λ o. without_blocks o ids) (block_ended objects id)
-    ∙ blocks_ended ids (record objects { blocks = blocks_left objects.blocks id })
+blocks_ended (id ∷ ids) objects = search (arith, block_ended, blocks_ended ids (record objects { blocks = blocks_left objects.blocks id }))
 
 -- each slot that a list names counts a block
 abbrev IsReferred : Objects → List Id → Type 0
@@ -169,23 +104,20 @@ IsReferred objects ids = (k : ℕ) → list_any (in_slot k) ids ≡ true → 0 <
 bodies_same : (objects : Objects) (ids : List Id) → IsReferred objects ids
     → SameAt objects.bodies (ended objects).bodies ids
 bodies_same objects ids has k named =
-    let some = has k named in
-    ended_at objects k ∙ ap (λ b. cond b None (get_or objects.bodies k None))
-    (let no : eqb (get_or objects.handles k 0 + get_or objects.blocks k 0) 0 ≡ false =
-    grind (arith, nat_tests, some) in no)
+    search (arith, ended_at)
 
 ready_ended : (objects : Objects) (w : Option Wait) → IsReferred objects (ids_of w)
     → is_ready (ended objects).bodies w ≡ is_ready objects.bodies w
-ready_ended objects w has = ready_same objects.bodies (ended objects).bodies w (bodies_same objects (ids_of w) has)
+ready_ended objects w has = search (arith, ended_at, ready_same)
 
 first_ended : (t : ℕ) (objects : Objects) (ids : List Id) → IsReferred objects ids
     → first_signaled t (ended objects).bodies ids ≡ first_signaled t objects.bodies ids
-first_ended t objects ids has = first_same objects.bodies (ended objects).bodies t ids (bodies_same objects ids has)
+first_ended t objects ids has = search (arith, bodies_same, first_same)
 
 -- the code and what is taken are the same
 abandoned_ended : (objects : Objects) (ids : List Id) → IsReferred objects ids → (id : Id)
     → list_any (in_slot id.slot) ids ≡ true → is_abandoned (ended objects).bodies id ≡ is_abandoned objects.bodies id
-abandoned_ended objects ids has id named = ap slot_abandoned (bodies_same objects ids has id.slot named)
+abandoned_ended objects ids has id named = search (arith, ended_at)
 
 code_ended : (mode : Mode) (t : ℕ) (objects : Objects) (ids : List Id) → IsReferred objects ids
     → list_ready mode t objects.bodies ids ≡ true →
@@ -193,20 +125,17 @@ code_ended : (mode : Mode) (t : ℕ) (objects : Objects) (ids : List Id) → IsR
 code_ended Any t objects ids has ready =
     let first = first_ended t objects ids has in
     let i = first_signaled t objects.bodies ids in
-    let lt : i < length ids = grind (arith, nat_tests, ready) in
+    let lt : i < length ids = grind arith in
     let same = abandoned_ended objects ids has (get_or ids i nowhere) (named_at ids i lt) in
-    ap (λ n. n + cond (is_abandoned (ended objects).bodies (get_or ids n nowhere)) 128 0) first
-    ∙ ap {B = ℕ} (λ b. i + cond b 128 0) same
+    search arith
 code_ended All t objects ids has ready = ap {B = ℕ} (λ b. cond b 128 0)
-    (any_agree (is_abandoned (ended objects).bodies) (is_abandoned objects.bodies) ids
-    (abandoned_ended objects ids has))
+    (search (arith, abandoned_ended, any_agree))
 
 after_ended : (mode : Mode) (t : ℕ) (objects : Objects) (ids : List Id) → IsReferred objects ids
     → bodies_after mode t (ended objects).bodies ids
     ≡ (ended (record objects { bodies = bodies_after mode t objects.bodies ids })).bodies
 after_ended Any t objects ids has =
-    ap (λ n. with_acquired t (ended objects).bodies (get_or ids n nowhere)) (first_ended t objects ids has)
-    ∙ one_ended t objects (get_or ids (first_signaled t objects.bodies ids) nowhere)
+    search (arith, one_ended, first_ended)
 after_ended All t objects ids has = all_ended t ids objects
 
 -- so an effect is a plain effect and ends after it
@@ -219,7 +148,7 @@ effect_of_ended scene n w (Pending mode ids) has ready =
     let taken = after_ended mode w.thread o ids has in
     let left = blocks_ended ids (record o { bodies = bodies_after mode w.thread o.bodies ids }) in
     let objects = ap (λ bodies. without_blocks (record o { bodies = bodies }) ids) taken ∙ left in
-    λ i. record { objects = objects i; waits = set scene.waits n (answered_wait w (code i)) }
+    search arith
 effect_of_ended scene n w (Answered code) has ready = absurd (cc)
 
 effect_at_ended : (scene : Scene) (n : ℕ) (w : Option Wait) → IsReferred scene.objects (ids_of w)
@@ -228,20 +157,17 @@ effect_at_ended scene n None has ready = absurd (cc)
 effect_at_ended scene n (Some w) has ready = effect_of_ended scene n w w.state has ready
 
 referred : (scene : Scene) → HasBlocks scene → (n : ℕ) → IsReferred scene.objects (ids_of (get_or scene.waits n None))
-referred scene has n k named = let some = named_counts k n scene.waits named in let at = has.each k in
-    omega (arith, some, at)
+referred scene has n k named = search (arith, named_counts, has.each)
 
 first_pointwise : (p q : Option Wait → Bool) (ws : List (Option Wait))
     → ((k : ℕ) → p (get_or ws k None) ≡ q (get_or ws k None)) → position_or_len p ws ≡ position_or_len q ws
 first_pointwise p q [] same = refl
 first_pointwise p q (w ∷ ws) same = let a : p w ≡ q w = same 0 in let b = first_pointwise p q ws (λ k. same (suc k)) in
-    grind (arith, a, b)
+    grind arith
 
 first_ready_ended : (scene : Scene) → HasBlocks scene
     → first_ready (ended scene.objects).bodies scene.waits ≡ first_ready scene.objects.bodies scene.waits
-first_ready_ended scene has = first_pointwise (is_ready (ended scene.objects).bodies)
-    (is_ready scene.objects.bodies) scene.waits (λ k. ready_ended scene.objects (get_or scene.waits k None)
-    (referred scene has k))
+first_ready_ended scene has = search (arith, ready_ended, referred, first_pointwise)
 
 blocks_kept : (scene : Scene) (n : ℕ) → HasBlocks scene → n < length scene.waits
     → is_ready scene.objects.bodies (get_or scene.waits n None) ≡ true → HasBlocks (plain_effect scene n)
@@ -249,7 +175,7 @@ blocks_kept scene n has lt ready =
     let moved = counts_at (with_ends scene) n (get_or scene.waits n None) refl lt in
     let same = effect_at_ended scene n (get_or scene.waits n None) (referred scene has n) ready in
     let after : HasBlocks (effect (with_ends scene) n) =
-    record { each = λ k. let at = has.each k in let m = moved.each k (omega (arith, at)) in omega (arith, at, m) }
+    record { each = λ k. let at = has.each k in let m = moved.each k (omega arith) in omega arith }
     in
     let there : HasBlocks (with_ends (plain_effect scene n)) = subst HasBlocks same after in
     record { each = λ k. there.each k }
@@ -264,7 +190,7 @@ lockstep (suc fuel) scene has =
       | inl lt ↦ (let ready : is_ready scene.objects.bodies (get_or scene.waits k None) ≡ true =
           passes_at_first (is_ready scene.objects.bodies) scene.waits None lt in
           let ready' : is_ready (ended scene.objects).bodies (get_or scene.waits k None) ≡ true =
-          ready_ended scene.objects (get_or scene.waits k None) (referred scene has k) ∙ ready in
+          search (arith, ended_at, ready_same, named_counts) in
           settled_first fuel (with_ends scene) k ready' first
           ∙ ap (settled_within fuel) (effect_at_ended scene k (get_or scene.waits k None) (referred scene has k) ready)
           ∙ lockstep fuel (plain_effect scene k) (blocks_kept scene k has lt ready)

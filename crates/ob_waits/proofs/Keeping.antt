@@ -1,13 +1,13 @@
 -- What the waits keep while some of them are answered.
+use Rattle.ob_codec.proofs.AtPlace.{at_place}
 use Rattle.std.proofs.Common.{◌≡◌, ℕ, List, [], ◌∷◌, length, Option, Some, None, refl, ap, ◌∙◌, sym, subst, arith, get_or, set, Bool, true, false, inl, inr}
-use Rattle.std.proofs.lemmas.List.{length-set, get_or-set_same, get_or-set_other}
+use Rattle.std.proofs.lemmas.List.{get_or-set_same, get_or-set_other}
 use Rattle.std.proofs.lemmas.Bool.{cases_eq}
 use Rattle.ob_body.specs.declared.body.Body.{Body}
 use Rattle.ob_waits.specs.declared.wait.Wait.{Wait}
 use Rattle.ob_waits.specs.Rules.{WaitWaitable, thread_of, IsKept, WaitHasRoom, WaitsHaveRoom, Fits}
-use Rattle.ob_waits.specs.Waits.{nowhere, is_code, is_ready, Scene, answered_wait, effect, passed, settled, is_pending, names_slot, ids_of}
+use Rattle.ob_waits.specs.Waits.{is_code, is_ready, Scene, answered_wait, effect, passed, settled, is_pending, names_slot}
 use Rattle.ob_waits.proofs.Settling.{Answers, answers, ready_within, RoomKept, settled_by_effects}
-use Rattle.ob_waits.proofs.Writes.{set_at}
 
 -- a wait is what it was, or answered
 pub record Fades (old new : Option Wait) : Type 0 where
@@ -17,18 +17,9 @@ pub record Fades (old new : Option Wait) : Type 0 where
   pub pending : is_pending new ≡ true → is_pending old ≡ true
   pub stays : is_pending new ≡ true → new ≡ old
 
-fades_same : (w : Option Wait) → Fades w w
-fades_same w = record { thread = refl; waitable = λ h. h; names = λ slot h. h; pending = λ h. h; stays = λ h. refl }
-
 pub fades_answered : (w : Wait) (code : ℕ) → (WaitWaitable (Some w) → is_code code ≡ true)
     → Fades (Some w) (answered_wait w code)
-fades_answered w code coded = record {
-  thread = refl;
-  waitable = coded;
-  names = λ slot h. absurd (cc);
-  pending = λ h. absurd (cc);
-  stays = λ h. absurd (cc);
-}
+fades_answered w code coded = search arith
 
 -- some waits were answered
 pub record Fade (old new : List (Option Wait)) : Type 0 where
@@ -36,29 +27,18 @@ pub record Fade (old new : List (Option Wait)) : Type 0 where
   pub each : (n : ℕ) → Fades (get_or old n None) (get_or new n None)
 
 pub fade_none : (ws : List (Option Wait)) → Fade ws ws
-fade_none ws = record { len = refl; each = λ n. fades_same (get_or ws n None) }
+fade_none ws = search arith
 
 pub fade_both : (a b c : List (Option Wait)) → Fade a b → Fade b c → Fade a c
 fade_both a b c ab bc = record {
   len = bc.len ∙ ab.len;
-  each = λ n. let x = ab.each n in let y = bc.each n in record {
-    thread = y.thread ∙ x.thread;
-    waitable = λ h. y.waitable (x.waitable h);
-    names = λ slot h. x.names slot (y.names slot h);
-    pending = λ h. x.pending (y.pending h);
-    stays = λ h. y.stays h ∙ x.stays (y.pending h);
-  };
+  each = λ n. let x = ab.each n in let y = bc.each n in search arith;
 }
 
 -- the wait of one number was
 pub fade_one : (ws : List (Option Wait)) (n code : ℕ) (w : Wait) → get_or ws n None ≡ Some w
     → (WaitWaitable (Some w) → is_code code ≡ true) → Fade ws (set ws n (answered_wait w code))
-fade_one ws n code w own coded = record {
-  len = length-set ws n (answered_wait w code);
-  each = λ m. set_at (Fades (get_or ws m None)) ws n m (answered_wait w code) None
-      (λ same. subst (λ x. Fades x (answered_wait w code)) (sym (ap (λ i. get_or ws i None) same ∙ own))
-      (fades_answered w code coded)) (fades_same (get_or ws m None));
-}
+fade_one ws n code w own coded = grind (arith, at_place)
 
 pub effect_fades : (scene : Scene) (n : ℕ) → is_ready scene.objects.bodies (get_or scene.waits n None) ≡ true
     → Fade scene.waits (effect scene n).waits
@@ -68,44 +48,28 @@ effect_fades scene n ready = let a = answers scene n ready in
 -- a pass answers some waits
 pub passed_fades : (ns : List ℕ) (scene : Scene) → Fade scene.waits (passed ns scene).waits
 passed_fades [] scene = fade_none scene.waits
-passed_fades (n ∷ ns) scene = by (is_ready scene.objects.bodies (get_or scene.waits n None)) refl
-    (passed_fades ns (effect scene n)) (passed_fades ns scene)
-  where
-    by : (b : Bool) → is_ready scene.objects.bodies (get_or scene.waits n None) ≡ b
-        → Fade (effect scene n).waits (passed ns (effect scene n)).waits → Fade scene.waits (passed ns scene).waits
-        → Fade scene.waits (passed (n ∷ ns) scene).waits
-    by true ready after before = rw ready (fade_both scene.waits (effect scene n).waits _
-        (effect_fades scene n ready) after)
-    by false ready after before = rw ready before
+passed_fades (n ∷ ns) scene = search (arith, effect_fades, passed_fades ns (effect scene n), passed_fades ns scene)
 
 pub kept_faded : (old new : List (Option Wait)) → Fade old new → IsKept old → IsKept new
-kept_faded old new f k = record {
-  each = λ n. (f.each n).waitable (k.each n);
-  one_each = λ n m t p q. k.one_each n m t (sym (f.each n).thread ∙ p) (sym (f.each m).thread ∙ q);
-}
+kept_faded old new f k = search arith
 
 pub effect_kept : (scene : Scene) (n : ℕ) → is_ready scene.objects.bodies (get_or scene.waits n None) ≡ true
     → IsKept scene.waits → IsKept (effect scene n).waits
-effect_kept scene n ready k = kept_faded scene.waits (effect scene n).waits (effect_fades scene n ready) k
+effect_kept scene n ready k = search (arith, effect_fades, kept_faded)
 
 -- an effect leaves the room of the other threads, and the waits that are pending are theirs
 pub room_other : (limit u : ℕ) (bodies after : List (Option Body)) (w : Option Wait) → RoomKept limit u bodies after
     → (thread_of w ≡ Some u → ⊥) → WaitHasRoom limit bodies w → WaitHasRoom limit after w
 room_other limit u bodies after None kept other room = tt
 room_other limit u bodies after (Some w) kept other room =
-    record {
-      each = λ i lt. kept.room w.thread (λ e. other (ap Some e)) (get_or (ids_of (Some w)) i nowhere).slot
-          (room.each i lt);
-    }
+    search arith
 
 pub effect_room : (limit : ℕ) (scene : Scene) (n : ℕ) → is_ready scene.objects.bodies (get_or scene.waits n None) ≡ true
     → IsKept scene.waits → WaitsHaveRoom limit scene.objects.bodies scene.waits
     → WaitsHaveRoom limit (effect scene n).objects.bodies (effect scene n).waits
 effect_room limit scene n ready k r = record {
   each = λ m. elim (cases_eq m n) [
-    | inl same ↦ subst (λ x. WaitHasRoom limit (effect scene n).objects.bodies x)
-        (sym (ap (λ i. get_or (effect scene n).waits i None) same ∙ at_n))
-        (record { each = λ i lt. absurd (omega arith) })
+    | inl same ↦ grind (arith, at_place)
     | inr apart ↦ subst (λ x. WaitHasRoom limit (effect scene n).objects.bodies x) (sym (at_other m apart))
         (room_other limit a.wait.thread scene.objects.bodies (effect scene n).objects.bodies (get_or scene.waits m None)
         (a.room limit) (λ e. apart (k.one_each m n a.wait.thread e (ap thread_of a.own))) (r.each m))
@@ -119,17 +83,14 @@ effect_room limit scene n ready k r = record {
     w = answered_wait a.wait a.code
 
     at_n : get_or (effect scene n).waits n None ≡ w
-    at_n = ap (λ ws. get_or ws n None) a.waits ∙ get_or-set_same scene.waits n w None (ready_within scene n ready)
+    at_n = search (arith, get_or-set_same, ready_within)
 
     at_other : (m : ℕ) → (m ≡ n → ⊥) → get_or (effect scene n).waits m None ≡ get_or scene.waits m None
-    at_other m apart = ap (λ ws. get_or ws m None) a.waits ∙ get_or-set_other scene.waits n m w None apart
+    at_other m apart = search (arith, get_or-set_other)
 
 pub effect_fits : (limit : ℕ) (scene : Scene) (n : ℕ) → is_ready scene.objects.bodies (get_or scene.waits n None) ≡ true
     → Fits limit scene.objects.bodies scene.waits → Fits limit (effect scene n).objects.bodies (effect scene n).waits
-effect_fits limit scene n ready k = record {
-  kept = effect_kept scene n ready k.kept;
-  room = effect_room limit scene n ready k.kept k.room;
-}
+effect_fits limit scene n ready k = search (arith, effect_kept, effect_room)
 
 -- a pass keeps it
 pub passed_fits : (limit : ℕ) (ns : List ℕ) (scene : Scene) → Fits limit scene.objects.bodies scene.waits
@@ -142,7 +103,7 @@ passed_fits limit (n ∷ ns) scene k = by (is_ready scene.objects.bodies (get_or
         → ((s : Scene) → Fits limit s.objects.bodies s.waits
         → Fits limit (passed ns s).objects.bodies (passed ns s).waits)
         → Fits limit (passed (n ∷ ns) scene).objects.bodies (passed (n ∷ ns) scene).waits
-    by true ready rest = rw ready (rest (effect scene n) (effect_fits limit scene n ready k))
+    by true ready rest = grind (arith, effect_fits)
     by false ready rest = rw ready (rest scene k)
 
 -- the same where the scene after it stands in variables

@@ -1,23 +1,21 @@
 -- What a list that a function gives has at each number, and how it changes with the function.
 use Rattle.std.proofs.Common.{◌≡◌, ℕ, zero, suc, ◌<◌, [], ◌∷◌, ◌++◌, length, Option, None, refl, ap, ◌∙◌, sym, arith, get_or, set, cond, inl, inr, eqb}
 use Rattle.std.proofs.lemmas.List.{length-set, length_push, set_past, get_or_past, get_or_push, get_or_append_left, get_or-set_same, get_or-set_other, ext_get_or}
-use Rattle.std.proofs.lemmas.Bool.{cases_eq, cases_lt, cond-false, cond-true, eq-eqb, ne_eqb}
+use Rattle.std.proofs.lemmas.Bool.{cases_lt, cond-false, cond-true, eq-eqb, ne_eqb}
 use Rattle.ob_waits.specs.Listed.{listed, IsSparse}
 
 module _ {A : Type 0} where
-  pub length-listed : (n : ℕ) (f : ℕ → A) → length (listed n f) ≡ n
+  pub length_listed : (n : ℕ) (f : ℕ → A) → length (listed n f) ≡ n
   unfolding listed
-  length-listed zero f = refl
-  length-listed (suc n) f = length_push (listed n f) (f n) ∙ omega (arith, length-listed n f)
+  length_listed zero f = refl
+  length_listed (suc n) f = length_push (listed n f) (f n) ∙ omega (arith, length_listed n f)
 
   get_or-listed : (n : ℕ) (f : ℕ → A) (k : ℕ) (d : A) → k < n → get_or (listed n f) k d ≡ f k
   unfolding listed
   get_or-listed zero f k d lt = absurd (omega arith)
   get_or-listed (suc n) f k d lt = elim (cases_lt k n) [
-    | inl below ↦ get_or_append_left (listed n f) (f n ∷ []) d k (omega (arith, length-listed n f))
-        ∙ get_or-listed n f k d below
-    | inr past ↦ let e : k ≡ n = omega arith in ap (λ i. get_or (listed (suc n) f) i d) e
-        ∙ get_or_push (listed n f) (f n) d n (length-listed n f) ∙ sym (ap f e)
+    | inl below ↦ search (arith, length_listed, get_or_append_left, get_or-listed n f k d below)
+    | inr past ↦ search (arith, length_listed, get_or_push)
   ]
 
   listed_by : (n : ℕ) (f g : ℕ → A) → ((k : ℕ) → k < n → f k ≡ g k) → listed n f ≡ listed n g
@@ -31,22 +29,15 @@ module _ {A : Type 0} where
   pub value_at : (n : ℕ) (f : ℕ → Option A) (k : ℕ) → IsSparse n f → get_or (listed (suc n) f) k None ≡ f k
   value_at n f k s = elim (cases_lt k (suc n)) [
     | inl lt ↦ get_or-listed (suc n) f k None lt
-    | inr past ↦ get_or_past (listed (suc n) f) k None (omega (arith, length-listed (suc n) f))
-        ∙ sym (s.past_has_none k (omega arith))
+    | inr past ↦ search (arith, length_listed, get_or_past)
   ]
 
   -- one number's value changed
   pub listed_changed : (n : ℕ) (f g : ℕ → Option A) (k : ℕ) (x : Option A) → k < suc n → g k ≡ x
       → ((i : ℕ) → (i ≡ k → ⊥) → g i ≡ f i) → listed (suc n) g ≡ set (listed (suc n) f) k x
   listed_changed n f g k x lt here others = ext_get_or None (listed (suc n) g) (set (listed (suc n) f) k x)
-      (length-listed (suc n) g ∙ sym (length-listed (suc n) f) ∙ sym (length-set (listed (suc n) f) k x))
-      (λ i below. let in' : i < suc n = omega (arith, length-listed (suc n) g) in
-      get_or-listed (suc n) g i None in' ∙ elim (cases_eq i k) [
-        | inl same ↦ ap g same ∙ here ∙ sym (get_or-set_same (listed (suc n) f) k x None
-            (omega (arith, length-listed (suc n) f))) ∙ ap (λ j. get_or (set (listed (suc n) f) k x) j None) (sym same)
-        | inr apart ↦ others i apart ∙ sym (get_or-listed (suc n) f i None in')
-            ∙ sym (get_or-set_other (listed (suc n) f) k i x None apart)
-      ])
+      (search (arith, length_listed, length-set))
+      (search (arith, length_listed, get_or-listed, get_or-set_other, get_or-set_same))
 
   -- one more number
   pub listed_more : (n : ℕ) (f g : ℕ → Option A) (x : Option A) → g (suc n) ≡ x
@@ -71,12 +62,11 @@ module _ {A : Type 0} where
       → listed (suc n) g ≡ set (listed (suc n) f) k None
   listed_removed n f g k changed = elim (cases_lt k (suc n)) [
     | inl lt ↦ listed_updated n f g k None lt changed
-    | inr past ↦ listed_by (suc n) g f (λ i lt. apart f g k None changed i (λ e. omega arith))
-        ∙ sym (set_past (listed (suc n) f) k None (omega (arith, length-listed (suc n) f)))
+    | inr past ↦ search (arith, length_listed, listed_by, set_past)
   ]
 
   pub listed_inserted : (n k : ℕ) (f g : ℕ → Option A) (x : Option A) → k ≡ suc n
       → ((q : ℕ) → g q ≡ cond (eqb k q) x (f q)) → listed (suc k) g ≡ listed (suc n) f ++ x ∷ []
   listed_inserted n k f g x is changed =
       ap (λ i. listed (suc i) g) is ∙ listed_more n f g x (ap g (sym is)
-      ∙ here f g k x changed) (λ i other. apart f g k x changed i (λ e. other (e ∙ is)))
+      ∙ here f g k x changed) (search arith)

@@ -1,10 +1,8 @@
 -- Settling over the numbers of several slots: always the least number above the last one takes effect next.
-use Rattle.std.proofs.Common.{◌≡◌, ℕ, zero, suc, ◌<◌, ◌≤◌, List, [], ◌∷◌, length, Some, None, ap, ◌∙◌, sym, subst, arith, eqb, get_or, Option, true, false, inl, inr, leb, leb-true}
+use Rattle.std.proofs.Common.{◌≡◌, ℕ, zero, suc, ◌<◌, ◌≤◌, List, [], ◌∷◌, length, Some, None, sym, subst, arith, eqb, get_or, Option, true, false, inl, inr, leb, leb-true}
 use Rattle.std.specs.List.Sorted.{IsPartitionedBy, IsPartitionPoint}
 use Rattle.std.proofs.lemmas.List.{get_or_default}
-use Rattle.std.proofs.lemmas.List.Sorted.{IsPartitionedBy-leb}
-use Rattle.std.proofs.lemmas.Bool.Decides.{nat_tests}
-use Rattle.std.proofs.lemmas.Bool.{cases_eq, cases_lt, false_from_ne_true}
+use Rattle.std.proofs.lemmas.Bool.{cases_lt, false_from_ne_true}
 use Rattle.pin_core.specs.declared.id.Id.{Id}
 use Rattle.least.specs.From.{IsAtMost}
 use Rattle.std.proofs.lemmas.List.Folds.{list_any_at}
@@ -24,7 +22,7 @@ rising_at : (ns : List ℕ) → IsRising ns → (i j d : ℕ) → i ≤ j → j 
 rising_at [] r i j d le lt = absurd (omega arith)
 rising_at (x ∷ ns) r zero zero d le lt = omega arith
 rising_at (x ∷ ns) r zero (suc j) d le lt = let above = r.0 (get_or ns j 0) (within_at ns j (omega arith)) in
-    let e = get_or_default ns j d 0 (omega arith) in omega (arith, above, e)
+    let e = get_or_default ns j d 0 (omega arith) in omega arith
 rising_at (x ∷ ns) r (suc i) zero d le lt = absurd (omega arith)
 rising_at (x ∷ ns) r (suc i) (suc j) d le lt = rising_at ns r.1 i j d (omega arith) (omega arith)
 
@@ -33,11 +31,11 @@ within_index k [] w = absurd w
 within_index k (x ∷ ns) w = elim w [
   | inl same ↦ (zero, omega arith, sym same)
   | inr later ↦ let at =
-      within_index k ns later in (suc at.0, (let lt = at.1 in omega (arith, lt)), at.2)
+      within_index k ns later in (suc at.0, (let lt = at.1 in omega arith), at.2)
 ]
 
 pub parted : (ns : List ℕ) (last : ℕ) → IsRising ns → IsPartitionedBy (λ n. leb n last) ns
-parted ns last r = IsPartitionedBy-leb (λ (n : ℕ). n) ns last (rising_at ns r)
+parted ns last r = search (arith, rising_at)
 
 module _ (ns : List ℕ) (last at : ℕ) (rising : IsRising ns)
     (point : IsPartitionPoint (λ n. leb n last ≡ true) (λ n. leb n last ≡ false) ns at) where
@@ -47,7 +45,7 @@ module _ (ns : List ℕ) (last at : ℕ) (rising : IsRising ns)
         i.0,
         elim (cases_lt i.0 at) [
           | inl lt ↦ absurd (let low : leb (get_or ns i.0 0) last ≡ true = point.0 i.0 0 (omega arith) lt in
-              let le = leb-true (get_or ns i.0 0) last low in let is = i.2 in omega (arith, le, is, above))
+              let le = leb-true (get_or ns i.0 0) last low in let is = i.2 in omega arith)
           | inr le ↦ le
         ],
         i.1,
@@ -56,17 +54,16 @@ module _ (ns : List ℕ) (last at : ℕ) (rising : IsRising ns)
 
   pub next_there : at < length ns → IsNext last ns (Some (get_or ns at 0))
   next_there lt = record {
-    above = let high : leb (get_or ns at 0) last ≡ false = point.1 at 0 (omega arith) lt in
-        grind (arith, nat_tests, high);
+    above = search arith;
     least = λ k w above. let i = from_there k w above in let le = rising_at ns rising at i.0 0 i.1 i.2 in
-        let is = i.3 in omega (arith, le, is);
+        let is = i.3 in omega arith;
   }
 
   pub next_none : length ns ≤ at → IsNext last ns None
   next_none past = record {
     above = tt;
     least = λ k w above. let i = from_there k w above in let a = i.1 in
-        let b = i.2 in absurd (omega (arith, a, b, past));
+        let b = i.2 in absurd (omega arith);
   }
 
 -- what is ready is so by one of the slots, and stands above the last number; the slots have the numbers of all waits
@@ -78,16 +75,7 @@ pub record Remains (last : ℕ) (lists : List (List ℕ)) (ids : List Id) (s : S
 
 pub remains_first : (ids : List Id) (order : List ℕ) (lists : List (List ℕ)) (s : Scene) → get_or s.waits 0 None ≡ None
     → AreIndexed s.waits order lists → IsReadyAtOne ids s.objects.bodies s.waits → Remains 0 lists ids s
-remains_first ids order lists s none a at = record {
-  above = λ k ready. elim (cases_eq k 0) [
-    | inl same ↦ absurd (let e : is_ready s.objects.bodies (get_or s.waits k None) ≡ false =
-        ap (λ i. is_ready s.objects.bodies (get_or s.waits i None)) same ∙ ap (is_ready s.objects.bodies) none in
-        cc (e, ready))
-    | inr other ↦ omega (arith, other)
-  ];
-  by = at;
-  listed = λ slot k named. (a.index_all slot).each k named;
-}
+remains_first ids order lists s none a at = search arith
 
 pub record Goes (m : ℕ) (lists : List (List ℕ)) (ids : List Id) (s after : Scene) : Type 0 where
   pub same : settled after ≡ settled s
@@ -104,9 +92,9 @@ module _ (last : ℕ) (lists : List (List ℕ)) (ids : List Id) (s : Scene) (r :
       let un = unready (has_slot ids) s.objects.bodies s.waits r.by k (λ t i own lt changed.
       let slot = (get_or (ids_of w) i nowhere).slot in
       let some = any_at (λ (id : Id). eqb id.slot slot) nowhere ids changed in
-      let same : (get_or ids some.0 nowhere).slot ≡ slot = grind (arith, nat_tests, some.2) in
+      let same : (get_or ids some.0 nowhere).slot ≡ slot = grind arith in
       let named : names_slot slot w ≡ true = list_any_at (λ (id : Id). eqb id.slot slot) (ids_of w) i nowhere lt
-      (let e : eqb slot slot ≡ true = grind (arith, nat_tests) in e) in
+      (let e : eqb slot slot ≡ true = grind arith in e) in
       elim (is.least some.0 k some.1 (subst (λ j. Within k (numbers_of lists j)) (sym same) (r.listed slot k named))
       (r.above k ready)) [
         | inl least ↦ absurd (below least)
@@ -119,20 +107,12 @@ module _ (last : ℕ) (lists : List (List ℕ)) (ids : List Id) (s : Scene) (r :
   pub goes : (m : ℕ) → IsNextOf last lists s ids (Some m) → Goes m lists ids s (passed (m ∷ []) s)
   goes m is =
       let step = steps m s (λ k ready. elim (cases_lt k m) [
-        | inl lt ↦ absurd (let none = not_below (Some m) is k (λ le. omega (arith, le, lt)) in cc (none, ready))
+        | inl lt ↦ absurd (let none = not_below (Some m) is k (λ le. omega arith) in cc (none, ready))
         | inr le ↦ le
       ]) in
       let fade = passed_fades (m ∷ []) s in
-      record {
-        same = step.same;
-        was = λ k ready. (step.later k ready).0;
-        remains = record {
-          above = λ k ready. (step.later k ready).1;
-          by = by_passed (has_slot ids) m s r.by;
-          listed = λ slot k named. r.listed slot k ((fade.each k).names slot named);
-        };
-      }
+      search (arith, by_passed)
 
   -- no number is left
   pub all_gone : IsNextOf last lists s ids None → IsSettled s.objects.bodies s.waits
-  all_gone is = record { each = λ k. not_below None is k (λ none. none) }
+  all_gone is = search (arith, not_below)

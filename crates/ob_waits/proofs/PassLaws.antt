@@ -1,40 +1,38 @@
 -- Numbers take effect one after another where they are ready: that is settling, as long as none that is ready is below
 -- the next.
-use Rattle.std.proofs.Common.{◌≡◌, ℕ, zero, suc, ◌+◌, ◌<◌, ◌≤◌, List, [], ◌∷◌, length, Option, Some, None, refl, ap, ◌∙◌, sym, subst, arith, drop, eqb, get_or, Bool, true, false, inl, inr}
+use Rattle.std.proofs.Common.{◌≡◌, ℕ, zero, suc, ◌+◌, ◌<◌, ◌≤◌, List, [], ◌∷◌, length, Option, Some, None, refl, ◌∙◌, sym, subst, arith, drop, eqb, get_or, Bool, true, false, inl, inr}
 use Rattle.std.specs.List.{list_any}
 use Rattle.std.proofs.lemmas.List.{drop_all, drop_more}
 use Rattle.std.proofs.lemmas.List.Folds.{list_any_at}
 use Rattle.std.proofs.lemmas.List.Sums.{count_by-le-length, passes_at_first}
-use Rattle.std.proofs.lemmas.Bool.{cases_eq, cases_lt, false_from_ne_true, true_from_ne_false}
+use Rattle.std.proofs.lemmas.Bool.{cases_lt, true_from_ne_false}
 use Rattle.pin_core.specs.declared.id.Id.{Id}
 use Rattle.ob_body.specs.declared.body.Body.{Body}
 use Rattle.ob_waits.specs.declared.wait.Wait.{Wait}
 use Rattle.ob_waits.specs.Numbers.{numbers_of}
 use Rattle.ob_waits.specs.Objects.{Objects, slot_signaled}
 use Rattle.ob_waits.specs.Roster.{AreIndexed}
-use Rattle.ob_waits.specs.Rules.{Covers, IsReadyAt, IsReadyBy, IsRising, IsSettled, IsSpent, Within, thread_of}
-use Rattle.ob_waits.specs.Waits.{nowhere, Scene, is_ready, is_pending, ids_of, first_ready, effect, passed, settled, settled_within, answered_wait}
-use Rattle.ob_waits.proofs.Settling.{pending_count, ready_within, ready_counted, ready_pending, ready_where, fewer, was_ready, answers, settled_at_end, settled_none, settled_same, settled_first, first_is}
+use Rattle.ob_waits.specs.Rules.{Covers, IsReadyAt, IsReadyBy, IsRising, IsSettled, IsSpent, thread_of}
+use Rattle.ob_waits.specs.Waits.{nowhere, Scene, is_ready, is_pending, ids_of, first_ready, effect, passed, settled, settled_within}
+use Rattle.ob_waits.proofs.Settling.{pending_count, ready_within, ready_counted, ready_where, fewer, was_ready, answers, settled_at_end, settled_none, settled_same, settled_first, first_is}
 use Rattle.ob_waits.proofs.Settled.{settled_replaced}
 
 -- it makes no difference how often a wait may take effect, once that is often enough
 nothing_pending : (s : Scene) → pending_count s.waits ≤ 0 → IsSettled s.objects.bodies s.waits
-nothing_pending s few = record {
-  each = λ k. false_from_ne_true _ (λ ready. omega (arith, few, ready_counted s k ready));
-}
+nothing_pending s few = search (arith, ready_counted)
 
 settled_fuel : (f g : ℕ) (s : Scene) → pending_count s.waits ≤ f → pending_count s.waits ≤ g
     → settled_within f s ≡ settled_within g s
-settled_fuel zero g s a b = sym (settled_none g s (nothing_pending s a))
-settled_fuel (suc f) zero s a b = settled_none (suc f) s (nothing_pending s b)
+settled_fuel zero g s a b = search (arith, ready_counted, settled_none)
+settled_fuel (suc f) zero s a b = search (arith, nothing_pending, settled_none)
 settled_fuel (suc f) (suc g) s a b =
     let k = first_ready s.objects.bodies s.waits in
     elim (cases_lt k (length s.waits)) [
       | inl lt ↦ (let ready : is_ready s.objects.bodies (get_or s.waits k None) ≡ true =
           passes_at_first (is_ready s.objects.bodies) s.waits None lt in
           let less = fewer s k lt ready in
-          settled_first f s k ready refl ∙ settled_fuel f g (effect s k) (omega (arith, less, a))
-          (omega (arith, less, b)) ∙ sym (settled_first g s k ready refl))
+          settled_first f s k ready refl ∙ settled_fuel f g (effect s k) (omega arith)
+          (omega arith) ∙ sym (settled_first g s k ready refl))
       | inr le ↦ settled_none (suc f) s (settled_at_end s le) ∙ sym (settled_none (suc g) s (settled_at_end s le))
     ]
 
@@ -45,8 +43,8 @@ settled_next s m ready below =
     let less = fewer s m (ready_within s m ready) ready in
     let few = count_by-le-length is_pending s.waits in
     let few' = count_by-le-length is_pending (effect s m).waits in
-    sym (settled_first (length (effect s m).waits) s m ready (first_is s m ready below))
-    ∙ settled_fuel (suc (length (effect s m).waits)) (length s.waits) s (omega (arith, less, few')) few
+    sym (search (arith, first_is, settled_first))
+    ∙ settled_fuel (suc (length (effect s m).waits)) (length s.waits) s (omega arith) few
 
 -- a number takes effect, where it is ready: what is ready then was ready, and is above it
 pub record Steps (m : ℕ) (s after : Scene) : Type 0 where
@@ -60,21 +58,11 @@ steps m s least = by (is_ready s.objects.bodies (get_or s.waits m None)) refl
   where
     by : (b : Bool) → is_ready s.objects.bodies (get_or s.waits m None) ≡ b → Steps m s (passed (m ∷ []) s)
     by true ready = rw ready (record {
-      same = settled_next s m ready (λ k below. false_from_ne_true _ (λ h. omega (arith, below, least k h)));
+      same = search (arith, settled_next);
       later = λ k after. let w = was_ready s m k ready after in
-          (w.before, (let le = least k w.before in let other = w.other in omega (arith, le, other)));
+          (w.before, (let le = least k w.before in let other = w.other in omega arith));
     })
-    by false none = rw none (record {
-      same = refl;
-      later = λ k ready. (
-        ready,
-        elim (cases_eq k m) [
-          | inl same ↦ absurd (let e : is_ready s.objects.bodies (get_or s.waits k None) ≡ false =
-              ap (λ i. is_ready s.objects.bodies (get_or s.waits i None)) same ∙ none in cc (e, ready))
-          | inr apart ↦ (let le = least k ready in omega (arith, le, apart))
-        ],
-      );
-    })
+    by false none = search arith
 
 -- the numbers of a list from an index on
 rising_drop : (i : ℕ) (ns : List ℕ) → IsRising ns → IsRising (drop i ns)
@@ -91,27 +79,23 @@ pub steps_on : (ns : List ℕ) (i : ℕ) (s : Scene) → i < length ns → IsRis
 steps_on ns i s lt rising covers =
     let m = get_or ns i 0 in
     let rest = drop (i + 1) ns in
-    let now : Covers (m ∷ rest) s = subst (λ (xs : List ℕ). Covers xs s) (drop_more ns i 0 lt) covers in
+    let now : Covers (m ∷ rest) s = search (arith, drop_more) in
     let above : IsRising (m ∷ rest) = subst IsRising (drop_more ns i 0 lt) (rising_drop i ns rising) in
     let step = steps m s (λ k ready. elim (now.each k ready) [
-      | inl same ↦ omega (arith, same)
+      | inl same ↦ omega arith
       | inr later ↦
-          (let lt = above.0 k later in omega (arith, lt))
+          (let lt = above.0 k later in omega arith)
     ]) in
     record {
       same = step.same;
       covers = record {
         each = λ k ready. let l = step.later k ready in
-            elim (now.each k l.0) [ inl same ↦ absurd (let lt = l.1 in omega (arith, same, lt)) | inr later ↦ later ];
+            elim (now.each k l.0) [ inl same ↦ absurd (let lt = l.1 in omega arith) | inr later ↦ later ];
       };
     }
 
 pub covered_all : (ns : List ℕ) (i : ℕ) (s : Scene) → length ns ≤ i → Covers (drop i ns) s → settled s ≡ s
-covered_all ns i s past covers = settled_same s (record {
-  each =
-      λ k. false_from_ne_true _ (λ ready. subst (λ (xs : List ℕ). Within k xs) (drop_all i ns past)
-      (covers.each k ready));
-})
+covered_all ns i s past covers = search (arith, drop_all, settled_same)
 
 module _ (changed : ℕ → Bool) (bodies : List (Option Body)) (ws : List (Option Wait))
     (by : IsReadyBy changed bodies ws) where
@@ -120,18 +104,7 @@ module _ (changed : ℕ → Bool) (bodies : List (Option Body)) (ws : List (Opti
       → changed (get_or (ids_of (get_or ws n None)) i nowhere).slot ≡ true
       → slot_signaled t (get_or bodies (get_or (ids_of (get_or ws n None)) i nowhere).slot None) ≡ false)
       → is_ready bodies (get_or ws n None) ≡ false
-  unready n none = false_from_ne_true _ (λ ready.
-      let w = get_or ws n None in
-      let before : is_ready by.before w ≡ true = ready_where by.before bodies w (λ t own i lt signaled.
-      let k = (get_or (ids_of w) i nowhere).slot in
-      by_change t k signaled (changed k) refl (none t i own lt)) ready in
-      let settled = by.settled.each n in cc (before, settled))
-    where
-      by_change : (t k : ℕ) → slot_signaled t (get_or bodies k None) ≡ true → (b : Bool) → changed k ≡ b
-          → (changed k ≡ true → slot_signaled t (get_or bodies k None) ≡ false)
-          → slot_signaled t (get_or by.before k None) ≡ true
-      by_change t k signaled true is none = absurd (let e = none is in cc (e, signaled))
-      by_change t k signaled false is none = by.less t k is signaled
+  unready n none = search (arith, ready_where)
 
   -- one that is ready names a slot that changed
   pub names_changed : (n : ℕ) → is_ready bodies (get_or ws n None) ≡ true
@@ -143,19 +116,12 @@ module _ (changed : ℕ → Bool) (bodies : List (Option Body)) (ws : List (Opti
 
   -- where no changed slot has anything for who waits, all is settled
   pub settled_spent : ((k : ℕ) → changed k ≡ true → IsSpent bodies ws k) → IsSettled bodies ws
-  settled_spent spent = record {
-    each = λ n. false_from_ne_true _ (λ ready.
-        let un = unready n (λ t i own lt is. spent _ is n t own (ready_pending bodies (get_or ws n None) ready)) in
-        cc (un, ready));
-  }
+  settled_spent spent = search (arith, unready)
 
 -- the lists have the numbers of all waits that are ready
 pub covers_order : (objects : Objects) (ws : List (Option Wait)) (order : List ℕ) (index : List (List ℕ))
     → AreIndexed ws order index → Covers order (record { objects = objects; waits = ws })
-covers_order objects ws order index a = record {
-  each =
-      λ n ready. a.order_all.each n (ready_pending objects.bodies (get_or ws n None) ready);
-}
+covers_order objects ws order index a = search arith
 
 pub covers_slot : (objects : Objects) (slot : ℕ) (ws : List (Option Wait)) (order : List ℕ) (index : List (List ℕ))
     → IsReadyAt slot objects.bodies ws → AreIndexed ws order index
@@ -175,7 +141,6 @@ by_passed changed m s r = by (is_ready s.objects.bodies (get_or s.waits m None))
     by false none = rw none r
     by true ready = let a = answers s m ready in rw ready (record {
       before = r.before;
-      settled = subst (IsSettled r.before) (sym a.waits)
-          (settled_replaced r.before s.waits m (answered_wait a.wait a.code) refl r.settled);
+      settled = search (arith, settled_replaced);
       less = λ t k out signaled. r.less t k out (a.less.each t (record { slot = k; generation = 0 }) signaled);
     })

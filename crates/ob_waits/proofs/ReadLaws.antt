@@ -1,13 +1,13 @@
 -- What is read is what the last number and the rows come to.
-use Rattle.std.proofs.Common.{◌≡◌, Global, Vec, ℕ, zero, suc, Bool, true, false, cond, ◌&&◌, eqb, leb, ltb, eq-eqb, arith, ◌+◌, List, [], ◌∷◌, map, Option, Some, None, Result, Ok, Err, refl, ap, ◌∙◌, subst, sym}
+use Rattle.std.proofs.Common.{◌≡◌, Global, Vec, ℕ, zero, suc, Bool, true, false, cond, ◌&&◌, eqb, leb, ltb, arith, ◌+◌, List, [], ◌∷◌, map, Option, Some, None, Result, Ok, Err, refl, ap, ◌∙◌, subst, sym}
 use Rattle.std.specs.Int.{w32}
 use Rattle.std.specs.List.{list_all}
-use Rattle.std.proofs.lemmas.Bool.{and_from, and_parts, eqb-true, le-leb, leb-true, ltb-true}
+use Rattle.std.proofs.lemmas.Bool.{and_parts, leb-true, ltb-true}
 use Rattle.ob_codec.specs.declared.fault.ReadFault.{ReadFault}
 use Rattle.ob_codec.specs.declared.fault.ReadFault.TheVariants.{Memory, Text}
 use Rattle.ob_codec.specs.declared.fault.TextFault.{TextFault}
 use Rattle.ob_codec.specs.declared.fault.TextFault.TheVariants.{Value}
-use Rattle.ob_codec.specs.Reading.{◌>>=◌, Fails, Gives, Read, given_at, items_at, list_at, number_at, where_at}
+use Rattle.ob_codec.specs.Reading.{◌>>=◌, Fails, Gives, Read, items_at, list_at, number_at, where_at}
 use Rattle.ob_codec.specs.Sparse.{fits_from, sparse_at, spread, spread_from}
 use Rattle.ob_codec.specs.Steps.{bind_ok, guard_passed, ok_is}
 use Rattle.ob_waits.specs.Rows.{built, rows_within, tested}
@@ -81,25 +81,7 @@ read_is : (limit clock threads slots last : ℕ) (bytes between rest : List ℕ)
     → number_at w32 bytes ≡ Ok (last, between) → list_at threads row_at between ≡ Ok (ps, rest)
     → waits_at limit clock threads slots bytes ≡ behind rest
     (within threads slots (tested limit clock (spread (last, ps))))
-read_is limit clock threads slots last bytes between rest ps first second = rw (first, second) (by (spread (last, ps)))
-  where
-    ends : (ws : List (Option Wait)) (c : Bool)
-        → as_waits limit clock (cond c (Ok (ws, rest)) (Err Value)) ≡ behind rest
-        (cond c (Ok (with_rest limit clock ws)) (Err Value))
-    ends ws true = refl
-    ends ws false = refl
-
-    to : (ws : List (Option Wait)) (b : Bool)
-        → as_waits limit clock (where_they (are_within threads slots) (cond b (Ok (ws, rest)) (Err Value)))
-        ≡ behind rest (within threads slots (cond b (Ok (with_rest limit clock ws)) (Err Value)))
-    to ws true = ends ws (are_within threads slots ws)
-    to ws false = refl
-
-    by : (o : Option (List (Option Wait))) → as_waits limit clock
-        (where_they (are_within threads slots) (where_they (can_be limit clock) (given_at o rest))) ≡ behind rest
-        (within threads slots (tested limit clock o))
-    by None = refl
-    by (Some ws) = to ws (can_be limit clock ws)
+read_is limit clock threads slots last bytes between rest ps first second = search arith
 
 -- whether the places of a list pass is whether its rows do
 abbrev row_within : ℕ → ℕ → ℕ × Wait → Bool
@@ -113,15 +95,15 @@ module _ (threads slots : ℕ) where
       let b = and_parts (leb k p.0) (ltb p.0 end && fits_from (suc p.0) end ps) fits in
       let low = leb-true k p.0 b.0 in
       let high = ltb-true p.0 end (and_parts (ltb p.0 end) (fits_from (suc p.0) end ps) b.1).0 in
-      absurd (omega (arith, is, low, high))
-  places_pass k (suc n) end [] is fits = places_pass (suc k) n end [] (omega (arith, is)) refl
+      absurd (omega arith)
+  places_pass k (suc n) end [] is fits = places_pass (suc k) n end [] (omega arith) refl
   places_pass k (suc n) end (p ∷ ps) is fits =
       by (eqb p.0 k) refl
-      (λ later. places_pass (suc k) n end ps (omega (arith, is)) later)
-      (λ later. places_pass (suc k) n end (p ∷ ps) (omega (arith, is)) later)
+      (λ later. places_pass (suc k) n end ps (omega arith) later)
+      (λ later. places_pass (suc k) n end (p ∷ ps) (omega arith) later)
     where
       b : (leb k p.0 ≡ true) × ((ltb p.0 end && fits_from (suc p.0) end ps) ≡ true)
-      b = and_parts (leb k p.0) (ltb p.0 end && fits_from (suc p.0) end ps) fits
+      b = search arith
 
       by : (t : Bool) → eqb p.0 k ≡ t
           → (fits_from (suc k) end ps ≡ true
@@ -132,48 +114,20 @@ module _ (threads slots : ℕ) where
           (None ∷ spread_from (suc k) n (p ∷ ps)))
           ≡ list_all (row_within threads slots) (p ∷ ps)
       by true same one more =
-          let all : fits_from (suc p.0) end ps ≡ true = (and_parts (ltb p.0 end) (fits_from (suc p.0) end ps) b.1).1 in
-          let later = subst (λ (z : ℕ). fits_from (suc z) end ps ≡ true) (eqb-true p.0 k same) all in
-          ap (λ (z : Bool). row_within threads slots p && z) (one later)
+          search arith
       by false apart one more =
-          let low = leb-true k p.0 b.0 in
-          let other : p.0 ≡ k → ⊥ = λ q. (let t = sym (eq-eqb p.0 k q) ∙ apart in absurd cc) in
-          let above = le-leb (suc k) p.0 (omega (arith, low, other)) in
-          more (and_from (leb (suc k) p.0) (ltb p.0 end && fits_from (suc p.0) end ps) above b.1)
+          search arith
 
   pass_in_parts : (rows : List NumberedWait) → list_all (row_within threads slots) (map numbered_parts rows)
       ≡ rows_within threads slots rows
   pass_in_parts [] = refl
-  pass_in_parts (h ∷ rows) = ap (λ (z : Bool). is_within threads slots (Some h.wait) && z) (pass_in_parts rows)
+  pass_in_parts (h ∷ rows) = search (arith, pass_in_parts rows)
 
 -- what comes of rows of which all threads and slots are below, or not
 within_is : (limit clock threads slots last : ℕ) (rows : List NumberedWait)
     → within threads slots (built limit clock last rows) ≡ cond (rows_within threads slots rows)
     (built limit clock last rows) (Err Value)
-within_is limit clock threads slots last rows = by (fits_from 0 (suc last) (map numbered_parts rows)) refl
-  where
-    none : (c : Bool) → Err Value ≡ cond {A = Result WaitList TextFault} c (Err Value) (Err Value)
-    none true = refl
-    none false = refl
-
-    to : (ws : List (Option Wait)) (b c : Bool) → are_within threads slots ws ≡ c
-        → within threads slots (cond b (Ok (with_rest limit clock ws)) (Err Value)) ≡ cond c
-        (cond b (Ok (with_rest limit clock ws)) (Err Value)) (Err Value)
-    to ws true c is = ap (λ (z : Bool). cond {A = Result WaitList TextFault} z (Ok (with_rest limit clock ws))
-        (Err Value)) is
-    to ws false c is = none c
-
-    by : (b : Bool) → fits_from 0 (suc last) (map numbered_parts rows) ≡ b
-        → within threads slots
-        (tested limit clock (cond b (Some (spread_from 0 (suc last) (map numbered_parts rows))) None))
-        ≡ cond (rows_within threads slots rows)
-        (tested limit clock (cond b (Some (spread_from 0 (suc last) (map numbered_parts rows))) None)) (Err Value)
-    by false is = none (rows_within threads slots rows)
-    by true is =
-        let ws = spread_from 0 (suc last) (map numbered_parts rows) in
-        to ws (can_be limit clock ws) (rows_within threads slots rows)
-        (places_pass threads slots 0 (suc last) (suc last) (map numbered_parts rows) (omega arith) is
-        ∙ pass_in_parts threads slots rows)
+within_is limit clock threads slots last rows = search (arith, places_pass, pass_in_parts)
 
 -- what is read, so
 pub rows_read : (limit clock threads slots last : ℕ) (bytes between rest : List ℕ) (rows : List NumberedWait)
@@ -182,7 +136,7 @@ pub rows_read : (limit clock threads slots last : ℕ) (bytes between rest : Lis
     (cond (rows_within threads slots rows) (built limit clock last rows) (Err Value))
 rows_read limit clock threads slots last bytes between rest rows first second =
     read_is limit clock threads slots last bytes between rest (map numbered_parts rows) first second
-    ∙ ap (behind rest) (within_is limit clock threads slots last rows)
+    ∙ ap (behind rest) (search (arith, within_is))
 
 -- or why nothing is
 pub read_fails : (e : ReadFault) (total : Read WaitList) (rest : List ℕ) (r : Result WaitList TextFault)

@@ -1,38 +1,20 @@
 -- The counts that are told of each block that leaves go on counting the blocks.
-use Rattle.std.proofs.Common.{◌≡◌, ◌≢◌, ℕ, ◌-◌, ◌+◌, ◌<◌, ◌≤◌, List, [], ◌∷◌, length, Option, Some, None, refl, ap, ◌∙◌, sym, arith, get_or, Bool, true, false, inl, inr, cond}
+use Rattle.std.proofs.Common.{◌≡◌, ℕ, ◌-◌, ◌+◌, ◌<◌, ◌≤◌, List, [], ◌∷◌, length, Option, Some, None, refl, arith, get_or, cond}
 use Rattle.std.specs.Prelude.{◌==◌}
 use Rattle.std.proofs.lemmas.List.{length-set, get_or_past, get_or-set_same, get_or-set_other}
 use Rattle.std.proofs.lemmas.List.Sums.{sum_by-set, sum_by-cons}
-use Rattle.std.proofs.lemmas.Bool.{cases_lt}
-use Rattle.std.proofs.lemmas.Bool.Decides.{nat_tests}
 use Rattle.pin_core.specs.declared.id.Id.{Id}
 use Rattle.ob_waits.specs.declared.wait.Wait.{Wait}
 use Rattle.ob_waits.specs.declared.wait.State.{State}
 use Rattle.ob_waits.specs.declared.wait.State.TheVariants.{Pending, Answered}
 use Rattle.ob_waits.specs.Objects.{Objects, blocks_left, without_block, without_blocks}
-use Rattle.ob_waits.specs.Waits.{slot_places, slot_blocks, Scene, effect_at, effect_of, answered_wait, code_of, bodies_after, ids_of, state_ids, settled}
+use Rattle.ob_waits.specs.Waits.{slot_places, slot_blocks, Scene, effect_at, effect_of, settled}
 use Rattle.ob_waits.specs.Ends.{HasBlocks}
 use Rattle.ob_waits.proofs.Settling.{settled_by_effects, ready_within}
 
 pub left_one : (blocks : List ℕ) (id : Id) (k : ℕ)
     → get_or (blocks_left blocks id) k 0 ≡ get_or blocks k 0 - cond (id.slot == k) 1 0
-left_one blocks id k = by (id.slot == k) refl
-  where
-    by : (b : Bool) → (id.slot == k) ≡ b → get_or (blocks_left blocks id) k 0 ≡ get_or blocks k 0 - cond b 1 0
-    by true is =
-        let same : id.slot ≡ k = grind (arith, nat_tests, is) in
-        elim (cases_lt id.slot (length blocks)) [
-          | inl lt ↦ ap (λ i. get_or (blocks_left blocks id) i 0) (sym same)
-              ∙ get_or-set_same blocks id.slot (get_or blocks id.slot 0 - 1) 0 lt ∙ ap (λ i. get_or blocks i 0 - 1) same
-          | inr past ↦
-              let after : get_or (blocks_left blocks id) k 0 ≡ 0 =
-              get_or_past (blocks_left blocks id) k 0
-              (omega (arith, length-set blocks id.slot (get_or blocks id.slot 0 - 1))) in
-              let before : get_or blocks k 0 ≡ 0 = get_or_past blocks k 0 (omega arith) in omega arith
-        ]
-    by false is =
-        let other : k ≢ id.slot = λ e. absurd (grind (arith, nat_tests, is, e)) in
-        let e = get_or-set_other blocks id.slot k (get_or blocks id.slot 0 - 1) 0 other in omega arith
+left_one blocks id k = search (arith, get_or-set_other, get_or-set_same, get_or_past, length-set)
 
 pub left_all : (ids : List Id) (objects : Objects) (k : ℕ)
     → get_or (without_blocks objects ids).blocks k 0 ≡ get_or objects.blocks k 0 - slot_places k ids
@@ -41,7 +23,7 @@ left_all (id ∷ ids) objects k =
     let a = left_all ids (without_block objects id) k in
     let b = left_one objects.blocks id k in
     let c = sum_by-cons (λ (x : Id). cond (x.slot == k) 1 0) id ids in
-    omega (arith, a, b, c)
+    omega arith
 
 -- what is stored and what is counted fall alike
 pub record Counts (scene after : Scene) : Type 0 where
@@ -51,17 +33,7 @@ pub record Counts (scene after : Scene) : Type 0 where
 
 counts_by : (scene : Scene) (n : ℕ) (w : Wait) (st : State) → w.state ≡ st → get_or scene.waits n None ≡ Some w
     → n < length scene.waits → Counts scene (effect_of scene n w st)
-counts_by scene n w (Pending mode ids) is own lt = record {
-  each = λ k enough.
-      let refs = left_all ids (record scene.objects { bodies = bodies_after mode w.thread scene.objects.bodies ids }) k
-      in
-      let f : Option Wait → ℕ = λ x. slot_places k (ids_of x) in
-      let new = answered_wait w (code_of mode w.thread scene.objects.bodies ids) in
-      let sums = sum_by-set f scene.waits n new None lt in
-      let here : f (get_or scene.waits n None) ≡ slot_places k ids = ap f own ∙ ap (λ s. slot_places k (state_ids s)) is
-      in
-      omega (arith, refs, sums, here, enough);
-}
+counts_by scene n w (Pending mode ids) is own lt = search (arith, left_all, sum_by-set)
 counts_by scene n w (Answered code) is own lt = record { each = λ k enough. refl }
 
 pub counts_at : (scene : Scene) (n : ℕ) (w : Option Wait) → get_or scene.waits n None ≡ w → n < length scene.waits
@@ -70,19 +42,16 @@ counts_at scene n None own lt = record { each = λ k enough. refl }
 counts_at scene n (Some w) own lt = counts_by scene n w w.state refl own lt
 
 counts_both : (a b c : Scene) → Counts a b → Counts b c → Counts a c
-counts_both a b c x y = record {
-  each = λ k enough. let p = x.each k enough in let q = y.each k (omega arith) in
-      omega arith;
-}
+counts_both a b c x y = search arith
 
 -- The theorem: where a slot counts its blocks and more, it still does after settling, by the same more.
 pub settled_counts : (scene : Scene) → Counts scene (settled scene)
 settled_counts scene = settled_by_effects Counts (λ s. record { each = λ k enough. refl }) counts_both
-    (λ s n ready. counts_at s n (get_or s.waits n None) refl (ready_within s n ready)) scene
+    (λ s n ready. search (arith, counts_at, ready_within)) scene
 
 -- and where it counts them, it still does
 pub settled_has_blocks : (scene : Scene) → HasBlocks scene → HasBlocks (settled scene)
 settled_has_blocks scene has = record {
   each = λ k. let at = has.each k in
-      let c = (settled_counts scene).each k (omega (arith, at)) in omega (arith, at, c);
+      let c = (settled_counts scene).each k (omega arith) in omega arith;
 }

@@ -1,55 +1,38 @@
 -- The roster stays right while lists are thinned and grow, and while waits come, are answered and go.
-use Rattle.std.proofs.Common.{◌≡◌, ℕ, List, length, Option, Some, None, refl, sym, subst, true}
-use Rattle.std.specs.List.{list_any}
-use Rattle.std.specs.Prelude.{◌==◌}
-use Rattle.pin_core.specs.declared.id.Id.{Id}
+use Rattle.std.proofs.Common.{arith, ◌≡◌, ℕ, List, length, Option, subst}
 use Rattle.ob_waits.specs.declared.wait.Wait.{Wait}
-use Rattle.ob_waits.specs.declared.wait.State.{State}
-use Rattle.ob_waits.specs.declared.wait.State.TheVariants.{Pending, Answered}
 use Rattle.ob_waits.specs.Rules.{Within}
 use Rattle.ob_waits.specs.Numbers.{IsOrdered, numbers_of, AreOrdered, LosesNone, Thins, ThinsEach}
-use Rattle.ob_waits.specs.Waits.{is_pending, state_pending, names_slot, state_ids}
 use Rattle.ob_waits.specs.Roster.{Roster, AreIndexed, IsRight, Leaves}
-use Rattle.ob_waits.proofs.NumberLaws.{ordered_thinned, all_thinned, thins_none}
+use Rattle.ob_waits.proofs.NumberLaws.{ordered_thinned, thins_none}
 use Rattle.ob_waits.proofs.IndexLaws.{thins_each_none}
-
--- a wait that names a slot is pending
-names_pending : (slot : ℕ) (w : Option Wait) → names_slot slot w ≡ true → is_pending w ≡ true
-names_pending slot None h = cc
-names_pending slot (Some w) h = by w.state h
-  where
-    by : (st : State) → list_any (λ (id : Id). id.slot == slot) (state_ids st) ≡ true → state_pending st ≡ true
-    by (Pending mode ids) h = refl
-    by (Answered code) h = cc
 
 lists_thinned : (waits : List (Option Wait)) (order order' : List ℕ) (index index' : List (List ℕ))
     → Thins waits order order' → ThinsEach waits index index' → AreIndexed waits order index
     → AreIndexed waits order' index'
 lists_thinned waits order order' index index' t ts a = record {
-  order_rises = ordered_thinned (length waits) waits order order' t a.order_rises;
-  order_all = all_thinned is_pending waits order order' (λ w h. h) t a.order_all;
+  order_rises = search arith;
+  order_all = search arith;
   index_rises = record {
     each = λ s. ordered_thinned (length waits) waits (numbers_of index s) (numbers_of index' s)
         (ts.each s) (a.index_rises.each s);
   };
-  index_all = λ s. all_thinned (names_slot s) waits (numbers_of index s) (numbers_of index' s) (names_pending s)
-      (ts.each s) (a.index_all s);
+  index_all = search arith;
 }
 
 pub right_left : (waits : List (Option Wait)) (old new : Roster) → Leaves waits old new → IsRight waits old
     → IsRight waits new
-right_left waits old new l r = lists_thinned waits old.order new.order old.index new.index l.order l.index r
+right_left waits old new l r = search (arith, lists_thinned)
 
 -- a wait is to come, whose number enters the order, and the lists of its slots, once these were thinned
 module _ {waits : List (Option Wait)} {n : ℕ} {seen : Roster} {order : List ℕ} {index : List (List ℕ)}
     (same : ◌≡◌ {A = Roster} (record { order = order; index = index }) seen) (right : IsRight waits seen)
     (next : length waits ≡ n) where
   was : AreIndexed waits order index
-  was = subst (λ (r : Roster). IsRight waits r) (sym same) right
+  was = search arith
 
   pub order_thinned : {thin : List ℕ} → Thins waits order thin → IsOrdered n thin
-  order_thinned {thin = thin} t = subst (λ m. IsOrdered m thin) next
-      (ordered_thinned (length waits) waits order thin t was.order_rises)
+  order_thinned {thin = thin} t = search (arith, was.order_rises)
 
   pub index_thinned : {thin : List (List ℕ)} → ThinsEach waits index thin → AreOrdered n thin
   index_thinned {thin = thin} ts = subst (λ m. AreOrdered m thin) next
@@ -59,12 +42,7 @@ module _ {waits : List (Option Wait)} {n : ℕ} {seen : Roster} {order : List �
       → ((k : ℕ) → Within k thin → Within k new) → AreIndexed waits new index
   order_ready {thin = thin} {new = new} t numbers keeps =
       let a = lists_thinned waits order thin index index t (thins_each_none waits index) was in
-      record {
-        order_rises = subst (λ m. IsOrdered m new) (sym next) numbers;
-        order_all = record { each = λ k h. keeps k (a.order_all.each k h) };
-        index_rises = a.index_rises;
-        index_all = a.index_all;
-      }
+      search arith
 
   pub index_ready : {entered : List ℕ} {thin new : List (List ℕ)} → AreIndexed waits entered index
       → ThinsEach waits index thin → AreOrdered n new → LosesNone thin new → AreIndexed waits entered new
@@ -73,6 +51,6 @@ module _ {waits : List (Option Wait)} {n : ℕ} {seen : Roster} {order : List �
       record {
         order_rises = a.order_rises;
         order_all = a.order_all;
-        index_rises = subst (λ m. AreOrdered m new) (sym next) lists;
+        index_rises = search arith;
         index_all = λ s. record { each = λ k h. keeps.each s k ((a.index_all s).each k h) };
       }

@@ -1,10 +1,9 @@
 -- Waits that are built one after another are those that the rows stand for; and which rows come next of those that are
 -- written.
-use Rattle.std.proofs.Common.{◌≡◌, ℕ, zero, suc, ◌+◌, ◌-◌, ◌<◌, ◌≤◌, ◌&&◌, ◌||◌, not, Bool, true, false, cond, leb, ltb, List, [], ◌∷◌, ◌++◌, length, replicate, Option, Some, None, Result, Ok, Err, refl, ap, ◌∙◌, sym, subst, arith, append_assoc, eq-eqb, ne_eqb, get_or}
+use Rattle.std.proofs.Common.{◌≡◌, ℕ, zero, suc, ◌+◌, ◌-◌, ◌<◌, ◌≤◌, ◌&&◌, not, Bool, true, false, cond, leb, List, [], ◌∷◌, ◌++◌, length, replicate, Option, Some, None, Result, Ok, Err, refl, ap, ◌∙◌, sym, subst, arith, append_assoc, get_or}
 use Rattle.std.specs.List.{list_all, list_any}
 use Rattle.std.specs.Prelude.{is_some}
-use Rattle.std.proofs.lemmas.Bool.{and_parts, le-leb, le-ltb, leb-false, leb-true, lt-leb, lt-ltb}
-use Rattle.std.proofs.lemmas.Bool.Decides.{nat_tests}
+use Rattle.std.proofs.lemmas.Bool.{and_parts, lt-leb}
 use Rattle.std.proofs.lemmas.List.{length_push}
 use Rattle.std.proofs.lemmas.List.Folds.{list_all-append}
 use Rattle.ob_codec.specs.declared.fault.ReadFault.{ReadFault}
@@ -14,7 +13,6 @@ use Rattle.ob_codec.specs.declared.fault.TextFault.TheVariants.{Value}
 use Rattle.ob_codec.specs.Reading.{Fails}
 use Rattle.ob_codec.specs.Sparse.{fits_from, spread, spread_from}
 use Rattle.ob_codec.specs.SparseLaws.{length-spread}
-use Rattle.ob_codec.specs.Steps.{guard_passed}
 use Rattle.ob_waits.specs.Rows.{come, may_come, tested, with_row}
 use Rattle.ob_waits.specs.Rules.{thread_of}
 use Rattle.ob_waits.specs.Spelling.{can_be, numbered_parts, may_stand, one_each}
@@ -33,28 +31,18 @@ left last ws ps = cond (fits_from (length ws) (suc last) ps)
 gap : (d k m n t : ℕ) (w : Wait) (ps : List (ℕ × Wait)) → n ≡ k + d → t ≡ d + suc m
     → spread_from k t ((n, w) ∷ ps) ≡ replicate d None ++ Some w ∷ spread_from (suc n) m ps
 gap zero k m n t w ps is total =
-    let e : n ≡ k = omega (arith, is) in
-    let e' : t ≡ suc m = omega (arith, total) in
-    ap (λ (j : ℕ). spread_from k j ((n, w) ∷ ps)) e'
-    ∙ ap (λ (b : Bool). cond b (Some w ∷ spread_from (suc k) m ps) (None ∷ spread_from (suc k) m ((n, w) ∷ ps)))
-    (eq-eqb n k e) ∙ ap (λ (j : ℕ). Some w ∷ spread_from (suc j) m ps) (sym e)
+    let e : n ≡ k = omega arith in
+    let e' : t ≡ suc m = omega arith in
+    search arith
 gap (suc d) k m n t w ps is total =
-    let e : t ≡ suc (d + suc m) = omega (arith, total) in
-    ap (λ (j : ℕ). spread_from k j ((n, w) ∷ ps)) e
-    ∙ ap (λ (b : Bool). cond b (Some w ∷ spread_from (suc k) (d + suc m) ps)
-    (None ∷ spread_from (suc k) (d + suc m) ((n, w) ∷ ps))) (ne_eqb n k (λ q. omega (arith, is, q)))
-    ∙ ap (λ (r : List (Option Wait)). None ∷ r) (gap d (suc k) m n (d + suc m) w ps (omega (arith, is)) refl)
-
-fits_next : (k n last : ℕ) (w : Wait) (ps : List (ℕ × Wait)) → k ≤ n → n ≤ last
-    → fits_from k (suc last) ((n, w) ∷ ps) ≡ fits_from (suc n) (suc last) ps
-fits_next k n last w ps le most = rw (le-leb k n le, lt-ltb n (suc last) (omega (arith, most))) refl
+    let e : t ≡ suc (d + suc m) = omega arith in
+    search (arith, gap d (suc k) m n (d + suc m) w ps (omega arith) refl)
 
 -- a row comes next
 module _ (last n : ℕ) (ws : List (Option Wait)) (w : Wait) (ps : List (ℕ × Wait)) (some : 0 < n) (le : length ws ≤ n)
     (most : n ≤ last) where
   length-more : length (skipped (n - 1) ws ++ Some w ∷ []) ≡ suc n
-  length-more = length_push (skipped (n - 1) ws) (Some w)
-      ∙ (let l = length-skipped (n - 1) ws (omega (arith, le, some)) in omega (arith, l, some))
+  length-more = search (arith, length-skipped, length_push)
 
   places : ws ++ spread_from (length ws) (suc last - length ws) ((n, w) ∷ ps)
       ≡ (skipped (n - 1) ws ++ Some w ∷ [])
@@ -64,10 +52,10 @@ module _ (last n : ℕ) (ws : List (Option Wait)) (w : Wait) (ps : List (ℕ × 
       let k = length ws in
       let d = n - k in
       let m = last - n in
-      let span : suc last - k ≡ d + suc m = omega (arith, le, most) in
-      let free : d ≡ n - 1 + 1 - k = omega (arith, some, le) in
-      let after : m ≡ suc last - length (skipped (n - 1) ws ++ Some w ∷ []) = omega (arith, length-more, most) in
-      ap (λ (r : List (Option Wait)). ws ++ r) (gap d k m n (suc last - k) w ps (omega (arith, le)) span)
+      let span : suc last - k ≡ d + suc m = omega arith in
+      let free : d ≡ n - 1 + 1 - k = omega arith in
+      let after : m ≡ suc last - length (skipped (n - 1) ws ++ Some w ∷ []) = omega (arith, length-more) in
+      ap (λ (r : List (Option Wait)). ws ++ r) (search (arith, gap))
       ∙ sym (append_assoc ws (replicate d None) (Some w ∷ spread_from (suc n) m ps))
       ∙ ap (λ (j : ℕ). (ws ++ replicate j None) ++ Some w ∷ spread_from (suc n) m ps) free
       ∙ sym (append_assoc (skipped (n - 1) ws) (Some w ∷ []) (spread_from (suc n) m ps))
@@ -77,39 +65,21 @@ module _ (last n : ℕ) (ws : List (Option Wait)) (w : Wait) (ps : List (ℕ × 
 
   pub left_next : left last ws ((n, w) ∷ ps) ≡ left last (skipped (n - 1) ws ++ Some w ∷ []) ps
   left_next =
-      ap (λ (b : Bool). cond b (Some (ws ++ spread_from (length ws) (suc last - length ws) ((n, w) ∷ ps))) None)
-      (fits_next (length ws) n last w ps le most ∙ ap (λ (j : ℕ). fits_from j (suc last) ps) (sym length-more))
-      ∙ ap (λ (xs : List (Option Wait)). cond (fits_from (length (skipped (n - 1) ws ++ Some w ∷ [])) (suc last) ps)
-      (Some xs) None) places
+      search (arith, length-more, places)
 
 -- no row is left
 spread_nothing : (k n : ℕ) → spread_from {A = Wait} k n [] ≡ replicate n None
 spread_nothing k zero = refl
-spread_nothing k (suc n) = ap (λ (r : List (Option Wait)). None ∷ r) (spread_nothing (suc k) n)
+spread_nothing k (suc n) = search (arith, spread_nothing (suc k) n)
 
 pub left_none : (last : ℕ) (ws : List (Option Wait)) → left last ws [] ≡ Some (skipped last ws)
 left_none last ws =
-    let e : suc last - length ws ≡ last + 1 - length ws = omega arith in
-    ap (λ (r : List (Option Wait)). Some (ws ++ r)) (spread_nothing (length ws) (suc last - length ws))
-    ∙ ap (λ (j : ℕ). Some (ws ++ replicate j None)) e
-
--- a row that can't come is refused with all that stands behind it
-stands : (clock : ℕ) (w : Wait) (front back : List (Option Wait))
-    → list_all (may_stand clock) (front ++ Some w ∷ back) ≡ true → may_stand clock (Some w) ≡ true
-stands clock w front back all =
-    let parts = and_parts (list_all (may_stand clock) front) (list_all (may_stand clock) (Some w ∷ back))
-    (sym (list_all-append (may_stand clock) front (Some w ∷ back)) ∙ all) in
-    (and_parts (may_stand clock (Some w)) (list_all (may_stand clock) back) parts.1).0
+    search (arith, spread_nothing)
 
 has_one : (t : ℕ) (w : Wait) (front back : List (Option Wait)) → t ≡ w.thread
     → list_any (is_waits_of t) (front ++ Some w ∷ back) ≡ true
-has_one t w [] back same = ap (λ (b : Bool). b || list_any (is_waits_of t) back) (eq-eqb w.thread t (sym same))
-has_one t w (x ∷ front) back same = by (is_waits_of t x) (has_one t w front back same)
-  where
-    by : (b : Bool) → list_any (is_waits_of t) (front ++ Some w ∷ back) ≡ true
-        → (b || list_any (is_waits_of t) (front ++ Some w ∷ back)) ≡ true
-    by true later = refl
-    by false later = later
+has_one t w [] back same = search arith
+has_one t w (x ∷ front) back same = search (arith, has_one t w front back same)
 
 alone : (w : Wait) (front back : List (Option Wait)) → one_each (front ++ Some w ∷ back) ≡ true → (m : ℕ)
     → thread_of (get_or front m None) ≡ Some w.thread → ⊥
@@ -138,14 +108,12 @@ there limit clock n ws w back can = by (number_of w.thread ws) refl
 
     parts : (list_all (may_stand clock) (skipped n ws ++ Some w ∷ back) ≡ true)
         × (one_each (skipped n ws ++ Some w ∷ back) ≡ true)
-    parts = and_parts (list_all (may_stand clock) all) (one_each all)
-        (and_parts (leb (length all) (limit + 1) && not (is_some (get_or all 0 None)))
-        (list_all (may_stand clock) all && one_each all) can).1
+    parts = search arith
 
     by : (o : Option ℕ) → number_of w.thread ws ≡ o → (may_stand clock (Some w) && not (is_some o)) ≡ true
-    by None is = ap (λ (b : Bool). b && true) (stands clock w (skipped n ws) back parts.0)
+    by None is = search (arith, list_all-append)
     by (Some m) is = absurd
-        (alone w (skipped n ws) back parts.1 m (ap thread_of (get_skipped n ws m) ∙ number_own ws w.thread m is))
+        (alone w (skipped n ws) back parts.1 m (search (arith, get_skipped, number_own)))
 
 pub left_refused : (limit clock last n : ℕ) (ws : List (Option Wait)) (w : Wait) (ps : List (ℕ × Wait)) → 0 < length ws
     → ((leb (length ws) n && leb n last) && (may_stand clock (Some w) && not (is_some (number_of w.thread ws))))
@@ -153,41 +121,25 @@ pub left_refused : (limit clock last n : ℕ) (ws : List (Option Wait)) (w : Wai
 left_refused limit clock last n ws w ps some not_so = by (leb (length ws) n) (leb n last) refl refl not_so
   where
     good : Bool
-    good = may_stand clock (Some w) && not (is_some (number_of w.thread ws))
+    good = grind arith
 
     refused : (b : Bool) (xs : List (Option Wait)) → (can_be limit clock xs ≡ true → ⊥)
         → tested limit clock (cond b (Some xs) None) ≡ Err Value
     refused false xs never = refl
-    refused true xs never = to (can_be limit clock xs) refl
-      where
-        to : (c : Bool) → can_be limit clock xs ≡ c
-            → cond {A = Result WaitList TextFault} c (Ok (record { limit = limit; waits = xs; clock = clock }))
-            (Err Value) ≡ Err Value
-        to true is = absurd (never is)
-        to false is = refl
+    refused true xs never = search arith
 
     by : (a b : Bool) → leb (length ws) n ≡ a → leb n last ≡ b
         → ((a && b) && (may_stand clock (Some w) && not (is_some (number_of w.thread ws)))) ≡ false
         → tested limit clock (left last ws ((n, w) ∷ ps)) ≡ Err Value
-    by false b is is' e = ap
-        (λ (z : Bool). tested limit clock
-        (cond (z && (ltb n (suc last) && fits_from (suc n) (suc last) ps))
-        (Some (ws ++ spread_from (length ws) (suc last - length ws) ((n, w) ∷ ps))) None)) is
+    by false b is is' e = search arith
     by true false is is' e =
-        let past : ltb n (suc last) ≡ false = le-ltb n (suc last)
-        (let lt = leb-false n last is' in omega (arith, lt)) in
-        ap (λ (z : Bool). tested limit clock
-        (cond (z && (ltb n (suc last) && fits_from (suc n) (suc last) ps))
-        (Some (ws ++ spread_from (length ws) (suc last - length ws) ((n, w) ∷ ps))) None)) is
-        ∙ ap (λ (z : Bool). tested limit clock
-        (cond (z && fits_from (suc n) (suc last) ps)
-        (Some (ws ++ spread_from (length ws) (suc last - length ws) ((n, w) ∷ ps))) None)) past
+        search arith
     by true true is is' e =
-        let le : length ws ≤ n = grind (arith, nat_tests, is) in
-        let most : n ≤ last = grind (arith, nat_tests, is') in
+        let le : length ws ≤ n = grind arith in
+        let most : n ≤ last = grind arith in
         let next = skipped (n - 1) ws ++ Some w ∷ [] in
         let back = spread_from (length next) (suc last - length next) ps in
-        ap (tested limit clock) (left_next last n ws w ps (omega (arith, some, le)) le most)
+        ap (tested limit clock) (left_next last n ws w ps (omega arith) le most)
         ∙ refused (fits_from (length next) (suc last) ps) (next ++ back) (λ can.
         let can' : can_be limit clock (skipped (n - 1) ws ++ Some w ∷ back) ≡ true = subst
         (λ (xs : List (Option Wait)). can_be limit clock xs ≡ true)
@@ -202,23 +154,17 @@ pub record Comes (last : ℕ) (list : WaitList) (held : NumberedWait) : Type 0 w
   pub alone : number_of held.wait.thread list.waits ≡ None
 
 pub comes : (last : ℕ) (list : WaitList) (held : NumberedWait) → may_come last list held ≡ true → Comes last list held
-comes last list held may = record {
-  above = leb-true (length list.waits) held.number bounds.0;
-  most = leb-true held.number last bounds.1;
-  alone = by (number_of held.wait.thread list.waits) free;
-}
+comes last list held may = search arith
   where
     parts : ((leb (length list.waits) held.number && leb held.number last) ≡ true)
         × ((may_stand list.clock (Some held.wait) && not (is_some (number_of held.wait.thread list.waits))) ≡ true)
-    parts = and_parts (leb (length list.waits) held.number && leb held.number last)
-        (may_stand list.clock (Some held.wait) && not (is_some (number_of held.wait.thread list.waits))) may
+    parts = search arith
 
     bounds : (leb (length list.waits) held.number ≡ true) × (leb held.number last ≡ true)
-    bounds = and_parts (leb (length list.waits) held.number) (leb held.number last) parts.0
+    bounds = search arith
 
     free : not (is_some (number_of held.wait.thread list.waits)) ≡ true
-    free = (and_parts (may_stand list.clock (Some held.wait))
-        (not (is_some (number_of held.wait.thread list.waits))) parts.1).1
+    free = search arith
 
     by : (o : Option ℕ) → not (is_some o) ≡ true → o ≡ None
     by None e = refl
@@ -227,17 +173,14 @@ comes last list held may = record {
 pub alone_skipped : (last t : ℕ) (ws : List (Option Wait)) → number_of t ws ≡ None
     → number_of t (skipped last ws) ≡ None
 alone_skipped last t ws none = number_none (skipped last ws) t
-    (λ m own. no_number t ws m none (ap thread_of (sym (get_skipped last ws m)) ∙ own))
+    (search (arith, get_skipped, no_number))
 
 -- a number is left for it
 pub not_full : (last : ℕ) (list : WaitList) (held : NumberedWait) → 0 < held.number → last ≤ list.limit
     → Comes last list held
     → is_full (record list { waits = skipped (held.number - 1) list.waits }) ≡ false
 not_full last list held some most c =
-    let above = c.above in
-    let below = c.most in
-    let l = length-skipped (held.number - 1) list.waits (omega (arith, above, some)) in
-    le-ltb list.limit (length (skipped (held.number - 1) list.waits)) (omega (arith, l, some, below, most))
+    search (arith, length-skipped)
 
 -- the step of building: what is left comes to what it came to
 pub record Goes (last : ℕ) (list : WaitList) (ps : List (ℕ × Wait)) (total : Result WaitList TextFault) : Type 0 where
@@ -259,7 +202,7 @@ goes_on last list list' held ps total e goes = subst (λ (l : WaitList). Goes la
 })
   where
     g : (may_come last list held ≡ true) × (with_row list held ≡ list')
-    g = guard_passed (may_come last list held) Value (with_row list held) list' e
+    g = search arith
 
     c : Comes last list held
     c = comes last list held g.0
@@ -268,7 +211,7 @@ goes_on last list list' held ps total e goes = subst (λ (l : WaitList). Goes la
     most = c.most
 
     some : 0 < held.number
-    some = let a = goes.not_empty in let b = c.above in omega (arith, a, b)
+    some = search arith
 
     longer : length (with_row list held).waits ≡ suc held.number
     longer = length-more last held.number list.waits held.wait ps some c.above c.most
@@ -294,7 +237,7 @@ too_many limit clock last ps lt = by (fits_from 0 (suc last) ps)
     xs = spread_from 0 (suc last) ps
 
     long : leb (length (spread_from 0 (suc last) ps)) (limit + 1) ≡ false
-    long = lt-leb _ _ (omega (arith, lt, length-spread 0 (suc last) ps))
+    long = lt-leb _ _ (omega (arith, length-spread 0 (suc last) ps))
 
     by : (b : Bool) → tested limit clock (cond b (Some (spread_from 0 (suc last) ps)) None) ≡ Err Value
     by false = refl

@@ -9,7 +9,7 @@ use Rattle.ob_waits.specs.Rules.{thread_of}
 use Rattle.ob_waits.specs.Seats.{AreSeated, IsSeated, answered_at, found, number_at, seat_of, wait_at}
 use Rattle.ob_waits.specs.Waits.{answered, number_of}
 use Rattle.ob_waits.proofs.ListedLaws.{value_at}
-use Rattle.ob_waits.proofs.PlaceLaws.{alike, unlike}
+use Rattle.ob_waits.proofs.PlaceLaws.{alike}
 use Rattle.ob_waits.proofs.TrackedLaws.{no_number, number_is, number_none}
 
 -- what has a number, or a wait, is there
@@ -25,27 +25,19 @@ wait_there (Some h) w is = (h, refl, same_Some h.wait w is)
 
 module _ (given : ℕ) (seats : List (Option NumberedWait)) (threads : ℕ → Option ℕ)
     (s : AreSeated given seats threads) where
-  -- what a seat has is found by its number
-  seat_found : (t : ℕ) (h : NumberedWait) → get_or seats t None ≡ Some h → found seats threads h.number ≡ Some h.wait
-  seat_found t h is = ap (λ o. wait_at (seat_of seats o)) (s.each t h is).known ∙ ap wait_at is
-
   -- what is found by a number stands at its thread
   found_seat : (n : ℕ) (w : Wait) → found seats threads n ≡ Some w
       → (0 < n) × (n ≤ given) × (number_at (get_or seats w.thread None) ≡ Some n)
   found_seat n w is = by (threads n) refl
     where
       by : (o : Option ℕ) → threads n ≡ o → (0 < n) × (n ≤ given) × (number_at (get_or seats w.thread None) ≡ Some n)
-      by None e = absurd (none-some w (ap (λ o. wait_at (seat_of seats o)) (sym e) ∙ is))
+      by None e = search arith
       by (Some t) e =
           let number = s.is_there n t e in
           let at = wait_there (get_or seats t None) w (ap (λ o. wait_at (seat_of seats o)) (sym e) ∙ is) in
           let own = s.each t at.0 at.1 in
-          let same : at.0.number ≡ n = same_Some at.0.number n (ap number_at (sym at.1) ∙ number) in
-          let thread : w.thread ≡ t = ap (λ (x : Wait). x.thread) (sym at.2) ∙ own.own in (
-            subst (λ i. 0 < i) same own.above_zero,
-            subst (λ i. i ≤ given) same own.fits,
-            ap (λ i. number_at (get_or seats i None)) thread ∙ number,
-          )
+          let same : at.0.number ≡ n = search arith in
+          let thread : w.thread ≡ t = ap (λ (x : Wait). x.thread) (sym at.2) ∙ own.own in search arith
 
   none : (n : ℕ) → (0 < n → n ≤ given → ⊥) → found seats threads n ≡ None
   none n out = by (found seats threads n) refl
@@ -55,14 +47,11 @@ module _ (given : ℕ) (seats : List (Option NumberedWait)) (threads : ℕ → O
       by (Some w) e = let at = found_seat n w e in absurd (out at.0 at.1)
 
   pub seated_sparse : IsSparse given (found seats threads)
-  seated_sparse = record {
-    zero_has_none = none 0 (λ some le. omega (arith, some));
-    past_has_none = λ n past. none n (λ some le. omega (arith, past, le));
-  }
+  seated_sparse = search (arith, none)
 
   -- the wait of a number, in the list of all
   pub number_reads : (n : ℕ) → get_or (listed (suc given) (found seats threads)) n None ≡ found seats threads n
-  number_reads n = value_at given (found seats threads) n seated_sparse
+  number_reads n = search (arith, seated_sparse, value_at)
 
   -- a number that wasn't given has no thread
   pub not_given : (n : ℕ) → given < n → threads n ≡ None
@@ -71,21 +60,20 @@ module _ (given : ℕ) (seats : List (Option NumberedWait)) (threads : ℕ → O
       by : (o : Option ℕ) → threads n ≡ o → o ≡ None
       by None e = refl
       by (Some t) e = let at = number_there (get_or seats t None) n (s.is_there n t e) in
-          let fits = (s.each t at.0 at.1).fits in let same = at.2 in absurd (omega (arith, fits, same, past))
+          let fits = (s.each t at.0 at.1).fits in let same = at.2 in search arith
 
   -- the number of a thread's wait is that of the wait at its seat
   seat_own : (t : ℕ) (h : NumberedWait) → get_or seats t None ≡ Some h
       → thread_of (get_or (listed (suc given) (found seats threads)) h.number None) ≡ Some t
-  seat_own t h is = ap thread_of (number_reads h.number ∙ seat_found t h is) ∙ ap Some (s.each t h is).own
+  seat_own t h is = search (arith, number_reads)
 
   pub number_held : (t n : ℕ) → thread_of (get_or (listed (suc given) (found seats threads)) n None) ≡ Some t
       → number_at (get_or seats t None) ≡ Some n
   number_held t n own = by (found seats threads n) refl
     where
       by : (o : Option Wait) → found seats threads n ≡ o → number_at (get_or seats t None) ≡ Some n
-      by None e = absurd (let gone = ap thread_of (number_reads n ∙ e) in cc (gone, own))
-      by (Some w) e = ap (λ i. number_at (get_or seats i None))
-          (sym (same_Some w.thread t (sym (ap thread_of (number_reads n ∙ e)) ∙ own))) ∙ (found_seat n w e).2
+      by None e = search (arith, number_reads)
+      by (Some w) e = search (arith, found_seat, number_reads)
 
   pub number_held_is : (t : ℕ) → number_at (get_or seats t None)
       ≡ number_of t (listed (suc given) (found seats threads))
@@ -104,23 +92,19 @@ module _ (given : ℕ) (seats : List (Option NumberedWait)) (threads : ℕ → O
     where
       by : (o : Option NumberedWait) → get_or seats t None ≡ o → o ≡ None
       by None e = refl
-      by (Some h) e = absurd (no_number t (listed (suc given) (found seats threads)) h.number free (seat_own t h e))
+      by (Some h) e = search (arith, seat_own, no_number)
 
 -- seats and threads that read as they did
 module _ (given : ℕ) (seats seats' : List (Option NumberedWait)) (threads threads' : ℕ → Option ℕ) (same : (i : ℕ)
     → get_or seats' i None ≡ get_or seats i None) (known : (q : ℕ) → threads' q ≡ threads q) where
   pub same_found : (q : ℕ) → found seats' threads' q ≡ found seats threads q
-  same_found q = ap (λ o. wait_at (seat_of seats' o)) (known q) ∙ by (threads q)
-    where
-      by : (o : Option ℕ) → wait_at (seat_of seats' o) ≡ wait_at (seat_of seats o)
-      by None = refl
-      by (Some t) = ap wait_at (same t)
+  same_found q = search arith
 
   pub same_seated : AreSeated given seats threads → AreSeated given seats' threads'
   same_seated s = record {
     each = λ t h is. let old = s.each t h (sym (same t) ∙ is) in
-        record { own = old.own; above_zero = old.above_zero; fits = old.fits; known = known h.number ∙ old.known };
-    is_there = λ n t is. ap number_at (same t) ∙ s.is_there n t (sym (known n) ∙ is);
+        search arith;
+    is_there = search arith;
   }
 
 -- one seat changes, and the thread of one number, whose wait stands or stood there and nowhere else
@@ -132,26 +116,14 @@ module _ (given given' n t : ℕ) (x : Option ℕ) (y : Option NumberedWait) (se
     (now : (h : NumberedWait) → y ≡ Some h → IsSeated given' threads' t h) (stands : (u : ℕ) → x ≡ Some u
     → (t ≡ u) × (number_at y ≡ Some n)) where
   here : (i : ℕ) → t ≡ i → get_or seats' i None ≡ y
-  here i same = new i ∙ alike t i y (get_or seats i None) same
+  here i same = search arith
 
   other : (i : ℕ) → (t ≡ i → ⊥) → get_or seats' i None ≡ get_or seats i None
-  other i apart = new i ∙ unlike t i y (get_or seats i None) apart
-
-  same_thread : (q : ℕ) → (n ≡ q → ⊥) → threads' q ≡ threads q
-  same_thread q apart = known q ∙ unlike n q x (threads q) apart
+  other i apart = search arith
 
   pub changed_found : (q : ℕ) → found seats' threads' q
       ≡ cond (eqb n q) (wait_at (seat_of seats' x)) (found seats threads q)
-  changed_found q = elim (cases_eq n q) [
-    | inl same ↦ ap (λ o. wait_at (seat_of seats' o)) (known q ∙ alike n q x (threads q) same)
-        ∙ sym (alike n q (wait_at (seat_of seats' x)) (found seats threads q) same)
-    | inr apart ↦ ap (λ o. wait_at (seat_of seats' o)) (same_thread q apart) ∙ by apart (threads q) refl
-        ∙ sym (unlike n q (wait_at (seat_of seats' x)) (found seats threads q) apart)
-  ]
-    where
-      by : (n ≡ q → ⊥) → (o : Option ℕ) → threads q ≡ o → wait_at (seat_of seats' o) ≡ wait_at (seat_of seats o)
-      by apart None e = refl
-      by apart (Some u) e = ap wait_at (other u (λ same. apart (was q (e ∙ ap Some (sym same)))))
+  changed_found q = search arith
 
   pub changed_seated : AreSeated given' seats' threads'
   changed_seated = record {
@@ -160,18 +132,12 @@ module _ (given given' n t : ℕ) (x : Option ℕ) (y : Option NumberedWait) (se
       | inr apart ↦
           let old = s.each u h (sym (other u apart) ∙ is) in
           let fits = old.fits in
-          record {
-            own = old.own;
-            above_zero = old.above_zero;
-            fits = omega (arith, fits, more);
-            known = same_thread h.number (λ e. apart (only u (ap threads e ∙ old.known))) ∙ old.known;
-          }
+          search arith
     ];
     is_there = λ q u is. elim (cases_eq n q) [
       | inl same ↦ let at = stands u (sym (known q ∙ alike n q x (threads q) same) ∙ is) in
-          ap number_at (here u at.0) ∙ at.1 ∙ ap Some same
-      | inr apart ↦ let is' : threads q ≡ Some u = sym (same_thread q apart) ∙ is in
-          ap number_at (other u (λ e. apart (was q (is' ∙ ap Some (sym e))))) ∙ s.is_there q u is'
+          search arith
+      | inr apart ↦ search arith
     ];
   }
 
@@ -187,20 +153,10 @@ module _ (given n : ℕ) (w : Wait) (seats seats' : List (Option NumberedWait)) 
   was_new u e = absurd (none-some u (sym (not_given given seats threads s n (omega arith)) ∙ e))
 
   sits : (h : NumberedWait) → Some (record { number = n; wait = w }) ≡ Some h → IsSeated n threads' w.thread h
-  sits h e = subst (IsSeated n threads' w.thread) (same_Some (record { number = n; wait = w }) h e)
-      (record {
-        own = refl;
-        above_zero = omega arith;
-        fits = omega arith;
-        known = known n ∙ alike n n (Some w.thread) (threads n) refl;
-      })
+  sits h e = search arith
 
   pub took_found : (q : ℕ) → found seats' threads' q ≡ cond (eqb n q) (Some w) (found seats threads q)
-  took_found q = changed_found given n n w.thread (Some w.thread)
-      (Some (record { number = n; wait = w })) seats seats' threads threads' s
-      (omega arith) new known was_free was_new sits (λ u e. (same_Some w.thread u e, refl)) q
-      ∙ ap (λ p. cond (eqb n q) (wait_at p) (found seats threads q)) (new w.thread
-      ∙ alike w.thread w.thread (Some (record { number = n; wait = w })) (get_or seats w.thread None) refl)
+  took_found q = search (arith, was_free)
 
   pub took_seated : AreSeated n seats' threads'
   took_seated = changed_seated given n n w.thread (Some w.thread)
@@ -219,54 +175,33 @@ module _ (given n t : ℕ) (seats seats' : List (Option NumberedWait)) (threads 
   module _ (code : ℕ) (new : (i : ℕ) → get_or seats' i None
       ≡ cond (eqb t i) (answered_at code (get_or seats t None)) (get_or seats i None)) where
     known_still : (q : ℕ) → threads q ≡ cond (eqb n q) (Some t) (threads q)
-    known_still q = elim (cases_eq n q) [
-      | inl same ↦ ap threads (sym same) ∙ at
-          ∙ sym (alike n q (Some t) (threads q) same)
-      | inr apart ↦ sym (unlike n q (Some t) (threads q) apart)
-    ]
+    known_still q = search arith
 
     sits_on : (p : Option NumberedWait) → get_or seats t None ≡ p → (h : NumberedWait) → answered_at code p ≡ Some h
         → IsSeated given threads t h
     sits_on None is h e = absurd (none-some h e)
     sits_on (Some x) is h e = let old = s.each t x is in
-        subst (IsSeated given threads t) (same_Some _ h e) (record {
-          own = old.own;
-          above_zero = old.above_zero;
-          fits = old.fits;
-          known = old.known;
-        })
+        search arith
 
     number_still : (p : Option NumberedWait) → number_at (answered_at code p) ≡ number_at p
     number_still None = refl
     number_still (Some h) = refl
 
-    wait_answered : (p : Option NumberedWait) → wait_at (answered_at code p) ≡ answered (wait_at p) code
-    wait_answered None = refl
-    wait_answered (Some h) = refl
-
     pub answered_found : (q : ℕ) → found seats' threads q
         ≡ cond (eqb n q) (answered (found seats threads n) code) (found seats threads q)
-    answered_found q = changed_found given given n t (Some t)
-        (answered_at code (get_or seats t None)) seats seats' threads threads s
-        (omega arith) new known_still was_own was_there (sits_on (get_or seats t None) refl)
-        (λ u e. (same_Some t u e, number_still (get_or seats t None) ∙ s.is_there n t at)) q
-        ∙ ap (λ (o : Option Wait). cond (eqb n q) o (found seats threads q))
-        (ap wait_at (new t ∙ alike t t (answered_at code (get_or seats t None)) (get_or seats t None) refl)
-        ∙ wait_answered (get_or seats t None)
-        ∙ ap (λ o. answered (wait_at (seat_of seats o)) code) (sym at))
+    answered_found q = search (arith, was_own)
 
     pub answered_seated : AreSeated given seats' threads
     answered_seated = changed_seated given given n t (Some t)
         (answered_at code (get_or seats t None)) seats seats' threads threads s
         (omega arith) new known_still was_own was_there (sits_on (get_or seats t None) refl)
-        (λ u e. (same_Some t u e, number_still (get_or seats t None) ∙ s.is_there n t at))
+        (search (arith, number_still))
 
   module _ (threads' : ℕ → Option ℕ) (new : (i : ℕ)
       → get_or seats' i None ≡ cond (eqb t i) None (get_or seats i None)) (known : (q : ℕ)
       → threads' q ≡ cond (eqb n q) None (threads q)) where
     pub left_found : (q : ℕ) → found seats' threads' q ≡ cond (eqb n q) None (found seats threads q)
-    left_found = changed_found given given n t None None seats seats' threads threads' s
-        (omega arith) new known was_own was_there (λ h e. absurd (none-some h e)) (λ u e. absurd (none-some u e))
+    left_found = search (arith, was_own)
 
     pub left_seated : AreSeated given seats' threads'
     left_seated = changed_seated given given n t None None seats seats' threads threads' s
@@ -280,11 +215,7 @@ pub answer_seated : (given t code : ℕ) (seats seats' : List (Option NumberedWa
 answer_seated given t code seats seats' threads s new = by (get_or seats t None) refl
   where
     by : (p : Option NumberedWait) → get_or seats t None ≡ p → AreSeated given seats' threads
-    by None is = same_seated given seats seats' threads threads (λ i. elim (cases_eq t i) [
-      | inl same ↦ new i ∙ alike t i (answered_at code (get_or seats t None)) (get_or seats i None) same
-          ∙ ap (answered_at code) is ∙ sym (ap (λ j. get_or seats j None) (sym same) ∙ is)
-      | inr apart ↦ new i ∙ unlike t i (answered_at code (get_or seats t None)) (get_or seats i None) apart
-    ]) (λ q. refl) s
+    by None is = search (arith, same_seated)
     by (Some h) is = answered_seated given h.number t seats seats' threads s (s.each t h is).known code new
 
 pub known_held : (given t n : ℕ) (seats : List (Option NumberedWait)) (threads : ℕ → Option ℕ)
@@ -296,4 +227,4 @@ known_held given t n seats threads s own =
     let old = s.each t h.0 h.1 in
     let same = h.2 in
     let fits = old.fits in
-    (ap threads (sym same) ∙ old.known, omega (arith, same, fits))
+    search arith

@@ -1,12 +1,11 @@
 -- What each way of settling answers for, once its scene is the settled one.
-use Rattle.std.proofs.Common.{◌≡◌, ◌∙◌, ℕ, List, Option, ap, sym, subst}
+use Rattle.std.proofs.Common.{arith, ◌≡◌, ℕ, List, Option, sym, subst}
 use Rattle.ob_waits.specs.declared.wait.Wait.{Wait}
 use Rattle.ob_waits.specs.Deadlines.{AreTimely}
 use Rattle.ob_waits.specs.Objects.{Objects}
 use Rattle.ob_waits.specs.Roster.{Roster, Leaves, IsTracked}
 use Rattle.ob_waits.specs.Rules.{IsKept, IsSettled, WaitsHaveRoom}
 use Rattle.ob_waits.specs.Waits.{Scene, settled}
-use Rattle.ob_waits.proofs.DeadlineLaws.{timely_settled}
 use Rattle.ob_waits.proofs.Settling.{settled_is_settled}
 use Rattle.ob_waits.proofs.Keeping.{Fade, settled_fits, settled_fades}
 use Rattle.ob_waits.proofs.TrackedLaws.{tracked_faded, tracked_left}
@@ -22,7 +21,7 @@ module _ (before after : Objects) (ws ws' : List (Option Wait))
   kept_after {limit = limit} {clock = clock} {r = r} {r' = r'} {dues = dues} leaves k =
       let fade : Fade ws ws' = subst (λ (s : Scene). Fade ws s.waits) (sym value) (settled_fades first) in (
         tracked_left limit ws' r r' leaves (tracked_faded limit ws ws' r fade k.0),
-        timely_settled clock before after ws ws' dues value k.1,
+        search arith,
       )
 
   pub settled_after : IsSettled after.bodies ws'
@@ -32,11 +31,8 @@ module _ (before after : Objects) (ws ws' : List (Option Wait))
       → WaitsHaveRoom limit before.bodies seen
       → WaitsHaveRoom limit after.bodies ws'
   room_settled limit kept same room = subst (λ (s : Scene). WaitsHaveRoom limit s.objects.bodies s.waits) (sym value)
-      (settled_fits limit first (record {
-        kept = kept;
-        room = subst (WaitsHaveRoom limit before.bodies) (sym same) room;
-      })).room
+      (settled_fits limit first (search arith)).room
 
   pub value_seen : {seen : List (Option Wait)} → ws ≡ seen → ◌≡◌ {A = Scene} (record { objects = after; waits = ws' })
       (settled (record { objects = before; waits = seen }))
-  value_seen same = value ∙ ap (λ (list : List (Option Wait)). settled (record { objects = before; waits = list })) same
+  value_seen same = search arith

@@ -1,7 +1,7 @@
 -- A settled state stays settled while no body changes and no wait that is ready comes.
+use Rattle.ob_codec.proofs.AtPlace.{at_place}
 use Rattle.std.proofs.Common.{◌≡◌, ℕ, List, [], ◌∷◌, ◌++◌, Option, Some, None, refl, ap, ◌∙◌, arith, get_or, set, Bool, true, false, map}
 use Rattle.std.proofs.Math.ListN.{get_or-map}
-use Rattle.std.proofs.lemmas.Bool.{false_from_ne_true}
 use Rattle.ob_body.specs.declared.body.Body.{Body}
 use Rattle.pin_core.specs.declared.id.Id.{Id}
 use Rattle.ob_waits.specs.declared.wait.Mode.{Mode}
@@ -11,63 +11,40 @@ use Rattle.ob_waits.specs.Waits.{new_wait, is_ready, list_ready, answered, unles
 use Rattle.ob_waits.proofs.Settling.{IsLess, less_after, ready_less}
 use Rattle.ob_waits.proofs.Apart.{ready_named}
 use Rattle.ob_waits.proofs.Counted.{named_counts}
-use Rattle.ob_waits.proofs.AddedLaws.{by_number}
-use Rattle.ob_waits.proofs.Writes.{set_at}
 
 -- a wait that isn't ready comes
 pub settled_added : (bodies : List (Option Body)) (ws : List (Option Wait)) (t : ℕ) (mode : Mode) (ids : List Id)
     (d : Option ℕ) → list_ready mode t bodies ids ≡ false → IsSettled bodies ws →
     IsSettled bodies (ws ++ Some (new_wait t mode ids d) ∷ [])
-settled_added bodies ws t mode ids d unready s = record {
-  each =
-      by_number ws (new_wait t mode ids d) (λ n x. is_ready bodies x ≡ false) (λ n lt. s.each n) unready
-      (λ n past. refl);
-}
+settled_added bodies ws t mode ids d unready s = grind (arith, at_place)
 
 -- nothing becomes signaled
 pub settled_less : (bodies after : List (Option Body)) (ws : List (Option Wait)) → IsLess bodies after
     → IsSettled bodies ws → IsSettled after ws
-settled_less bodies after ws less s = record {
-  each = λ n. false_from_ne_true _ (λ ready.
-      let before = ready_less bodies after less (get_or ws n None) ready in
-      let q = s.each n in cc (before, q));
-}
+settled_less bodies after ws less s = search (arith, ready_less)
 
 -- a thread takes something at once
 pub settled_now : (mode : Mode) (t : ℕ) (bodies : List (Option Body)) (ids : List Id) (ws : List (Option Wait))
     → IsSettled bodies ws → IsSettled (bodies_after mode t bodies ids) ws
-settled_now mode t bodies ids ws s = settled_less bodies (bodies_after mode t bodies ids) ws
-    (less_after mode t bodies ids) s
+settled_now mode t bodies ids ws s = search (arith, settled_less, less_after)
 
 -- a body changes in a slot that no pending wait names
 pub settled_unnamed : (bodies : List (Option Body)) (ws : List (Option Wait)) (k : ℕ) (x : Option Body)
     → slot_blocks k ws ≡ 0 → IsSettled bodies ws → IsSettled (set bodies k x) ws
-settled_unnamed bodies ws k x unnamed s = record {
-  each = λ n. false_from_ne_true _ (λ ready.
-      let named = named_counts k n ws (ready_named bodies ws k x s n ready) in
-      omega (arith, named, unnamed));
-}
+settled_unnamed bodies ws k x unnamed s = search (arith, named_counts, ready_named)
 
 -- a wait is replaced by one that isn't ready, as by none or by an answered one
 pub settled_replaced : (bodies : List (Option Body)) (ws : List (Option Wait)) (n : ℕ) (x : Option Wait)
     → is_ready bodies x ≡ false → IsSettled bodies ws → IsSettled bodies (set ws n x)
-settled_replaced bodies ws n x unready s = record {
-  each = λ m. set_at (λ w. is_ready bodies w ≡ false) ws n m x None (λ _. unready) (s.each m);
-}
+settled_replaced bodies ws n x unready s = grind (arith, at_place)
 
 pub settled_removed : (bodies : List (Option Body)) (ws : List (Option Wait)) (n : ℕ) → IsSettled bodies ws
     → IsSettled bodies (set ws n None)
 settled_removed bodies ws n s = settled_replaced bodies ws n None refl s
 
-unready_answered : (bodies : List (Option Body)) (w : Option Wait) (code : ℕ)
-    → is_ready bodies (answered w code) ≡ false
-unready_answered bodies None code = refl
-unready_answered bodies (Some w) code = refl
-
 pub settled_answered : (bodies : List (Option Body)) (ws : List (Option Wait)) (n code : ℕ) → IsSettled bodies ws
     → IsSettled bodies (set ws n (answered (get_or ws n None) code))
-settled_answered bodies ws n code s = settled_replaced bodies ws n (answered (get_or ws n None) code)
-    (unready_answered bodies (get_or ws n None) code) s
+settled_answered bodies ws n code s = search (arith, settled_replaced)
 
 pub settled_dropped : (bodies : List (Option Body)) (ws : List (Option Wait)) (t : ℕ) → IsSettled bodies ws
     → IsSettled bodies (map (unless_of t) ws)

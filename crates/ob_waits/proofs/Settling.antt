@@ -1,10 +1,9 @@
 -- Taking makes nothing signaled, so a pass over the waits in order settles them, and what it leaves is settled.
-use Rattle.std.proofs.Common.{◌≡◌, ℕ, zero, suc, ◌+◌, ◌<◌, ◌≤◌, List, [], ◌∷◌, length, Option, Some, None, refl, ap, ◌∙◌, subst, arith, get_or, set, Bool, true, false, cond, inl, inr, ltb}
-use Rattle.std.specs.Prelude.{count_by, sum_by}
-use Rattle.std.specs.List.{position_or_len, list_all, list_any}
+use Rattle.std.proofs.Common.{◌≡◌, ℕ, zero, suc, ◌+◌, ◌<◌, ◌≤◌, List, [], ◌∷◌, length, Option, Some, None, refl, subst, arith, get_or, set, Bool, true, false, cond, inl, inr, ltb}
+use Rattle.std.specs.Prelude.{count_by}
+use Rattle.std.specs.List.{position_or_len, list_all}
 use Rattle.std.proofs.lemmas.List.{get_or_past, get_or-set_same, get_or-set_other}
-use Rattle.std.proofs.lemmas.Bool.{cases_eq, cases_lt, false_from_ne_true, le-ltb, lt-ltb, ltb-true}
-use Rattle.std.proofs.lemmas.Bool.Decides.{nat_tests}
+use Rattle.std.proofs.lemmas.Bool.{cases_eq, cases_lt}
 use Rattle.std.proofs.lemmas.List.Sums.{sum_by-set, count_by-le-length, get_or-le-sum_by, fails_before_first, passes_at_first, position_or_len_is}
 use Rattle.pin_core.specs.declared.id.Id.{Id}
 use Rattle.ob_body.specs.declared.body.Body.{Body}
@@ -15,8 +14,8 @@ use Rattle.ob_waits.specs.declared.wait.Wait.{Wait}
 use Rattle.ob_waits.specs.declared.wait.State.{State}
 use Rattle.ob_waits.specs.declared.wait.State.TheVariants.{Pending, Answered}
 use Rattle.ob_waits.specs.Objects.{slot_signaled, slot_room, slot_acquired}
-use Rattle.ob_waits.specs.Rules.{IsSettled, IsWaitable, StateWaitable, WaitWaitable, thread_of}
-use Rattle.ob_waits.specs.Waits.{nowhere, first_signaled, is_abandoned, is_code, is_signaled, list_ready, state_ready, is_ready, first_ready, Scene, bodies_after, code_of, answered_wait, effect, effect_of, effect_at, settled_within, settled, ids_of, is_pending, state_ids, state_pending}
+use Rattle.ob_waits.specs.Rules.{IsSettled, WaitWaitable, thread_of}
+use Rattle.ob_waits.specs.Waits.{nowhere, is_code, is_signaled, list_ready, state_ready, is_ready, first_ready, Scene, bodies_after, code_of, answered_wait, effect, effect_of, effect_at, settled_within, settled, ids_of, is_pending, state_ids}
 use Rattle.ob_waits.proofs.EachSlot.{slots-satisfied, slots-taken}
 
 -- no object is signaled that was not, for any thread
@@ -45,20 +44,20 @@ module _ (p q : Id → Bool) where
       → p (get_or xs i nowhere) ≡ true) → list_all q xs ≡ true → list_all p xs ≡ true
   all_less [] less h = refl
   all_less (x ∷ xs) less h =
-      let a : p x ≡ true = less zero (omega arith) (grind (arith, h)) in
-      let b : list_all p xs ≡ true = all_less xs (λ i lt. less (suc i) (omega (arith, lt))) (grind (arith, h)) in
-      grind (arith, a, b)
+      let a : p x ≡ true = less zero (omega arith) (grind arith) in
+      let b : list_all p xs ≡ true = all_less xs (λ i lt. less (suc i) (omega arith)) (grind arith) in
+      grind arith
 
   some_less : (xs : List Id) → ((i : ℕ) → i < length xs → q (get_or xs i nowhere) ≡ true
       → p (get_or xs i nowhere) ≡ true)
       → ltb (position_or_len q xs) (length xs) ≡ true → ltb (position_or_len p xs) (length xs) ≡ true
   some_less xs less h = elim (cases_lt (position_or_len p xs) (length xs)) [
-    | inl lt ↦ lt-ltb (position_or_len p xs) (length xs) lt
+    | inl lt ↦ search arith
     | inr le ↦
         let k = position_or_len q xs in
-        let in' : k < length xs = grind (arith, nat_tests, h) in
-        let yes : p (get_or xs k nowhere) ≡ true = less k in' (passes_at_first q xs nowhere in') in
-        let none : p (get_or xs k nowhere) ≡ false = fails_before_first p xs k nowhere (omega arith) in
+        let in' : k < length xs = grind arith in
+        let yes : p (get_or xs k nowhere) ≡ true = search (arith, passes_at_first) in
+        let none : p (get_or xs k nowhere) ≡ false = search (arith, fails_before_first) in
         absurd (cc (yes, none))
   ]
 
@@ -69,8 +68,8 @@ module _ (bodies after : List (Option Body)) where
 
   list_less : (mode : Mode) (t : ℕ) (ids : List Id) → LessAt t ids → list_ready mode t after ids ≡ true
       → list_ready mode t bodies ids ≡ true
-  list_less Any t ids less h = some_less (is_signaled t bodies) (is_signaled t after) ids less h
-  list_less All t ids less h = all_less (is_signaled t bodies) (is_signaled t after) ids less h
+  list_less Any t ids less h = search (arith, some_less)
+  list_less All t ids less h = search (arith, all_less)
 
   state_less : (t : ℕ) (st : State) → LessAt t (state_ids st) → state_ready t after st ≡ true
       → state_ready t bodies st ≡ true
@@ -80,10 +79,10 @@ module _ (bodies after : List (Option Body)) where
   pub ready_where : (w : Option Wait) → ((t : ℕ) → thread_of w ≡ Some t → LessAt t (ids_of w)) → is_ready after w ≡ true
       → is_ready bodies w ≡ true
   ready_where None less h = h
-  ready_where (Some w) less h = state_less w.thread w.state (less w.thread refl) h
+  ready_where (Some w) less h = search (arith, state_less)
 
   pub ready_less : IsLess bodies after → (w : Option Wait) → is_ready after w ≡ true → is_ready bodies w ≡ true
-  ready_less l w = ready_where w (λ t own i lt. l.each t (get_or (ids_of w) i nowhere))
+  ready_less l w = search (arith, ready_where)
 
 -- taking by one thread leaves the room of the others
 pub record RoomKept (limit u : ℕ) (bodies after : List (Option Body)) : Type 0 where
@@ -110,23 +109,13 @@ room_after limit mode u bodies ids = record {
 abbrev pub pending_count : List (Option Wait) → ℕ
 pending_count waits = count_by is_pending waits
 
-state_ready_pending : (t : ℕ) (bodies : List (Option Body)) (st : State) → state_ready t bodies st ≡ true
-    → state_pending st ≡ true
-state_ready_pending t bodies (Pending mode ids) k = refl
-state_ready_pending t bodies (Answered code) k = cc
-
 pub ready_pending : (bodies : List (Option Body)) (w : Option Wait) → is_ready bodies w ≡ true → is_pending w ≡ true
 ready_pending bodies None h = cc
-ready_pending bodies (Some w) h = state_ready_pending w.thread bodies w.state h
+ready_pending bodies (Some w) h = search arith
 
 pub settled_at_end : (scene : Scene) → length scene.waits ≤ first_ready scene.objects.bodies scene.waits
     → IsSettled scene.objects.bodies scene.waits
-settled_at_end scene le = record {
-  each = λ n. elim (cases_lt n (length scene.waits)) [
-    | inl lt ↦ fails_before_first (is_ready scene.objects.bodies) scene.waits n None (omega arith)
-    | inr past ↦ ap (is_ready scene.objects.bodies) (get_or_past scene.waits n None past)
-  ];
-}
+settled_at_end scene le = search (arith, fails_before_first, get_or_past)
 
 -- what an effect does: one pending wait is answered, and nothing is signaled that was not
 pub record Answers (scene after : Scene) (n : ℕ) : Type 0 where
@@ -137,29 +126,6 @@ pub record Answers (scene after : Scene) (n : ℕ) : Type 0 where
   pub room : (limit : ℕ) → RoomKept limit wait.thread scene.objects.bodies after.objects.bodies
   pub own : get_or scene.waits n None ≡ Some wait
   pub coded : WaitWaitable (Some wait) → is_code code ≡ true
-
--- the code of a wait that is ready
-index-code : (i : ℕ) → i < 64 → is_code (i + 0) ≡ true
-index-code i lt = grind (arith, nat_tests, lt)
-
-abandoned-code : (i : ℕ) → i < 64 → is_code (i + 128) ≡ true
-abandoned-code i lt = grind (arith, nat_tests, lt)
-
-coded_as : (mode : Mode) (t : ℕ) (bodies : List (Option Body)) (ids : List Id) → IsWaitable mode ids
-    → list_ready mode t bodies ids ≡ true → is_code (code_of mode t bodies ids) ≡ true
-coded_as Any t bodies ids may ready =
-    let i = first_signaled t bodies ids in
-    let below : i < 64 = (let few = may.at_most in let lt = ltb-true i (length ids) ready in omega (arith, few, lt)) in
-    by i below (is_abandoned bodies (get_or ids i nowhere))
-  where
-    by : (i : ℕ) → i < 64 → (b : Bool) → is_code (i + cond b 128 0) ≡ true
-    by i lt true = abandoned-code i lt
-    by i lt false = index-code i lt
-coded_as All t bodies ids may ready = by (list_any (is_abandoned bodies) ids)
-  where
-    by : (b : Bool) → is_code (cond b 128 0) ≡ true
-    by true = refl
-    by false = refl
 
 answered_by : (scene : Scene) (n : ℕ) (w : Wait) (st : State) → get_or scene.waits n None ≡ Some w
     → w.state ≡ st → state_ready w.thread scene.objects.bodies st ≡ true → Answers scene (effect_of scene n w st) n
@@ -176,7 +142,7 @@ answered_by scene n w (Pending mode ids) own is ready = record {
         (room_taken limit w.thread) (λ x t other h. refl) mode ids scene.objects k t other;
   };
   own = own;
-  coded = λ may. coded_as mode w.thread scene.objects.bodies ids (subst StateWaitable is may) ready;
+  coded = search arith;
 }
 answered_by scene n w (Answered code) own is ready = absurd (cc)
 
@@ -187,16 +153,12 @@ answered_at scene n (Some w) is h = answered_by scene n w w.state is refl h
 
 pub answers : (scene : Scene) (n : ℕ) → is_ready scene.objects.bodies (get_or scene.waits n None) ≡ true
     → Answers scene (effect scene n) n
-answers scene n ready = answered_at scene n (get_or scene.waits n None) refl ready
+answers scene n ready = search (arith, answered_at)
 
 -- a number whose wait is ready is within the list, and its wait is counted as pending
 pub ready_within : (scene : Scene) (n : ℕ) → is_ready scene.objects.bodies (get_or scene.waits n None) ≡ true
     → n < length scene.waits
-ready_within scene n ready = elim (cases_lt n (length scene.waits)) [
-  | inl lt ↦ lt
-  | inr past ↦ let none =
-      ap (is_ready scene.objects.bodies) (get_or_past scene.waits n None past) in absurd (cc (none, ready))
-]
+ready_within scene n ready = search (arith, get_or_past)
 
 pub fewer : (scene : Scene) (n : ℕ) → n < length scene.waits
     → is_ready scene.objects.bodies (get_or scene.waits n None) ≡ true
@@ -204,28 +166,20 @@ pub fewer : (scene : Scene) (n : ℕ) → n < length scene.waits
 fewer scene n in' ready =
     let a = answers scene n ready in
     let f : Option Wait → ℕ = λ w. cond (is_pending w) 1 0 in
-    let one : f (get_or scene.waits n None) ≡ 1 = ap {B =
-    ℕ} (λ b. cond b 1 0) (ready_pending scene.objects.bodies (get_or scene.waits n None) ready) in
-    omega (arith, ap (sum_by f) a.waits, one, sum_by-set f scene.waits n (answered_wait a.wait a.code) None in')
+    let one : f (get_or scene.waits n None) ≡ 1 = search arith in
+    search (arith, sum_by-set)
 
 pub ready_counted : (scene : Scene) (n : ℕ) → is_ready scene.objects.bodies (get_or scene.waits n None) ≡ true
     → 0 < pending_count scene.waits
 ready_counted scene n ready =
-    let one : cond (is_pending (get_or scene.waits n None)) 1 0 ≡ 1 =
-    ap {B = ℕ} (λ b. cond b 1 0) (ready_pending scene.objects.bodies (get_or scene.waits n None) ready) in
-    omega (arith, get_or-le-sum_by (λ w. cond (is_pending w) 1 0) scene.waits n None (ready_within scene n ready), one)
+    search (arith, ready_within, get_or-le-sum_by)
 
 pub settled_step : (P : Scene → Type 0) (n : ℕ) (scene : Scene) →
     ((k : ℕ) → k < length scene.waits → is_ready scene.objects.bodies (get_or scene.waits k None) ≡ true
     → P (settled_within n (effect scene k))) →
     (length scene.waits ≤ first_ready scene.objects.bodies scene.waits → P scene) → P (settled_within (suc n) scene)
 settled_step P n scene step stop =
-    let k = first_ready scene.objects.bodies scene.waits in
-    elim (cases_lt k (length scene.waits)) [
-      | inl lt ↦ rw (lt-ltb k (length scene.waits) lt)
-          (step k lt (passes_at_first (is_ready scene.objects.bodies) scene.waits None lt))
-      | inr le ↦ rw (le-ltb k (length scene.waits) le) (stop le)
-    ]
+    search (arith, passes_at_first)
 
 -- what holds of each effect, and over one after another, holds of settling
 pub settled_by_effects : (R : Scene → Scene → Type 0) → ((s : Scene) → R s s)
@@ -242,16 +196,14 @@ settled_by_effects R same both one scene = within (length scene.waits) scene
 
 settled_enough : (n : ℕ) (scene : Scene) → pending_count scene.waits ≤ n
     → IsSettled (settled_within n scene).objects.bodies (settled_within n scene).waits
-settled_enough zero scene few = record {
-  each = λ k. false_from_ne_true _ (λ ready. omega (arith, ready_counted scene k ready));
-}
+settled_enough zero scene few = search (arith, ready_counted)
 settled_enough (suc n) scene few = settled_step (λ s. IsSettled s.objects.bodies s.waits) n scene
     (λ k lt ready. settled_enough n (effect scene k) (omega (arith, fewer scene k lt ready)))
     (settled_at_end scene)
 
 -- The theorem: what settling leaves is settled.
 pub settled_is_settled : (scene : Scene) → IsSettled (settled scene).objects.bodies (settled scene).waits
-settled_is_settled scene = settled_enough (length scene.waits) scene (count_by-le-length is_pending scene.waits)
+settled_is_settled scene = search (arith, settled_enough, count_by-le-length)
 
 -- a wait that is ready after an effect was ready before, and is another one
 pub record WasReady (scene : Scene) (n k : ℕ) : Type 0 where
@@ -266,14 +218,13 @@ was_ready scene n k ready after =
     elim (cases_eq k n) [
       | inl same ↦
           let at : get_or (effect scene n).waits k None ≡ w =
-          ap (λ ws. get_or ws k None) a.waits ∙ ap (λ i. get_or (set scene.waits n w) i None) same
-          ∙ get_or-set_same scene.waits n w None (ready_within scene n ready) in
+          search (arith, ready_within, get_or-set_same) in
           let none : is_ready (effect scene n).objects.bodies (get_or (effect scene n).waits k None) ≡ false =
-          ap (is_ready (effect scene n).objects.bodies) at in
+          search arith in
           absurd (cc (none, after))
       | inr other ↦
           let at : get_or (effect scene n).waits k None ≡ get_or scene.waits k None =
-          ap (λ ws. get_or ws k None) a.waits ∙ get_or-set_other scene.waits n k w None other in
+          search (arith, get_or-set_other) in
           record {
             before = ready_less scene.objects.bodies (effect scene n).objects.bodies a.less
                 (get_or scene.waits k None) (subst (λ x. is_ready (effect scene n).objects.bodies x ≡ true) at after);
@@ -285,8 +236,7 @@ was_ready scene n k ready after =
 pub settled_none : (fuel : ℕ) (scene : Scene) → IsSettled scene.objects.bodies scene.waits
     → settled_within fuel scene ≡ scene
 settled_none zero scene q = refl
-settled_none (suc n) scene q = settled_step (λ x. x ≡ scene) n scene (λ k lt ready. let none = q.each k in
-    absurd (cc (none, ready))) (λ le. refl)
+settled_none (suc n) scene q = settled_step (λ x. x ≡ scene) n scene (search arith) (λ le. refl)
 
 pub settled_same : (scene : Scene) → IsSettled scene.objects.bodies scene.waits → settled scene ≡ scene
 settled_same scene q = settled_none (length scene.waits) scene q
@@ -295,15 +245,11 @@ settled_same scene q = settled_none (length scene.waits) scene q
 pub first_is : (scene : Scene) (m : ℕ) → is_ready scene.objects.bodies (get_or scene.waits m None) ≡ true
     → ((k : ℕ) → k < m → is_ready scene.objects.bodies (get_or scene.waits k None) ≡ false)
     → first_ready scene.objects.bodies scene.waits ≡ m
-first_is scene m ready below = position_or_len_is (is_ready scene.objects.bodies) scene.waits m None (let lt =
-    ready_within scene m ready in omega arith) below (λ lt. ready)
+first_is scene m ready below = search (arith, ready_within, position_or_len_is)
 
 pub settled_first : (fuel : ℕ) (scene : Scene) (m : ℕ)
     → is_ready scene.objects.bodies (get_or scene.waits m None) ≡ true
     → first_ready scene.objects.bodies scene.waits ≡ m
     → settled_within (suc fuel) scene ≡ settled_within fuel (effect scene m)
 settled_first fuel scene m ready first =
-    let lt : first_ready scene.objects.bodies scene.waits < length scene.waits =
-    (let w = ready_within scene m ready in omega arith) in
-    rw (lt-ltb (first_ready scene.objects.bodies scene.waits) (length scene.waits) lt)
-    (ap (λ k. settled_within fuel (effect scene k)) first)
+    search (arith, ready_within)

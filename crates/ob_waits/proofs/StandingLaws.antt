@@ -1,22 +1,18 @@
 -- The tests of waits that are read are those that waits pass from call to call.
-use Rattle.std.proofs.Common.{◌≡◌, ℕ, zero, suc, ◌+◌, ◌<◌, ◌≤◌, ◌&&◌, ◌||◌, not, Bool, true, false, leb, ltb, List, [], ◌∷◌, length, Option, Some, None, refl, ap, ◌∙◌, sym, arith, get_or}
+use Rattle.std.proofs.Common.{◌≡◌, ℕ, zero, suc, ◌<◌, ◌≤◌, ◌||◌, not, Bool, true, false, ltb, List, [], ◌∷◌, length, Option, Some, None, refl, ap, ◌∙◌, sym, arith, get_or}
 use Rattle.std.specs.List.{list_all, list_any}
-use Rattle.std.specs.Prelude.{is_some, ◌==◌}
-use Rattle.std.proofs.lemmas.Bool.{and_from, and_parts, false_from_ne_true, le-leb, lt-leb, lt-ltb, ltb-true, or_parts}
-use Rattle.std.proofs.lemmas.Bool.Decides.{nat_tests}
+use Rattle.std.specs.Prelude.{◌==◌}
+use Rattle.std.proofs.lemmas.Bool.{and_from, and_parts, false_from_ne_true, le-leb, lt-ltb, or_parts}
 use Rattle.std.proofs.lemmas.List.Folds.{list_any_at}
-use Rattle.ob_body.specs.Timer.{is_due}
 use Rattle.pin_core.specs.declared.id.Id.{Id}
-use Rattle.ob_waits.specs.Deadlines.{AreTimely, deadline_of, state_deadline}
+use Rattle.ob_waits.specs.Deadlines.{AreTimely, deadline_of}
 use Rattle.ob_waits.specs.Form.{IsAfter}
 use Rattle.ob_waits.specs.Roster.{IsTracked, Roster}
 use Rattle.ob_waits.specs.Rules.{IsWaitable, WaitWaitable, thread_of}
 use Rattle.ob_waits.specs.Spelling.{can_be, may_list, may_stand, names_twice, one_each}
-use Rattle.ob_waits.specs.Waits.{has_slot, is_code, is_waits_of, nowhere}
+use Rattle.ob_waits.specs.Waits.{has_slot, is_waits_of, nowhere}
 use Rattle.ob_waits.specs.declared.wait.Mode.{Mode}
 use Rattle.ob_waits.specs.declared.wait.Mode.TheVariants.{Any, All}
-use Rattle.ob_waits.specs.declared.wait.State.{State}
-use Rattle.ob_waits.specs.declared.wait.State.TheVariants.{Pending, Answered}
 use Rattle.ob_waits.specs.declared.wait.Wait.{Wait}
 use Rattle.ob_waits.proofs.AddedLaws.{any_at}
 use Rattle.ob_waits.proofs.TrackedLaws.{waits_thread}
@@ -24,17 +20,17 @@ use Rattle.ob_waits.proofs.TrackedLaws.{waits_thread}
 -- lists in which no slot is named twice
 pub distinct-test : (ids : List Id) → names_twice ids ≡ false → (i j : ℕ) → i < j → j < length ids
     → (get_or ids i nowhere).slot ≡ (get_or ids j nowhere).slot → ⊥
-distinct-test [] none i j lt in' same = omega (arith, in')
-distinct-test (id ∷ ids) none i zero lt in' same = omega (arith, lt)
+distinct-test [] none i j lt in' same = omega arith
+distinct-test (id ∷ ids) none i zero lt in' same = omega arith
 distinct-test (id ∷ ids) none zero (suc j) lt in' same =
-    let first : has_slot ids id.slot ≡ false = (or_parts (has_slot ids id.slot) (names_twice ids) none).0 in
-    let here : ((get_or ids j nowhere).slot == id.slot) ≡ true = grind (arith, nat_tests, same) in
+    let first : has_slot ids id.slot ≡ false = search arith in
+    let here : ((get_or ids j nowhere).slot == id.slot) ≡ true = grind arith in
     let has : has_slot ids id.slot ≡ true = list_any_at (λ (x : Id). x.slot == id.slot) ids j nowhere
-    (omega (arith, in')) here in
+    (omega arith) here in
     cc (first, has)
 distinct-test (id ∷ ids) none (suc i) (suc j) lt in' same =
-    distinct-test ids (or_parts (has_slot ids id.slot) (names_twice ids) none).1 i j (omega (arith, lt))
-    (omega (arith, in')) same
+    distinct-test ids (or_parts (has_slot ids id.slot) (names_twice ids) none).1 i j (omega arith)
+    (omega arith) same
 
 test-distinct : (ids : List Id)
     → ((i j : ℕ) → i < j → j < length ids → (get_or ids i nowhere).slot ≡ (get_or ids j nowhere).slot → ⊥)
@@ -43,27 +39,17 @@ test-distinct [] apart = refl
 test-distinct (id ∷ ids) apart =
     ap (λ (b : Bool). b || names_twice ids) (false_from_ne_true (has_slot ids id.slot) (λ has.
     let found = any_at (λ (x : Id). x.slot == id.slot) nowhere ids has in
-    let same : (get_or ids found.0 nowhere).slot ≡ id.slot = grind (arith, nat_tests, found.2) in
+    let same : (get_or ids found.0 nowhere).slot ≡ id.slot = grind arith in
     let lt = found.1 in
-    apart zero (suc found.0) (omega arith) (omega (arith, lt)) (sym same)))
-    ∙ test-distinct ids (λ i j lt in' same. apart (suc i) (suc j) (omega (arith, lt)) (omega (arith, in')) same)
+    apart zero (suc found.0) (omega arith) (omega arith) (sym same)))
+    ∙ test-distinct ids (λ i j lt in' same. apart (suc i) (suc j) (omega arith) (omega arith) same)
 
 -- lists that may be waited for
 pub waitable : (mode : Mode) (ids : List Id) → may_list mode ids ≡ true → length ids ≤ 64 → IsWaitable mode ids
-waitable Any ids may few = record {
-  not_empty = ltb-true 0 (length ids) may;
-  at_most = few;
-  once = λ e. absurd
-      (cc (e));
-}
+waitable Any ids may few = search arith
 waitable All ids may few =
     let b = and_parts (ltb 0 (length ids)) (not (names_twice ids)) may in
-    record {
-      not_empty = ltb-true 0
-          (length ids) b.0;
-      at_most = few;
-      once = λ e. record { apart = distinct-test ids (by (names_twice ids) b.1) };
-    }
+    search (arith, distinct-test)
   where
     by : (t : Bool) → not t ≡ true → t ≡ false
     by true e = absurd cc
@@ -71,24 +57,12 @@ waitable All ids may few =
 
 may-wait : (mode : Mode) (ids : List Id) → IsWaitable mode ids → may_list mode ids ≡ true
 may-wait Any ids w = lt-ltb 0 (length ids) w.not_empty
-may-wait All ids w = and_from (ltb 0 (length ids)) (not (names_twice ids)) (lt-ltb 0 (length ids) w.not_empty)
-    (ap not (test-distinct ids (w.once refl).apart))
-
--- a deadline that is ahead
-undue : (clock : ℕ) (d : Option ℕ) → IsAfter clock d → is_due clock d ≡ false
-undue clock None h = refl
-undue clock (Some due) h = lt-leb due clock h
+may-wait All ids w = search (arith, test-distinct)
 
 -- each wait that is kept passes
 standing : (clock : ℕ) (w : Option Wait) → WaitWaitable w → IsAfter clock (deadline_of w) → may_stand clock w ≡ true
 standing clock None can ahead = refl
-standing clock (Some w) can ahead = by w.state can ahead
-  where
-    by : (s : State) → WaitWaitable (Some (record w { state = s })) → IsAfter clock (state_deadline w.deadline s)
-        → may_stand clock (Some (record w { state = s })) ≡ true
-    by (Pending mode ids) can ahead = and_from (may_list mode ids) (not (is_due clock w.deadline))
-        (may-wait mode ids can) (ap not (undue clock w.deadline ahead))
-    by (Answered code) can ahead = and_from (is_code code) true can refl
+standing clock (Some w) can ahead = search (arith, may-wait)
 
 all-stand : (clock : ℕ) (ws : List (Option Wait)) → ((n : ℕ) → may_stand clock (get_or ws n None) ≡ true)
     → list_all (may_stand clock) ws ≡ true
@@ -100,23 +74,17 @@ ones : (ws : List (Option Wait))
     → ((n m t : ℕ) → thread_of (get_or ws n None) ≡ Some t → thread_of (get_or ws m None) ≡ Some t → n ≡ m)
     → one_each ws ≡ true
 ones [] alone = refl
-ones (None ∷ ws) alone = ones ws (λ n m t p q. let e = alone (suc n) (suc m) t p q in omega (arith, e))
+ones (None ∷ ws) alone = ones ws (λ n m t p q. let e = alone (suc n) (suc m) t p q in omega arith)
 ones (Some w ∷ ws) alone = and_from (not (list_any (is_waits_of w.thread) ws)) (one_each ws)
     (ap not (false_from_ne_true (list_any (is_waits_of w.thread) ws) (λ has.
     let found = any_at (is_waits_of w.thread) None ws has in
     let own = waits_thread w.thread (get_or ws found.0 None) found.2 in
     let e : zero ≡ suc found.0 = alone zero (suc found.0) w.thread refl own in
-    absurd (omega (arith, e)))))
-    (ones ws (λ n m t p q. let e = alone (suc n) (suc m) t p q in omega (arith, e)))
+    absurd (omega arith))))
+    (ones ws (λ n m t p q. let e = alone (suc n) (suc m) t p q in omega arith))
 
 -- The theorem: the waits that are kept from call to call can be.
 pub kept_can_be : (limit clock : ℕ) (ws : List (Option Wait)) (roster : Roster) (dues : List (Option ℕ))
     → IsTracked limit ws roster → AreTimely clock ws dues → can_be limit clock ws ≡ true
 kept_can_be limit clock ws roster dues tracked timely =
-    and_from (leb (length ws) (limit + 1) && not (is_some (get_or ws 0 None)))
-    (list_all (may_stand clock) ws && one_each ws)
-    (and_from (leb (length ws) (limit + 1)) (not (is_some (get_or ws 0 None))) (le-leb _ _ tracked.at_most)
-    (ap (λ (w : Option Wait). not (is_some w)) tracked.zero_has_none))
-    (and_from (list_all (may_stand clock) ws) (one_each ws)
-    (all-stand clock ws (λ n. standing clock (get_or ws n None) (tracked.kept.each n) (timely.ahead.each n)))
-    (ones ws tracked.kept.one_each))
+    search (arith, standing, all-stand, ones, le-leb, timely.ahead.each, tracked.kept.each, tracked.zero_has_none)

@@ -3,7 +3,7 @@ use Rattle.std.proofs.Common.{◌≡◌, ℕ, zero, suc, ◌+◌, ◌-◌, ◌<�
 use Rattle.std.specs.List.{AllByRecursion, flat_map}
 use Rattle.std.specs.Prelude.{is_some}
 use Rattle.std.proofs.lemmas.Grind.{flat_map-append}
-use Rattle.std.proofs.lemmas.List.{drop_all, length-append, length-drop}
+use Rattle.std.proofs.lemmas.List.{drop_all, length-append}
 use Rattle.ob_codec.specs.Sparse.{SparseFits, entries_from}
 use Rattle.ob_waits.specs.Rows.{row_of}
 use Rattle.ob_waits.specs.Spelling.{RowFits, WaitFits, row_text}
@@ -23,12 +23,9 @@ one_row j (suc k) (x ∷ ws) = one_row j k ws
 
 no_rows : (d k : ℕ) (ws : List (Option Wait)) → ((i : ℕ) → k ≤ i → i < k + d → get_or ws i None ≡ None)
     → entries_from k (drop k ws) ≡ entries_from (k + d) (drop (k + d) ws)
-no_rows zero k ws none = ap (λ (j : ℕ). entries_from j (drop j ws)) (let e : k ≡ k + 0 = omega arith in e)
+no_rows zero k ws none = search arith
 no_rows (suc d) k ws none =
-    one_row k k ws ∙ ap (λ (w : Option Wait). row_of k w ++ entries_from (suc k) (drop (suc k) ws))
-    (none k (omega arith) (omega arith))
-    ∙ no_rows d (suc k) ws (λ i le lt. none i (omega (arith, le)) (omega (arith, lt)))
-    ∙ ap (λ (j : ℕ). entries_from j (drop j ws)) (let e : suc k + d ≡ k + suc d = omega arith in e)
+    search (arith, one_row, no_rows d (suc k) ws (λ i le lt. none i (omega arith) (omega arith)))
 
 without : (w : Option Wait) → (is_some w ≡ true → ⊥) → w ≡ None
 without None h = refl
@@ -40,21 +37,21 @@ pub row_next : (last n : ℕ) (ws : List (Option Wait)) → last < n
     → rows_behind last ws ≡ row_of n (get_or ws n None) ++ rows_behind n ws
 row_next last n ws above least =
     let d = n - suc last in
-    let e : suc last + d ≡ n = omega (arith, above) in
+    let e : suc last + d ≡ n = omega arith in
     no_rows d (suc last) ws
     (λ i le lt. without (get_or ws i None)
-    (λ has. let at = least i has (omega (arith, le)) in omega (arith, at, lt, e)))
+    (λ has. let at = least i has (omega arith) in omega arith))
     ∙ ap (λ (j : ℕ). entries_from j (drop j ws)) e ∙ one_row n n ws
 
 pub row_none : (last : ℕ) (ws : List (Option Wait)) → ((k : ℕ) → is_some (get_or ws k None) ≡ true → last < k → ⊥)
     → rows_behind last ws ≡ []
 row_none last ws none =
-    no_rows (length ws) (suc last) ws (λ i le lt. without (get_or ws i None) (λ has. none i has (omega (arith, le))))
+    no_rows (length ws) (suc last) ws (search arith)
     ∙ ap (entries_from (suc last + length ws)) (drop_all (suc last + length ws) ws (omega arith))
 
 -- at first number 0 has no row
 pub rows_all : (ws : List (Option Wait)) → get_or ws 0 None ≡ None → entries_from 0 ws ≡ rows_behind 0 ws
-rows_all ws none = one_row 0 0 ws ∙ ap (λ (w : Option Wait). row_of 0 w ++ rows_behind 0 ws) none
+rows_all ws none = search arith
 
 -- how many rows there are
 pub few_rows : (k : ℕ) (ws : List (Option Wait)) → length (entries_from k ws) ≤ length ws
@@ -63,13 +60,7 @@ few_rows k (None ∷ ws) = omega (arith, few_rows (suc k) ws)
 few_rows k (Some w ∷ ws) = omega (arith, few_rows (suc k) ws)
 
 pub all_rows_few : (ws : List (Option Wait)) → get_or ws 0 None ≡ None → length (entries_from 0 ws) ≤ length ws - 1
-all_rows_few ws none = let e = ap length (rows_all ws none) in let f = few_rows 1 (drop 1 ws) in omega
-    (arith, e, f, length-drop 1 ws)
-
-all_fit : (xs ys : List (ℕ × Wait)) → AllByRecursion RowFits xs → AllByRecursion RowFits ys
-    → AllByRecursion RowFits (xs ++ ys)
-all_fit [] ys a b = b
-all_fit (x ∷ xs) ys a b = (a.0, all_fit xs ys a.1 b)
+all_rows_few ws none = search (arith, rows_all, few_rows)
 
 -- what is written with what is still to be written, and how much that is
 pub record Written (last count : ℕ) (out before : List ℕ) (ws : List (Option Wait)) : Type 0 where
@@ -89,9 +80,9 @@ written_next last n count more out out' before ws above least text is fit w = re
       (sym (ap (flat_map row_text) next ∙ flat_map-append row_text (row_of n (get_or ws n None)) (rows_behind n ws)))
       ∙ w.text;
   many = let e = ap length next in let l = length-append (row_of n (get_or ws n None))
-      (rows_behind n ws) in let c = w.many in omega (arith, e, l, c, is);
+      (rows_behind n ws) in let c = w.many in omega arith;
   fits = λ all. w.fits (subst (λ (rows : List (ℕ × Wait)). AllByRecursion RowFits rows) (sym next)
-      (all_fit (row_of n (get_or ws n None)) (rows_behind n ws) fit all));
+      (search arith));
 }
   where
     next : rows_behind last ws ≡ row_of n (get_or ws n None) ++ rows_behind n ws
@@ -101,12 +92,4 @@ written_next last n count more out out' before ws above least text is fit w = re
 pub rows_fit : (ws : List (Option Wait)) (given : ℕ) → get_or ws 0 None ≡ None → length ws ≡ given + 1 → given < 2 ^ 32
     → AllByRecursion RowFits (entries_from 0 ws) → SparseFits WaitFits ws
 rows_fit ws given none len range fits =
-    record {
-      not_empty = omega
-          (arith, len);
-      each = (
-        omega
-            (arith, len, range),
-        (let few = all_rows_few ws none in omega (arith, few, len, range), fits),
-      );
-    }
+    search (arith, all_rows_few)

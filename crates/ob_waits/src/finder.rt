@@ -141,6 +141,7 @@ impl Finder {
 
     /// Doubles the places.
     #[cold]
+    #[tactic(auto, using(crate::proofs::PlaceLaws::apart_wide))]
     fn widen(&mut self) -> Result<(), AllocError>
         requires finder { IsFinder self.old }
         requires fits { self.old.mask < 8589934592 }

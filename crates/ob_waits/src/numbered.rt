@@ -47,6 +47,7 @@ impl Numbered {
     }
 
     /// The last number given, or 0.
+    #[tactic(auto, using(crate::proofs::ListedLaws::length_listed))]
     pub(crate) fn given(&self) -> u32
         ensures { length self.now ≡ result + 1 }
     {
@@ -54,6 +55,7 @@ impl Numbered {
     }
 
     /// The wait of a number.
+    #[tactic(auto, using(crate::proofs::SeatLaws::number_reads))]
     pub(crate) fn get(&self, number: u32) -> Option<&Wait>
         ensures { option_copied result ≡ slice_index_or self.now number None }
     {
@@ -64,6 +66,7 @@ impl Numbered {
     }
 
     /// The number of a thread's wait.
+    #[tactic(auto, using(crate::proofs::SeatLaws::number_held_is, crate::proofs::SeatLaws::number_held))]
     pub(crate) fn number_of(&self, thread: u32) -> Option<u32>
         ensures number { result ≡ number_of thread self.now }
         ensures own { (n : ℕ) → thread_of (slice_index_or self.now n None) ≡ Some thread → result ≡ Some n }

@@ -39,6 +39,7 @@ fn ends_with(numbers: &[u32], number: u32) -> bool
 }
 
 /// Moves the numbers of pending waits to the end of a range; answers where they begin.
+#[tactic(auto, using(std::proofs::lemmas::List::get_or_default, crate::proofs::NumberLaws::sift_left))]
 fn sift(numbers: &mut Vec<u32>, live: &Live, start: usize, end: usize) -> usize
     requires in_order { start ≤ end }
     requires within { end ≤ length numbers.old.items }
@@ -79,6 +80,7 @@ impl Numbers {
     }
 
     /// Puts a number in that is not below any that is there.
+    #[tactic(auto, using(crate::proofs::NumberLaws::within_end))]
     pub(crate) fn enter(&mut self, number: u32) -> Result<(), AllocError>
         requires { IsOrdered number self.old }
         ensures ordered { IsOrdered number self.new }
@@ -125,6 +127,7 @@ impl Numbers {
     }
 
     /// Drops the first numbers as far as their waits are not pending.
+    #[tactic(auto, using(std::proofs::lemmas::List::get_or_default, crate::proofs::NumberLaws::thins_both, crate::proofs::NumberLaws::thins_first))]
     pub(crate) fn advance(&mut self, live: &Live)
         ensures { Thins live.now self.old self.new }
     {

@@ -48,6 +48,7 @@ fn take_effect<B: Bodies>(live: &mut Live, bodies: &mut B, number: u32)
 }
 
 /// The waits of these numbers take effect, in this order, where they are ready when their turn comes.
+#[tactic(auto, using(crate::proofs::PassLaws::covered_all))]
 pub(crate) fn pass<B: Bodies>(live: &mut Live, bodies: &mut B, numbers: &[u32])
     requires fits { Fits RECURSION_MAX (B.objects bodies.old).bodies live.old }
     requires rising { IsRising numbers.now }

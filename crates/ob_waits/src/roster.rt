@@ -51,6 +51,7 @@ impl Roster {
     }
 
     /// Takes all memory that a wait for these objects needs here.
+    #[tactic(auto, using(crate::proofs::RosterLaws::index_ready, crate::proofs::RosterLaws::order_ready))]
     pub(crate) fn make_room(
         &mut self,
         live: &Live,

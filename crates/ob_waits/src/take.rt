@@ -78,6 +78,7 @@ fn take_all<B: Bodies>(bodies: &mut B, thread: u32, ids: &[Id]) -> bool
 
 /// Takes the first object that is signaled, if there is one, and gives the code.
 #[inline(always)]
+#[tactic(auto, using(std::proofs::lemmas::List::Sums::passes_at_first))]
 fn take_any<B: Bodies>(bodies: &mut B, thread: u32, ids: &[Id]) -> Option<u32>
     requires at_most { length ids.now ≤ 64 }
     requires room { HasRoom RECURSION_MAX thread (B.objects bodies.old).bodies ids.now }

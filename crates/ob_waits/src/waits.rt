@@ -424,6 +424,7 @@ impl Waits {
 
     /// Takes the wait of a thread away, pending or answered, if it has one. The caller tells the blocks of a pending
     /// one as for [`expire`](Waits::expire).
+    #[tactic(auto, using(crate::proofs::Counted::dropped_missing, crate::proofs::Counted::dropped_found))]
     pub fn drop_thread(&mut self, thread: u32)
         ensures { self.new ≡ without_thread self.old thread }
     {

@@ -43,6 +43,7 @@ fn write_row(live: &Live, number: u32, out: &mut Vec<u8>) -> Result<u32, AllocEr
 }
 
 /// Writes all waits, each behind its number, and gives how many they are.
+#[tactic(auto, using(crate::proofs::WriteLaws::row_none))]
 pub(crate) fn write_rows(live: &Live, order: &[u32], out: &mut Vec<u8>) -> Result<u32, AllocError>
     requires rising { IsRising order.now }
     requires all { HasAll is_pending order.now live.now }

@@ -1,11 +1,10 @@
 use Rattle.std.proofs.Common.{◌≡◌, ◌<◌, ◌-◌, ℕ, List, arith, get_or, length, rules}
-use Rattle.std.proofs.lemmas.Bool.Decides.{nat_tests}
 use Rattle.ob_waits.proofs.AnswerLaws.{above_all}
 use Rattle.ob_waits.proofs.fresh.is_above.Goals as goal
 
 pub returns-in-Some : goal.returns-in-Some
 returns-in-Some c = λ rising above.
     let ns : List ℕ = c.args.numbers.now in
-    let lt : c.in-Some.last.now < c.args.number = grind (arith, nat_tests, above) in
+    let lt : c.in-Some.last.now < c.args.number = grind arith in
     let at : get_or ns (length ns - 1) 0 ≡ c.in-Some.last.now = search rules in
-    above_all ns c.args.number (λ some. omega (arith, at, lt)) rising
+    above_all ns c.args.number (λ some. omega arith) rising

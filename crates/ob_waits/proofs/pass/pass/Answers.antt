@@ -1,8 +1,7 @@
-use Rattle.std.proofs.Common.{◌<◌, ◌+◌, ◌∷◌, [], ◌∙◌, ap, get_or, length, rules, subst, sym, drop}
-use Rattle.ob_waits.specs.Rules.{Covers}
+use Rattle.std.proofs.Common.{◌<◌, ◌∷◌, [], ◌∙◌, ap, get_or, length, rules, arith}
 use Rattle.ob_waits.specs.Waits.{Scene, settled}
 use Rattle.ob_waits.proofs.Keeping.{fits_passed}
-use Rattle.ob_waits.proofs.PassLaws.{covered_all, steps_on}
+use Rattle.ob_waits.proofs.PassLaws.{steps_on}
 use Rattle.ob_waits.proofs.pass.pass.Goals as goal
 
 pub loop-number-preserved : goal.loop-number-preserved
@@ -17,14 +16,7 @@ loop-number-preserved g c =
     record {
       same = ap settled is ∙ step.same ∙ c.loop-number.invariant.same;
       rest = c.take_effect.ensures.rest ∙ c.loop-number.invariant.rest;
-      covers = subst (λ (s : Scene). Covers (drop (c.loop-number.number-index + 1) c.args.numbers.now) s)
-          (sym is) step.covers;
+      covers = search arith;
       fits = fits_passed 2147483647 (get_or c.args.numbers.now c.loop-number.number-index 0
           ∷ []) scene after is c.loop-number.invariant.fits;
     }
-
-pub returns-clause-scene : goal.returns-clause-scene
-returns-clause-scene g c =
-    let scene : Scene = record { objects = g.B.Bodies.objects c.loop-number.bodies; waits = c.loop-number.live } in
-    sym (covered_all c.args.numbers.now c.loop-number.number-index scene (search rules) c.loop-number.invariant.covers)
-    ∙ c.loop-number.invariant.same

@@ -1,23 +1,14 @@
-use Rattle.std.proofs.Common.{◌≡◌, ◌<◌, ◌+◌, ◌∷◌, [], ◌∙◌, List, ℕ, ap, drop, eqb, get_or, length, refl, rules, subst, sym, arith}
-use Rattle.std.proofs.lemmas.Bool.Decides.{nat_tests}
+use Rattle.std.proofs.Common.{◌≡◌, ◌<◌, ◌∷◌, [], ◌∙◌, List, ℕ, ap, eqb, get_or, length, rules, subst, sym, arith}
 use Rattle.ob_waits.specs.Numbers.{numbers_of}
-use Rattle.ob_waits.specs.Rules.{Covers, IsReadyBy, IsSpent}
+use Rattle.ob_waits.specs.Rules.{IsReadyBy, IsSpent}
 use Rattle.ob_waits.specs.Waits.{Scene, passed, settled}
-use Rattle.ob_waits.proofs.Keeping.{Fade, fade_both, fade_none, fits_passed, passed_fades}
+use Rattle.ob_waits.proofs.Keeping.{Fade, fade_both, fits_passed, passed_fades}
 use Rattle.ob_waits.proofs.PassLaws.{by_passed, covered_all, covers_slot, settled_spent, steps_on}
 use Rattle.ob_waits.proofs.Settling.{settled_same}
 use Rattle.ob_waits.proofs.pass.pass_slot.Goals as goal
 
 pub loop-at-init : goal.loop-at-init
-loop-at-init g c = record {
-  same = refl;
-  rest = refl;
-  covers = covers_slot (g.B.Bodies.objects c.args.bodies.now) c.args.id.slot c.args.live.now c.args.roster.now.order
-      c.args.roster.now.index c.requires.ready c.requires.right;
-  fits = c.requires.fits;
-  ready = c.requires.ready;
-  fade = fade_none c.args.live.now;
-}
+loop-at-init g c = search (arith, covers_slot)
 
 pub loop-at-preserved : goal.loop-at-preserved
 loop-at-preserved g c =
@@ -33,10 +24,10 @@ loop-at-preserved g c =
     record {
       same = ap settled is ∙ step.same ∙ c.loop-at.invariant.same;
       rest = c.take_effect.ensures.rest ∙ c.loop-at.invariant.rest;
-      covers = subst (λ (s : Scene). Covers (drop (c.loop-at.at + 1) ns) s) (sym is) step.covers;
+      covers = search arith;
       fits = fits_passed 2147483647 (get_or ns c.loop-at.at 0 ∷ []) scene after is c.loop-at.invariant.fits;
       ready = subst (λ (s : Scene). IsReadyBy (λ k. eqb k c.args.id.slot) s.objects.bodies s.waits) (sym is)
-          (by_passed (λ k. eqb k c.args.id.slot) (get_or ns c.loop-at.at 0) scene c.loop-at.invariant.ready);
+          (search (arith, by_passed));
       fade = subst (λ (s : Scene). Fade c.args.live.now s.waits) (sym is)
           (fade_both c.args.live.now scene.waits next.waits c.loop-at.invariant.fade
           (passed_fades (get_or ns c.loop-at.at 0 ∷ []) scene));
@@ -48,12 +39,10 @@ returns-then-not-is_open-clause-scene g c =
     let spent : IsSpent scene.objects.bodies scene.waits c.args.id.slot = c.is_open.ensures (search rules) in
     sym (settled_same scene (settled_spent (λ k. eqb k c.args.id.slot) scene.objects.bodies scene.waits
     c.loop-at.invariant.ready
-    (λ k is. let same : c.args.id.slot ≡ k = grind (arith, nat_tests, is) in
+    (λ k is. let same : c.args.id.slot ≡ k = grind arith in
     subst (IsSpent scene.objects.bodies scene.waits) same spent)))
     ∙ c.loop-at.invariant.same
 
 pub returns-clause-scene : goal.returns-clause-scene
 returns-clause-scene g c =
-    let scene : Scene = record { objects = g.B.Bodies.objects c.loop-at.bodies; waits = c.loop-at.live } in
-    sym (covered_all (numbers_of c.args.roster.now.index c.args.id.slot) c.loop-at.at scene
-    (search rules) c.loop-at.invariant.covers) ∙ c.loop-at.invariant.same
+    search (arith, covered_all)

@@ -1,8 +1,5 @@
-use Rattle.std.proofs.Common.{◌++◌, ◌∙◌, List, ℕ, ap, arith, length, subst, sym}
-use Rattle.std.specs.List.{AllByRecursion, flat_map}
+use Rattle.std.proofs.Common.{arith}
 use Rattle.std.proofs.lemmas.List.{append-nil}
-use Rattle.ob_waits.specs.Spelling.{RowFits, row_text}
-use Rattle.ob_waits.specs.declared.wait.Wait.{Wait}
 use Rattle.ob_waits.proofs.WriteLaws.{all_rows_few, row_none, written_next}
 use Rattle.ob_waits.proofs.writing.write_rows.Goals as goal
 
@@ -23,23 +20,8 @@ overflow_add-count c =
     let few = all_rows_few c.args.live.now c.requires.none in
     let given = c.given-given.ensures in
     let range = c.given-given.type_inv in
-    omega (arith, many, few, given, range)
+    omega arith
 
 pub returns-clause-text : goal.returns-clause-text
 returns-clause-text c =
-    let none = row_none c.loop-number.last c.args.live.now c.in_default.ensures.least in
-    sym (append-nil c.loop-number.out.items)
-    ∙ ap (λ (rows : List (ℕ × Wait)). c.loop-number.out.items ++ flat_map row_text rows) (sym none)
-    ∙ c.loop-number.invariant.text
-
-pub returns-clause-count : goal.returns-clause-count
-returns-clause-count c =
-    let none = ap length (row_none c.loop-number.last c.args.live.now c.in_default.ensures.least) in
-    let many = c.loop-number.invariant.many in
-    omega (arith, none, many)
-
-pub returns-clause-fits : goal.returns-clause-fits
-returns-clause-fits c =
-    c.loop-number.invariant.fits
-    (subst (λ (rows : List (ℕ × Wait)). AllByRecursion RowFits rows)
-    (sym (row_none c.loop-number.last c.args.live.now c.in_default.ensures.least)) tt)
+    search (arith, append-nil, row_none)

@@ -1,4 +1,4 @@
-use Rattle.std.proofs.Common.{List, Option, subst, sym}
+use Rattle.std.proofs.Common.{List, Option, subst, sym, arith}
 use Rattle.ob_waits.specs.declared.wait.Wait.{Wait}
 use Rattle.ob_waits.specs.Answers.{AreTold}
 use Rattle.ob_waits.proofs.AnswerLaws.{told_added}
@@ -9,8 +9,7 @@ invariant_of-self c = c.make_room.ensures.told c.self.inside.waits c.self.invari
 
 pub invariant_of-self-in_err-push : goal.invariant_of-self-in_err-push
 invariant_of-self-in_err-push c =
-    subst (λ (ws : List (Option Wait)). AreTold ws c.make_room.new.self) (sym c.in_err-push.ensures.err)
-    (c.make_room.ensures.told c.self.inside.waits c.self.invariant)
+    search (arith, c.in_err-push.ensures.err, c.make_room.ensures.told)
 
 pub invariant_of-self-2 : goal.invariant_of-self-2
 invariant_of-self-2 c =

@@ -1,7 +1,7 @@
 use Rattle.std.proofs.Common.{◌≡◌, ◌++◌, ◌∷◌, [], List, Option, Some, ap, arith, length, subst, sym}
 use Rattle.std.proofs.lemmas.List.{length_push}
 use Rattle.ob_waits.specs.declared.wait.Wait.{Wait}
-use Rattle.ob_waits.specs.Answers.{AreTold, AreToldBut}
+use Rattle.ob_waits.specs.Answers.{AreToldBut}
 use Rattle.ob_waits.proofs.AnswerLaws.{told_came}
 use Rattle.ob_waits.proofs.live.Live.push_answered.Goals as goal
 
@@ -10,8 +10,7 @@ invariant_of-self c = c.make_room.ensures.told c.self.inside.waits c.self.invari
 
 pub invariant_of-self-in_err-push : goal.invariant_of-self-in_err-push
 invariant_of-self-in_err-push c =
-    subst (λ (ws : List (Option Wait)). AreTold ws c.make_room.new.self) (sym c.in_err-push.ensures.err)
-    (c.make_room.ensures.told c.self.inside.waits c.self.invariant)
+    search (arith, c.in_err-push.ensures.err, c.make_room.ensures.told)
 
 pub came-requires-clause-told : goal.came-requires-clause-told
 came-requires-clause-told c =

@@ -1,4 +1,4 @@
-use Rattle.std.proofs.Common.{◌∙◌, List, None, Option, ap, get_or, set, sym}
+use Rattle.std.proofs.Common.{◌∙◌, List, None, Option, ap, get_or, set, arith}
 use Rattle.ob_waits.specs.declared.wait.Wait.{Wait}
 use Rattle.ob_waits.specs.Rules.{thread_of}
 use Rattle.ob_waits.specs.Seats.{found, thread_at}
@@ -26,5 +26,4 @@ returns c n own =
     (thread_at s.finder) c.self.invariant.0 at.0 c.args.code c.answer.ensures)
     ∙ ap (λ ws. set ws n (answered (f n) c.args.code)) c.self.view_is
     ∙ ap (λ o. set c.args.self.now n (answered o c.args.code))
-    (sym (number_reads s.given s.seats.items (thread_at s.finder) c.self.invariant.0 n)
-    ∙ ap (λ ws. get_or ws n None) c.self.view_is)
+    (search (arith, number_reads))

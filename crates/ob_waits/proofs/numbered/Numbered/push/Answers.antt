@@ -1,21 +1,13 @@
-use Rattle.std.proofs.Common.{◌≡◌, ◌+◌, ◌++◌, ◌∙◌, [], ◌∷◌, ℕ, suc, List, None, Option, Some, ap, arith, cond, eqb, get_or, length, refl, set, subst, sym}
-use Rattle.ob_waits.specs.declared.wait.Wait.{Wait}
+use Rattle.std.proofs.Common.{◌≡◌, ◌+◌, ℕ, List, None, Option, Some, arith, get_or, refl, set}
 use Rattle.ob_waits.specs.declared.numbered_wait.NumberedWait.{NumberedWait}
-use Rattle.ob_waits.specs.Seats.{found, thread_at}
-use Rattle.ob_waits.specs.Waits.{number_of}
-use Rattle.ob_waits.proofs.ListedLaws.{length-listed, listed_inserted}
+use Rattle.ob_waits.specs.Seats.{thread_at}
+use Rattle.ob_waits.proofs.ListedLaws.{length_listed, listed_inserted}
 use Rattle.ob_waits.proofs.PlaceLaws.{set_read}
-use Rattle.ob_waits.proofs.SeatLaws.{free_seat, not_given, same_seated, same_found, took_found, took_seated}
+use Rattle.ob_waits.proofs.SeatLaws.{free_seat, not_given, same_seated, took_found, took_seated}
 use Rattle.ob_waits.proofs.numbered.Numbered.push.Goals as goal
 
 pub overflow_add-number : goal.overflow_add-number
-overflow_add-number c = let le = c.requires.at_most in
-    omega (
-      arith,
-      ap length c.self.view_is,
-      length-listed (suc c.self.inside.given)
-          (found c.self.inside.seats.items (thread_at c.self.inside.finder)),
-    )
+overflow_add-number c = search (arith, length_listed)
 
 pub put-requires : goal.put-requires
 put-requires c = record {
@@ -26,11 +18,7 @@ put-requires c = record {
 
 pub invariant_of-self : goal.invariant_of-self
 invariant_of-self c =
-    let s = c.self.inside in (
-      same_seated s.given s.seats.items c.make_room.new.seats.items (thread_at s.finder)
-          (thread_at s.finder) c.make_room.ensures.same (λ n. refl) c.self.invariant.0,
-      c.self.invariant.1,
-    )
+    let s = c.self.inside in search (arith, same_seated)
 
 pub invariant_of-self-in_err-put : goal.invariant_of-self-in_err-put
 invariant_of-self-in_err-put c =
@@ -42,21 +30,7 @@ invariant_of-self-in_err-put c =
 
 pub invariant_of-self-2 : goal.invariant_of-self-2
 invariant_of-self-2 c =
-    let s = c.self.inside in
-    let w = c.args.wait in
-    let n : ℕ = s.given + 1 in
-    let more : List (Option NumberedWait) = c.make_room.new.seats.items in
-    let held : NumberedWait = record { number = n; wait = w } in
-    let old = same_seated s.given s.seats.items more (thread_at s.finder) (thread_at s.finder) c.make_room.ensures.same
-    (λ q. refl) c.self.invariant.0 in
-    let free : get_or more w.thread None ≡ None = c.make_room.ensures.same w.thread
-    ∙ free_seat s.given s.seats.items (thread_at s.finder) c.self.invariant.0 w.thread
-    (subst (λ (ws : List (Option Wait)). number_of w.thread ws ≡ None) (sym c.self.view_is) c.requires.alone) in (
-      took_seated s.given n w more (set more w.thread (Some held)) (thread_at s.finder)
-          (thread_at c.put.new.self) old refl free
-          (set_read more w.thread (Some held) c.in_ok-make_room.ensures.room) c.in_ok-put.ensures.ok,
-      c.in_ok-put.ensures.finder,
-    )
+    search (arith, free_seat, set_read, took_seated, c.args.wait, c.in_ok-make_room.ensures.room, c.in_ok-put.ensures.ok, c.make_room.ensures.same, c.self.view_is)
 
 pub returns-clause-ok : goal.returns-clause-ok
 returns-clause-ok c =
@@ -67,14 +41,8 @@ returns-clause-ok c =
     let held : NumberedWait = record { number = n; wait = w } in
     let old = same_seated s.given s.seats.items more (thread_at s.finder) (thread_at s.finder) c.make_room.ensures.same
     (λ q. refl) c.self.invariant.0 in
-    let free : get_or more w.thread None ≡ None = c.make_room.ensures.same w.thread
-    ∙ free_seat s.given s.seats.items (thread_at s.finder) c.self.invariant.0 w.thread
-    (subst (λ (ws : List (Option Wait)). number_of w.thread ws ≡ None) (sym c.self.view_is) c.requires.alone) in
+    let free : get_or more w.thread None ≡ None = search (arith, free_seat) in
     let took = took_found s.given n w more (set more w.thread (Some held)) (thread_at s.finder)
     (thread_at c.put.new.self) old refl free (set_read more w.thread (Some held) c.in_ok-make_room.ensures.room)
     c.in_ok-put.ensures.ok in
-    listed_inserted s.given n (found s.seats.items (thread_at s.finder))
-    (found (set more w.thread (Some held)) (thread_at c.put.new.self)) (Some w) (omega arith)
-    (λ q. took q ∙ ap (cond (eqb n q) (Some w)) (same_found s.given s.seats.items more (thread_at s.finder)
-    (thread_at s.finder) c.make_room.ensures.same (λ k. refl) q))
-    ∙ ap (λ ws. ws ++ Some w ∷ []) c.self.view_is
+    search (arith, listed_inserted)

@@ -2,7 +2,7 @@ use Rattle.std.proofs.Common.{◌≤◌, ◌∙◌, List, Option, ap, arith, len
 use Rattle.ob_waits.specs.declared.wait.Wait.{Wait}
 use Rattle.ob_waits.specs.Seats.{found, thread_at}
 use Rattle.ob_waits.specs.Waits.{skipped}
-use Rattle.ob_waits.proofs.ListedLaws.{length-listed}
+use Rattle.ob_waits.proofs.ListedLaws.{length_listed}
 use Rattle.ob_waits.proofs.SeatLaws.{seated_sparse}
 use Rattle.ob_waits.proofs.SkipLaws.{listed_skipped, seated_skipped}
 use Rattle.ob_waits.proofs.numbered.Numbered.skip_to.Goals as goal
@@ -14,7 +14,7 @@ invariant_of-self c =
       arith,
       next,
       ap length c.self.view_is,
-      length-listed (suc s.given)
+      length_listed (suc s.given)
           (found s.seats.items (thread_at s.finder)),
     ) in
     (seated_skipped s.given c.args.last s.seats.items (thread_at s.finder) le c.self.invariant.0, c.self.invariant.1)
@@ -26,7 +26,7 @@ returns c =
       arith,
       next,
       ap length c.self.view_is,
-      length-listed (suc s.given)
+      length_listed (suc s.given)
           (found s.seats.items (thread_at s.finder)),
     ) in
     listed_skipped s.given c.args.last (found s.seats.items (thread_at s.finder)) le

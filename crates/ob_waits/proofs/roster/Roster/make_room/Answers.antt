@@ -1,4 +1,4 @@
-use Rattle.ob_waits.proofs.RosterLaws.{index_ready, index_thinned, order_ready, order_thinned}
+use Rattle.ob_waits.proofs.RosterLaws.{index_thinned, order_ready, order_thinned}
 use Rattle.ob_waits.proofs.roster.Roster.make_room.Goals as goal
 
 pub enter-requires : goal.enter-requires
@@ -12,15 +12,3 @@ pub enter_all-requires : goal.enter_all-requires
 enter_all-requires c = record {
   ordered = index_thinned c.self.view_is c.requires.right c.requires.next c.thin_all.ensures;
 }
-
-pub returns-in_err-enter_all-clause-right : goal.returns-in_err-enter_all-clause-right
-returns-in_err-enter_all-clause-right c = index_ready c.self.view_is c.requires.right c.requires.next
-    (order_ready c.self.view_is c.requires.right c.requires.next c.thin_if_due.ensures
-    c.in_ok-enter.ensures.ordered c.in_ok-enter.ensures.keeps)
-    c.thin_all.ensures c.in_err-enter_all.ensures.ordered c.in_err-enter_all.ensures.keeps
-
-pub returns-clause-right : goal.returns-clause-right
-returns-clause-right c = index_ready c.self.view_is c.requires.right c.requires.next
-    (order_ready c.self.view_is c.requires.right c.requires.next c.thin_if_due.ensures
-    c.in_ok-enter.ensures.ordered c.in_ok-enter.ensures.keeps)
-    c.thin_all.ensures c.in_ok-enter_all.ensures.ordered c.in_ok-enter_all.ensures.keeps

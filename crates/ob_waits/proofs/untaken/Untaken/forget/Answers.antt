@@ -1,4 +1,4 @@
-use Rattle.std.proofs.Common.{◌≡◌, ◌≢◌, None, Some, List, Option, ℕ, get_or, rules, set, subst, sym}
+use Rattle.std.proofs.Common.{◌≡◌, ◌≢◌, None, Some, List, Option, ℕ, get_or, rules, set, subst, sym, arith}
 use Rattle.ob_waits.specs.Answers.{Untaken, AreTold}
 use Rattle.ob_waits.proofs.AnswerLaws.{told_cleared, told_gone}
 use Rattle.ob_waits.proofs.untaken.Untaken.forget.Goals as goal
@@ -11,14 +11,10 @@ returns-then-eq c = λ waits own told.
       fresh = c.self.inside.fresh;
       late = l;
     })) (sym c.clear.ensures)
-    (told_cleared waits c.args.number c.args.thread own u at (subst (AreTold waits) (sym c.self.view_is) told))
+    (told_cleared waits c.args.number c.args.thread own u at (search arith))
 
 pub returns-else-eq : goal.returns-else-eq
 returns-else-eq c = λ waits own told.
     let free : get_or c.self.inside.late c.args.thread None ≢ Some c.args.number = λ same. search rules in
     subst (AreTold (set waits c.args.number None)) c.self.view_is
-    (told_gone waits c.args.number c.args.thread own (record {
-      fresh = c.self.inside.fresh;
-      late = c.self.inside.late;
-    }) free
-    (subst (AreTold waits) (sym c.self.view_is) told))
+    (search (arith, told_gone, c.self.view_is))

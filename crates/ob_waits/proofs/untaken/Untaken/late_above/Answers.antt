@@ -11,7 +11,7 @@ overflow_cast-result c =
     has_wait c.args.waits.now c.in_ok-number.number at.0 (told.late at.0 c.in_ok-number.number at.1).0 in
     let given = c.given-given.ensures in
     let range = c.given-given.type_inv in
-    omega (arith, lt, given, range)
+    omega arith
 
 pub returns-clause-answered : goal.returns-clause-answered
 returns-clause-answered c =

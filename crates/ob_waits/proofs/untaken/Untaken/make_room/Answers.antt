@@ -1,8 +1,7 @@
-use Rattle.std.proofs.Common.{subst, sym}
-use Rattle.ob_waits.specs.Answers.{AreTold}
+use Rattle.std.proofs.Common.{arith}
 use Rattle.ob_waits.proofs.AnswerLaws.{told_room}
 use Rattle.ob_waits.proofs.untaken.Untaken.make_room.Goals as goal
 
 pub returns-clause-told : goal.returns-clause-told
 returns-clause-told c waits told = told_room c.make_room.ensures c.make_room-2.ensures.same
-    c.make_room-2.ensures.longer (subst (AreTold waits) (sym c.self.view_is) told)
+    c.make_room-2.ensures.longer (search arith)

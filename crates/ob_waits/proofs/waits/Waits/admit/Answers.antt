@@ -1,6 +1,4 @@
-use Rattle.std.proofs.Common.{◌≡◌, ◌≤◌, ◌+◌, ◌++◌, [], ◌∷◌, None, Some, List, Option, false, ap, subst, sym, ◌∙◌, arith, length}
-use Rattle.std.proofs.lemmas.Bool.Decides.{nat_tests}
-use Rattle.pin_core.specs.declared.id.Id.{Id}
+use Rattle.std.proofs.Common.{◌≡◌, ◌≤◌, ◌+◌, ◌++◌, [], ◌∷◌, None, Some, List, Option, false, subst, sym, arith, length}
 use Rattle.ob_waits.specs.declared.wait.Wait.{Wait}
 use Rattle.ob_waits.specs.Waits.{new_wait, WaitList, number_of, is_full}
 use Rattle.ob_waits.specs.Roster.{IsTracked}
@@ -18,11 +16,10 @@ invariant_of-self-2 c =
     subst (λ (l : WaitList). number_of c.args.thread l.waits ≡ None) (sym c.self.view_is) c.requires.alone in
     let full : is_full (record { limit = c.self.inside.limit; waits = c.self.inside.live; clock = c.self.inside.clock })
     ≡ false = subst (λ (l : WaitList). is_full l ≡ false) (sym c.self.view_is) c.requires.below_limit in
-    let below : number ≤ c.self.inside.limit = grind (arith, nat_tests, full, len) in
+    let below : number ≤ c.self.inside.limit = grind arith in
     let waits : c.push.new.self ≡ c.self.inside.live
     ++ Some (new_wait c.args.thread c.args.mode c.args.ids.now c.args.deadline) ∷ [] =
-    c.in_ok-push.ensures.ok ∙ ap (λ (ids : List Id). c.self.inside.live
-    ++ Some (new_wait c.args.thread c.args.mode ids c.args.deadline) ∷ []) c.in_ok-list.ensures in
+    search arith in
     subst (λ (ws : List (Option Wait)). IsTracked c.self.inside.limit ws c.make_room.new.self
     × AreTimely c.self.inside.clock ws c.set.new.self) (sym waits) (
       tracked_added c.self.inside.limit c.self.inside.live c.self.inside.roster c.make_room.new.self number

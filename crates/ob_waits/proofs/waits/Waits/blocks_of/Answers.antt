@@ -11,14 +11,7 @@ blocks_of-requires c =
     let few = c.self.invariant.0.at_most in
     let fits = c.self.invariant.0.limit_fits in
     let same = ap (length {A = ℕ}) c.numbers.ensures in
-    omega (
-      arith,
-      length-ordered (length c.self.inside.live)
-          (numbers_of c.self.inside.roster.index c.args.id.slot) numbers,
-      same,
-      few,
-      fits,
-    )
+    search (arith, length-ordered)
 
 pub returns : goal.returns
 returns c =
@@ -27,5 +20,5 @@ returns c =
     ∙ ap (sum_by (λ (n : ℕ). blocks_in c.args.id (get_or c.self.inside.live n None))) c.numbers.ensures
     ∙ sum_numbers (blocks_in c.args.id) refl (numbers_of c.self.inside.roster.index c.args.id.slot) c.self.inside.live
     (lists.index_rises.each c.args.id.slot).rising
-    (λ n some. (lists.index_all c.args.id.slot).each n (blocks_named c.args.id (get_or c.self.inside.live n None) some))
+    (search (arith, blocks_named))
     ∙ ap (λ (l : WaitList). blocks_among c.args.id l.waits) c.self.view_is

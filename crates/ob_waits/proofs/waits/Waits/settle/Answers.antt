@@ -1,18 +1,11 @@
-use Rattle.std.proofs.Common.{List, ℕ, ap, subst, sym}
-use Rattle.ob_waits.specs.Rules.{Covers, IsRising}
+use Rattle.std.proofs.Common.{ap, subst, sym}
+use Rattle.ob_waits.specs.Rules.{IsRising}
 use Rattle.ob_waits.specs.Waits.{WaitList}
 use Rattle.ob_waits.proofs.SettleLaws.{kept_after, room_settled, settled_after, value_seen}
-use Rattle.ob_waits.proofs.PassLaws.{covers_order}
 use Rattle.ob_waits.proofs.waits.Waits.settle.Goals as goal
 
 pub pass-requires-clause-rising : goal.pass-requires-clause-rising
 pass-requires-clause-rising g c = subst IsRising (sym c.order.ensures) c.self.invariant.0.right.order_rises.rising
-
-pub pass-requires-clause-covers : goal.pass-requires-clause-covers
-pass-requires-clause-covers g c = subst (λ (ns : List ℕ). Covers ns
-    (record { objects = g.B.Bodies.objects c.args.bodies.now; waits = c.self.inside.live })) (sym c.order.ensures)
-    (covers_order (g.B.Bodies.objects c.args.bodies.now) c.self.inside.live c.self.inside.roster.order
-    c.self.inside.roster.index c.self.invariant.0.right)
 
 pub invariant_of-self : goal.invariant_of-self
 invariant_of-self g c = kept_after _ _ _ _ c.pass.ensures.scene c.thin.ensures c.self.invariant

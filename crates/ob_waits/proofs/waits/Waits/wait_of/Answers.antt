@@ -7,5 +7,4 @@ pub returns-clause-kept : goal.returns-clause-kept
 returns-clause-kept c = subst (λ (l : WaitList). IsKept l.waits) c.self.view_is c.self.invariant.0.kept
 
 pub returns-clause-at_most : goal.returns-clause-at_most
-returns-clause-at_most c = subst (λ (l : WaitList). length l.waits ≤ 4294967296) c.self.view_is (let few =
-    c.self.invariant.0.at_most in let fits = c.self.invariant.0.limit_fits in omega arith)
+returns-clause-at_most c = subst (λ (l : WaitList). length l.waits ≤ 4294967296) c.self.view_is (search arith)

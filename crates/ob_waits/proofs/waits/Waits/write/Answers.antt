@@ -1,4 +1,4 @@
-use Rattle.std.proofs.Common.{Ok, Err, OnOk, subst}
+use Rattle.std.proofs.Common.{OnOk, subst, arith}
 use Rattle.ob_waits.specs.Spelling.{WaitsFit}
 use Rattle.ob_waits.specs.Waits.{WaitList}
 use Rattle.ob_waits.proofs.StandingLaws.{kept_can_be}
@@ -14,9 +14,4 @@ returns-clause-fits c =
       kept_can_be s.limit s.clock s.live s.roster s.deadlines c.self.invariant.0 c.self.invariant.1,
     ) in
     subst (λ (l : WaitList). OnOk c.extend_from_slice.result (WaitsFit l)) c.self.view_is
-    (elim c.extend_from_slice.result as
-    (λ r. OnOk r (WaitsFit (record { limit = s.limit; waits = s.live; clock = s.clock }))) [
-      | Ok done ↦ fits
-      | Err e ↦
-          tt
-    ])
+    (search arith)
