@@ -1,5 +1,5 @@
 -- What a manager may answer each time.
-use Rattle.std.proofs.Common.{◌≡◌, ◌∙◌, ℕ, ◌<◌, ◌≤◌, Bool, true, false, Option, Some, None, Result, Ok, Err, ap, arith, inl, refl}
+use Rattle.std.proofs.Common.{◌≡◌, ◌∙◌, ℕ, ◌<◌, ◌≤◌, Bool, false, Option, Some, None, Result, Ok, ap, arith, inl, refl}
 use Rattle.std.proofs.lemmas.Bool.Decides.{nat_tests}
 use Rattle.std.specs.Prelude.{nat_le, slice_index_or}
 use Rattle.pin_core.specs.declared.id.Id.{Id}
@@ -11,7 +11,7 @@ use Rattle.ob_store.specs.Consistent.{IsConsistent}
 use Rattle.ob_store.specs.Objects.{Object}
 use Rattle.ob_store.specs.State.{State, Whole, settled}
 use Rattle.ob_manager.specs.declared.call.CallOf.TheVariants as calls
-use Rattle.ob_manager.specs.declared.reply.Reply.TheVariants.{Reaped, Refused}
+use Rattle.ob_manager.specs.declared.reply.Reply.TheVariants.{Reaped}
 use Rattle.ob_manager.specs.Outcomes.{Outcome, ◌>>=◌, refuse_if}
 use Rattle.ob_manager.specs.Reaping.{if_ended}
 use Rattle.ob_manager.specs.Steps.{Step, does, lacks, final}
