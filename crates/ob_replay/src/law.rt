@@ -10,8 +10,8 @@ ghost use Rattle.ob_replay.specs.Retelling.{FitsEntry, Retells, RetellsTo, scrip
 /// [`Book`](ob_shared::Book) and [`Closed`](ob_shared::Closed) hold it; that its numbers fit their types
 /// [`script_of`](crate::script_of) says; and a run is what [`run_whole`](ob_console::run_whole) and the program make.
 ///
-/// And where there is no such line, the run ends in the state that the journal recounts: over a new manager, or over one
-/// of the state with which the history began, as [`run_over`](ob_console::run_over) goes on from a savestate.
+/// And where there is no such line, the run ends in the state that the journal recounts: over a new manager, or over
+/// one of the state with which the history began, as [`run_over`](ob_console::run_over) goes on from a savestate.
 pub fn law_of_replay()
     ensures prints { (journal : List Entry) (w : Whole) (output : List ℕ) → IsHistory journal w
         → All FitsEntry journal → AnswersAll w.state.limits (script_of journal) output → Retells journal output }

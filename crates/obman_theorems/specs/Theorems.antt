@@ -82,8 +82,8 @@ pub record IsMade (w : Whole) (call : Call) (reply : Reply) (v : Whole) : Type 0
   pub refused : (fault : Fault) → reply ≡ Refused fault → IsRefused w call fault v
   pub behind : IsAtRest v
 
--- What is left open may be chosen each time: 8 of a call that takes memory and that nothing else refuses; and that a slot
--- is held, by any number of pins that it may have, though its object ended.
+-- What is left open may be chosen each time: 8 of a call that takes memory and that nothing else refuses; and that a
+-- slot is held, by any number of pins that it may have, though its object ended.
 pub record IsLeftOpen (w : Whole) : Type 0 where
   pub memory : (call : Call) → takes_memory w.state call ≡ true
       → is_ok (outcome_of w.state call (Refused Memory)) ≡ true → Step w call (Refused Memory) w
