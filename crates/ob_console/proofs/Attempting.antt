@@ -2,6 +2,7 @@
 use Rattle.std.proofs.Common.{◌≡◌, ◌≢◌, ◌==◌, ℕ, ◌<◌, ◌≤◌, Bool, true, false, List, [], ◌∷◌, ◌++◌, Option, Some, None, slice_index_or, length, sym, refl, ap, subst, ◌∙◌, inl, inr, arith}
 use Rattle.std.specs.Prelude.{Result, Ok, Err}
 use Rattle.std.proofs.Math.ListN.{get_or-map}
+use Rattle.std.proofs.lemmas.Bool.{eqb-false, eqb-true}
 use Rattle.std.proofs.lemmas.Grind.{common_steps}
 use Rattle.pin_core.specs.declared.id.Id.{Id}
 use Rattle.pin_core.specs.declared.descr.Descr.{Descr}
@@ -166,9 +167,8 @@ judged Go Found w r m r3 r4 id n tried res second consistent inside a told met =
         }
 
     cases : (e : Bool) → (a.0 == n) ≡ e → Judged Go Found n w.state r.held id res r3.held
-    cases true e = let b = a.2 (grind (arith, common_steps)) in inl (won b.0 b.1)
-    cases false e = let other : a.0 ≢ n = grind (arith, common_steps) in let b = a.3 other in
-        inr (lost other b.0 b.1)
+    cases true e = let b = a.2 (eqb-true a.0 n e) in inl (won b.0 b.1)
+    cases false e = let other = eqb-false a.0 n e in let b = a.3 other in inr (lost other b.0 b.1)
 
 pub pins : (w : Whole) (r r1 r3 r4 : ReaderView) (id : Id) (res : Result Descr PinFault) → IsConsistent w
     → r.shape ≡ shape_of w.state.limits → id.slot < w.state.limits.slots

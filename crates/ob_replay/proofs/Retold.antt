@@ -11,7 +11,7 @@ use Rattle.pin_words.specs.declared.pin_keeper.Reclaim.TheVariants.{Freed, Retir
 use Rattle.ob_rights.specs.declared.fault.Fault.{Fault}
 use Rattle.ob_rights.specs.declared.fault.Fault.TheVariants as fault
 use Rattle.ob_store.specs.Consistent.{IsConsistent}
-use Rattle.ob_store.specs.State.{State, Whole, settled}
+use Rattle.ob_store.specs.State.{State, Whole, opening, settled}
 use Rattle.ob_manager.specs.Calls.{Call}
 use Rattle.ob_manager.specs.declared.call.CallOf.TheVariants as calls
 use Rattle.ob_manager.specs.declared.reply.Reply.{Reply}
@@ -21,7 +21,7 @@ use Rattle.ob_manager.specs.Reaping.{IfReap, if_ended, reap}
 use Rattle.ob_manager.specs.Steps.{Step, does, closes, lacks, final, is_lack, outcome_of, reclaim_in}
 use Rattle.ob_manager.proofs.StepLaws.{step_next}
 use Rattle.ob_shared.specs.declared.book.Entry.{Entry}
-use Rattle.ob_shared.specs.Journal.{IsHistory, Replays}
+use Rattle.ob_shared.specs.Journal.{IsHistory, IsHistoryFrom, Replays}
 use Rattle.ob_output.specs.Printed.{line_end, printed, printed_reply}
 use Rattle.ob_script.specs.Acts.{Act, Asks, Nothing}
 use Rattle.ob_script.specs.Grammar.{act_of, act_of_text}
@@ -31,7 +31,7 @@ use Rattle.ob_script.proofs.Lineless.{lineless_is_refused}
 use Rattle.ob_script.proofs.ReadBack.{line_is_read}
 use Rattle.ob_console.specs.Runs.{AnswersAll, AnswersTo, IsOutput, Point, Prints, Run, last_line, with_ends}
 use Rattle.ob_record.specs.Telling.{asking, comment, is_held, is_held_slot, is_repeatable, lines_for, text_for}
-use Rattle.ob_replay.specs.Retelling.{AnswersOtherwise, FitsEntry, Retells, answer, is_line, script_of}
+use Rattle.ob_replay.specs.Retelling.{AnswersOtherwise, FitsEntry, Retells, RetellsTo, answer, is_line, script_of}
 use Rattle.ob_replay.proofs.Ends.{lines_in, lines_within, one_cut}
 
 -- a comment is nothing
@@ -210,8 +210,11 @@ module _ (w u : Whole) (p q : Point) (number : ℕ) (entry : Entry) (output : Li
 
 retold : (entries : List Entry) (w v : Whole) (p q : Point) (number : ℕ) (outputs : List (List ℕ)) → IsConsistent w
     → Replays w entries v → All FitsEntry entries → p.whole.state ≡ w.state
-    → Run p number (lines_in entries) outputs q → Retells entries (concat outputs)
-retold [] w v p q number [] kept replays fits at run = refl
+    → Run p number (lines_in entries) outputs q → RetellsTo entries (concat outputs) (q.whole.state ≡ v.state)
+retold [] w v p q number [] kept replays fits at run = (
+  refl,
+  ap (λ (r : Point). r.whole.state) run ∙ at ∙ ap (λ (x : Whole). x.state) replays,
+)
 retold [] w v p q number (output ∷ outputs) kept replays fits at run = absurd run
 retold (entry ∷ entries) w v p q number [] kept replays fits at run = absurd run
 retold (entry ∷ entries) w v p q number (output ∷ []) kept replays fits at run = absurd run.2
@@ -226,8 +229,8 @@ retold (entry ∷ entries) w v p q number (output ∷ silence ∷ outputs) kept 
         (comment_is_nothing (printed_reply entry.reply)) run.2.1
 
     by : ((output ≡ answer entry) × (run.0.whole.state ≡ replays.0.state)) ⊎ AnswersOtherwise entry output
-        → (run.0.whole.state ≡ replays.0.state → Retells entries (concat outputs))
-        → Retells (entry ∷ entries) (output ++ (silence ++ concat outputs))
+        → (run.0.whole.state ≡ replays.0.state → RetellsTo entries (concat outputs) (q.whole.state ≡ v.state))
+        → RetellsTo (entry ∷ entries) (output ++ (silence ++ concat outputs)) (q.whole.state ≡ v.state)
     by (inl same) rest = (
       output,
       concat outputs,
@@ -236,6 +239,19 @@ retold (entry ∷ entries) w v p q number (output ∷ silence ∷ outputs) kept 
     )
     by (inr departs) rest = (output, silence ++ concat outputs, refl, inr departs)
 
+-- what is printed, whatever is so behind it
+told_over : (Behind : Type 0) (entries : List Entry) (output : List ℕ) → RetellsTo entries output Behind
+    → Retells entries output
+told_over Behind [] output h = h.0
+told_over Behind (entry ∷ entries) output h =
+    (h.0, h.1, h.2, by (λ rest. told_over Behind entries h.1 rest) h.3)
+  where
+    by : (RetellsTo entries h.1 Behind → Retells entries h.1)
+        → ((h.0 ≡ answer entry) × RetellsTo entries h.1 Behind) ⊎ AnswersOtherwise entry h.0
+        → ((h.0 ≡ answer entry) × Retells entries h.1) ⊎ AnswersOtherwise entry h.0
+    by next (inl same) = inl (same.0, next same.1)
+    by next (inr departs) = inr departs
+
 -- the script's text is its lines
 text_is : (journal : List Entry) → script_of journal ≡ with_ends (lines_in journal)
 text_is [] = refl
@@ -243,18 +259,16 @@ text_is (entry ∷ entries) =
     ap (λ rest. text_for entry.call entry.reply ++ rest) (text_is entries)
     ∙ sym (flat_map-append (λ line. line ++ line_end) (lines_for entry.call entry.reply) (lines_in entries))
 
-pub history_retold : (journal : List Entry) (w : Whole) (output : List ℕ) → IsHistory journal w → All FitsEntry journal
-    → AnswersAll w.state.limits (script_of journal) output → Retells journal output
-history_retold journal w output history fits answers =
-    subst (Retells journal) (sym run.whole)
-    (retold journal history.first w answers.0 answers.1 1 run.outputs history.kept history.replays fits
-    (answers.2.state ∙ sym history.opens)
-    (subst (λ lines. Run answers.0 1 lines run.outputs answers.1) lines run.run))
+-- a run from the state with which a journal began comes to the journal's state
+pub history_rerun : (from : State) (journal : List Entry) (w : Whole) (output : List ℕ) (p q : Point)
+    → IsHistoryFrom from journal w → All FitsEntry journal → p.whole.state ≡ from
+    → AnswersTo p (script_of journal) output q → RetellsTo journal output (q.whole.state ≡ w.state)
+history_rerun from journal w output p q history fits at whole =
+    subst (λ (printed : List ℕ). RetellsTo journal printed (q.whole.state ≡ w.state)) (sym run.whole)
+    (retold journal history.first w p q 1 run.outputs history.kept history.replays fits (at ∙ sym history.opens)
+    (subst (λ lines. Run p 1 lines run.outputs q) lines run.run))
   where
-    whole : AnswersTo answers.0 (script_of journal) output answers.1
-    whole = answers.3
-
-    run : IsOutput answers.0 (whole.lines ++ last_line whole.rest) output answers.1
+    run : IsOutput p (whole.lines ++ last_line whole.rest) output q
     run = whole.answers
 
     cut : (whole.lines ≡ lines_in journal) × (whole.rest ≡ [])
@@ -265,3 +279,9 @@ history_retold journal w output history fits answers =
 
     lines : whole.lines ++ last_line whole.rest ≡ lines_in journal
     lines = ap (λ rest. whole.lines ++ last_line rest) cut.1 ∙ append-nil whole.lines ∙ cut.0
+
+pub history_retold : (journal : List Entry) (w : Whole) (output : List ℕ) → IsHistory journal w → All FitsEntry journal
+    → AnswersAll w.state.limits (script_of journal) output → Retells journal output
+history_retold journal w output history fits answers =
+    told_over _ journal output (history_rerun (opening w.state.limits) journal w output answers.0 answers.1 history fits
+    answers.2.state answers.3)

@@ -43,6 +43,13 @@ Retells (entry ∷ entries) output =
     (first rest : List ℕ) × (output ≡ first ++ rest)
     × (((first ≡ answer entry) × Retells entries rest) ⊎ AnswersOtherwise entry first)
 
+-- The same; and where no line is answered otherwise, this is so behind the last one.
+abbrev pub RetellsTo : List Entry → List ℕ → Type 0 → Type 0
+RetellsTo [] output Behind = (output ≡ []) × Behind
+RetellsTo (entry ∷ entries) output Behind =
+    (first rest : List ℕ) × (output ≡ first ++ rest)
+    × (((first ≡ answer entry) × RetellsTo entries rest Behind) ⊎ AnswersOtherwise entry first)
+
 -- the numbers of an entry's call fit their types
 abbrev pub FitsEntry : Entry → Type 0
 FitsEntry entry = Fits entry.call

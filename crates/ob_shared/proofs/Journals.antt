@@ -42,7 +42,8 @@ replays_state w v (e ∷ entries) replays = replays_state replays.0 v entries re
     ∙ ap (λ (s : State). replay s entries) (step_next w replays.0 e.call e.reply replays.1)
 
 -- the state is the one after the calls
-pub history_from_state : (from : State) (journal : List Entry) (w : Whole) → IsHistoryFrom from journal w → w.state ≡ replay from journal
+pub history_from_state : (from : State) (journal : List Entry) (w : Whole) → IsHistoryFrom from journal w
+    → w.state ≡ replay from journal
 history_from_state from journal w h =
     replays_state h.first w journal h.replays ∙ ap (λ (s : State). replay s journal) h.opens
 

@@ -18,7 +18,8 @@ ends_kept : (w v : Whole) (entries : List Entry) → IsConsistent w → Replays 
 ends_kept w v [] kept same = subst IsConsistent same kept
 ends_kept w v (e ∷ entries) kept replays = ends_kept replays.0 v entries replays.2 replays.3
 
-pub recounts : (from : State) (journal : List Entry) (w : Whole) → IsHistoryFrom from journal w → IsRecounted from journal w
+pub recounts : (from : State) (journal : List Entry) (w : Whole) → IsHistoryFrom from journal w
+    → IsRecounted from journal w
 recounts from journal w h = record {
   state = history_from_state from journal w h;
   rest = at_rest w (ends_kept h.first w journal h.kept h.replays);

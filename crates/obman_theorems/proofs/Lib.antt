@@ -1,5 +1,6 @@
 pub mod RefusalLaws
 pub mod Rest
+pub mod Choices
 pub mod PinLaws
 pub mod Histories
 pub mod Running

@@ -1,5 +1,5 @@
--- What each call may be refused with, beside want of memory (8): by the numbers of docs/BEHAVIOUR.md. In which order they
--- are tested the call's definition says (`outcome_of`).
+-- What each call may be refused with, beside want of memory (8): by the numbers of docs/BEHAVIOUR.md. In which order
+-- they are tested the call's definition says (`outcome_of`).
 use Rattle.std.specs.Prelude.{◌≡◌, ◌==◌, Bool, true, List, [], ◌∷◌}
 use Rattle.std.specs.List.{list_any}
 use Rattle.ob_rights.specs.Fault.{code_of}

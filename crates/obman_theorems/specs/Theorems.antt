@@ -1,8 +1,7 @@
--- What is proved of the object manager, in five statements and two that follow. Each is a record over the definitions of
--- the crates below, under a sentence of plain English. src/law.rt has for each its law, of every step, history or
--- world, and the function of the code that has it.
-use Rattle.std.specs.Prelude.{All, ◌≡◌, ◌⊎◌, ℕ, ◌<◌, ◌≤◌, true, false, List, [], ◌∷◌, ◌++◌, None, Ok, map}
-use Rattle.std.specs.List.{flat_map}
+-- What is proved of the object manager, in five statements, and two that follow. Each is a record over the definitions
+-- of the crates below, under its sentences of plain English. src/law.rt has for each its law, of every step, history
+-- or world, and the function of the code that has it.
+use Rattle.std.specs.Prelude.{All, ◌≡◌, ◌⊎◌, ℕ, ◌<◌, ◌≤◌, true, false, List, [], ◌∷◌, ◌++◌, None, Some, Ok, is_ok, map, slice_index_or}
 use Rattle.pin_core.specs.declared.id.Id.{Id}
 use Rattle.pin_core.specs.declared.descr.Descr.{Descr}
 use Rattle.pin_core.specs.declared.holders.Hold.{Hold}
@@ -12,31 +11,35 @@ use Rattle.pin_core.specs.Holds.{hold_of, same_id, tally}
 use Rattle.pin_core.specs.Worlds.{WorldState, at, given, given_as, pins, slot_of, times}
 use Rattle.pin_core.specs.Events.{after, refusal}
 use Rattle.pin_core.specs.Safety.{StaysGiven, age}
+use Rattle.pin_words.specs.declared.pin_keeper.Reclaim.TheVariants.{Held}
 use Rattle.pin_words.specs.declared.view.ReaderView.{ReaderView}
 use Rattle.pin_words.specs.declared.view.View.{View}
-use Rattle.pin_words.specs.Laws.{ReaderAt}
 use Rattle.pin_words.specs.Shown.{Table}
+use Rattle.pin_words.specs.Stepped.{IsHold, Pinned, ReaderAt}
 use Rattle.ob_rights.specs.declared.fault.Fault.{Fault}
 use Rattle.ob_rights.specs.declared.fault.Fault.TheVariants.{Memory}
 use Rattle.ob_store.specs.declared.limits.Limits.{Limits}
 use Rattle.ob_store.specs.Consistent.{IsConsistent}
 use Rattle.ob_store.specs.Moves.{OnlyCloses}
+use Rattle.ob_store.specs.Objects.{Object}
 use Rattle.ob_store.specs.State.{State, Whole, opening, settled, without_entry}
 use Rattle.ob_manager.specs.Calls.{Call}
 use Rattle.ob_manager.specs.declared.call.CallOf.TheVariants as calls
 use Rattle.ob_manager.specs.declared.reply.Reply.{Reply}
-use Rattle.ob_manager.specs.declared.reply.Reply.TheVariants.{Refused}
+use Rattle.ob_manager.specs.declared.reply.Reply.TheVariants.{Reaped, Refused}
 use Rattle.ob_manager.specs.Copying.{closes}
 use Rattle.ob_manager.specs.Savestates.{load, saved}
-use Rattle.ob_manager.specs.Steps.{Step, is_lack, next, reclaim_in, takes_memory}
+use Rattle.ob_manager.specs.Steps.{Step, is_lack, next, outcome_of, reclaim_in, takes_memory}
 use Rattle.ob_script.specs.Acts.{Act, Asks}
 use Rattle.ob_script.specs.Grammar.{act_of}
+use Rattle.ob_output.specs.Printed.{printed}
 use Rattle.ob_console.specs.Pinning.{phase_at}
 use Rattle.ob_console.specs.Runs.{AnswersTo, IsOpening, Point, last_line}
 use Rattle.ob_shared.specs.Closing.{IsPart, has_number}
 use Rattle.ob_shared.specs.Journal.{IsHistory, Replays, replay}
 use Rattle.ob_shared.specs.Lanes.{LaneState}
 use Rattle.ob_shared.specs.declared.book.Entry.{Entry}
+use Rattle.ob_replay.specs.Retelling.{RetellsTo}
 use Rattle.obman_theorems.specs.Refusals.{IsAmong, refusals_of}
 
 -- 1. TOTAL
@@ -48,10 +51,10 @@ ClosesSource s (calls.Duplicate thread source handle target mask inherit options
 ClosesSource s call t = ⊥
 
 -- A refused call changes nothing, of the state and of what is said of the slots; only a duplicate with the option to
--- close its source may have closed the source, and nothing else. A call is refused with one of its own numbers, or with
--- 8 for want of memory; with 8 only where it takes memory in that state, and then nothing has changed. Nothing bounds
--- how often memory is wanting. That each call returns, and that none faults, is no part of the record: the gate's
--- verdict says it of the code, where the stack suffices.
+-- close its source may have closed the source, and nothing else. A call is refused with one of its own numbers, or
+-- with 8 for want of memory; with 8 only where it takes memory in that state, and then nothing has changed. Nothing
+-- bounds how often memory is wanting. That each call returns, and that none faults, is no part of the record: the
+-- gate's verdict says it of the code, where the stack suffices.
 pub record IsRefused (w : Whole) (call : Call) (fault : Fault) (v : Whole) : Type 0 where
   pub own : IsAmong (Memory ∷ refusals_of call) fault
   pub memory : fault ≡ Memory → (takes_memory w.state call ≡ true) × (v ≡ w)
@@ -59,8 +62,9 @@ pub record IsRefused (w : Whole) (call : Call) (fault : Fault) (v : Whole) : Typ
 
 -- 2. STEPS
 
--- Whenever no call is under way, all that `IsConsistent` lists holds, and each slot is in the phase that the state says:
--- live while its object has a body, closing once the object ended, and without an object free, or retired for good.
+-- Whenever no call is under way, all that `IsConsistent` lists holds, and each slot is in the phase that the state
+-- says: live while its object has a body, closing once the object ended, and without an object free, or retired for
+-- good.
 pub record IsAtRest (w : Whole) : Type 0 where
   pub kept : IsConsistent w
   pub phases : (k : ℕ) → k < w.keeper.shape.slots → (slot_of w.keeper.slots k).phase ≡ phase_at w.state k
@@ -78,45 +82,59 @@ pub record IsMade (w : Whole) (call : Call) (reply : Reply) (v : Whole) : Type 0
   pub refused : (fault : Fault) → reply ≡ Refused fault → IsRefused w call fault v
   pub behind : IsAtRest v
 
+-- What is left open may be chosen each time: 8 of a call that takes memory and that nothing else refuses; and that a
+-- slot is held, by any number of pins that it may have, though its object ended.
+pub record IsLeftOpen (w : Whole) : Type 0 where
+  pub memory : (call : Call) → takes_memory w.state call ≡ true
+      → is_ok (outcome_of w.state call (Refused Memory)) ≡ true → Step w call (Refused Memory) w
+  pub held : (slot pins : ℕ) (object : Object) → slot < w.state.limits.slots
+      → slice_index_or w.state.objects slot None ≡ Some object → slice_index_or w.state.bodies slot None ≡ None
+      → 0 < pins → pins ≤ w.keeper.shape.max_pins → Step w (calls.Reap slot) (Reaped object.id (Held pins)) w
+
 -- 3. RECOUNTS
 
--- The state of a manager is what its journal recounts: the state with which the manager began, and then, entry by entry,
--- the state behind that call with that reply. The premise is that the journal has every call since then
+-- The state of a manager is what its journal recounts: the state with which the manager began, and then, entry by
+-- entry, the state behind that call with that reply. The premise is that the journal has every call since then
 -- (`IsHistoryFrom`), as that of a book does, and of what is under the lock.
 pub record IsRecounted (from : State) (journal : List Entry) (w : Whole) : Type 0 where
   pub state : w.state ≡ replay from journal
   pub rest : IsAtRest w
 
--- the calls that the lines of a script make, in order
-abbrev pub calls_of : Act → List Call
-calls_of (Asks call) = call ∷ []
-calls_of act = []
+-- the entries of one line: of a call the call with the reply that was printed, and of any other line none
+abbrev pub Enters : Act → List ℕ → List Entry → Type 0
+Enters (Asks call) output entries = (entry : Entry) × (entries ≡ entry ∷ []) × (entry.call ≡ call)
+    × (output ≡ printed entry.reply)
+Enters act output entries = entries ≡ []
 
-abbrev pub calls_in : List (List ℕ) → List Call
-calls_in lines = flat_map (λ line. calls_of (act_of line)) lines
+-- the entries of all lines, in order
+abbrev pub AreEntered : List (List ℕ) → List (List ℕ) → List Entry → Type 0
+AreEntered [] [] entries = entries ≡ []
+AreEntered (line ∷ lines) (output ∷ outputs) entries = (here rest : List Entry) × (entries ≡ here ++ rest)
+    × Enters (act_of line) output here × AreEntered lines outputs rest
+AreEntered lines outputs entries = ⊥
 
 -- What a run of a script prints is what a run of the model answers, from a new manager with these limits: line by line
--- the reply of its call's step, or what the reader of the pins is answered (`Prints`). The state at the end is what the
--- script's calls, with the replies that were printed for them, recount. Three answers are left open: 8 of a call that
--- takes memory, that a slot which is reaped is held, and that a pin is refused as busy or full, each by a word of the
--- slot that was found, and which nobody but the one reader need have changed. The premise is that the run ended with its
--- input; what a run that was cut short had answered, `IsCut` says.
+-- the reply of its call's step, or what the reader of the pins is answered (`Prints`). The state at the end is what
+-- the script's calls, with the replies that were printed for them, recount. Three answers are left open: 8 of a call
+-- that takes memory, that a slot which is reaped is held, and that a pin is refused as busy or full, each by a word of
+-- the slot that was found, and which nobody but the one reader need have changed. The premise is that the run ended
+-- with its input; what a run that was cut short had answered, `IsCut` says.
 pub record IsRun (limits : Limits) (input output : List ℕ) : Type 0 where
   pub first : Point
   pub last : Point
   pub opens : IsOpening limits first
   pub answers : AnswersTo first input output last
   pub asked : List Entry
-  pub calls : map (λ (entry : Entry). entry.call) asked ≡ calls_in (answers.lines ++ last_line answers.rest)
+  pub entered : AreEntered (answers.lines ++ last_line answers.rest) answers.answers.outputs asked
   pub state : last.whole.state ≡ replay (opening limits) asked
 
 -- 4. PINS
 
 -- In a world of pins a slot that somebody has pinned is neither stored to, published nor taken back, so nobody else is
 -- given it; a slot is published only while nobody has it pinned; no Id is published twice; a descriptor that is read
--- under a pin is the one that was published with the Id; and no event takes a slot back in its life. The premise is that
--- each event was possible where it stood (`refusal`), whatever the order of all of them. No answer is bounded: a pin may
--- be refused as busy or full, and a reap answered as held, though none had to be.
+-- under a pin is the one that was published with the Id; and no event takes a slot back in its life. The premise is
+-- that each event was possible where it stood (`refusal`), whatever the order of all of them. No answer is bounded: a
+-- pin may be refused as busy or full, and a reap answered as held, though none had to be.
 pub record IsPinned (w : WorldState) : Type 0 where
   pub stays : (h : Hold) → 0 < times w h → StaysGiven w h.id.slot
   pub alone : (s : ℕ) → refusal w (Publish s) ≡ None → pins w s ≡ 0
@@ -124,19 +142,28 @@ pub record IsPinned (w : WorldState) : Type 0 where
   pub shown : (r : ℕ) (id : Id) (d : Descr) → refusal w (ReadDescr r id d) ≡ None → given_as w id d ≡ 1
   pub onward : (e : Event) (s : ℕ) → refusal w e ≡ None → age (at w s) ≤ age (at (after w e) s)
 
--- The running words show such a world, and each copy that a reader has is one hold of it. The premises are that the
--- words are under the rule of pins (`IsShown`), and that a seat of theirs is the reader's.
+-- Words that show a safe world (`IsShown`) show such a world, and each copy that a reader of them has is one hold of
+-- it.
 pub record IsHeldInWords (s : Table) (w : WorldState) : Type 0 where
   pub world : IsPinned w
   pub copies : (j : ℕ) (v : View) (r : ReaderView) (id : Id) (n : ℕ) → ReaderAt s j v r → 1 ≤ n
       → n ≤ tally (same_id id) r.held → (times w (hold_of r.number id n) ≡ 1) × StaysGiven w id.slot
 
+-- A pin that went through is a part of such a world: its look and its exchange were each an event that was possible in
+-- a safe world, which some words showed that had this reader among their users; and behind the exchange its copy is
+-- one hold of the world. That these were the words of the reader's own table no clause can say: for that one reads the
+-- functions that make the steps, a line each.
+pub record IsHeld (r : ReaderView) (id : Id) (r' : ReaderView) : Type 0 where
+  pub steps : Pinned r id r'
+  pub hold : IsHold r' id
+  pub world : IsHeldInWords hold.table hold.world
+
 -- 5. LANES
 
 -- All lanes stand in one legal history: the list of each is its part of the history, in order and whole, and each call
--- of the history is of just one of them. The premise is that the lanes are those that were given (`AreWhole`), which is
--- looked at; that one lock stood before all their calls is what the types say. A call that was answered 8 before the
--- manager was asked is in no list (`Lists`).
+-- of the history is of just one of them. The premise is that the lanes are those that were given (`AreWhole`), which
+-- is looked at; that one lock stood before all their calls is what the types say. A call that was answered 8 before
+-- the manager was asked is in no list (`Lists`).
 pub record AreOneHistory (given : ℕ) (lanes : List LaneState) (journal : List Entry) (w : Whole) : Type 0 where
   pub history : IsHistory journal w
   pub recounts : IsRecounted (opening w.state.limits) journal w
@@ -152,8 +179,8 @@ AreAskedAlike (x ∷ xs) (y ∷ ys) = (x.call ≡ y.call) × (is_lack x.reply �
     × (reclaim_in x.reply ≡ reclaim_in y.reply) × AreAskedAlike xs ys
 AreAskedAlike xs ys = ⊥
 
--- Two managers of one state answer every list of calls alike, and come to one state again: unless memory is wanting, or
--- a slot that is reaped is held in one of the two alone.
+-- Two managers of one state answer every list of calls alike, and come to one state again: unless memory is wanting,
+-- or a slot that is reaped is held in one of the two alone.
 pub record AreAlike (a b : Whole) : Type 0 where
   pub state : a.state ≡ b.state
   pub answers : (xs ys : List Entry) (v w : Whole) → Replays a xs v → Replays b ys w → AreAskedAlike xs ys
@@ -164,3 +191,12 @@ pub record AreAlike (a b : Whole) : Type 0 where
 pub record IsSaved (w : Whole) (bytes : List ℕ) : Type 0 where
   pub one : (v : Whole) → IsConsistent v → v.state ≡ w.state → saved v ≡ bytes
   pub loads : (v : Whole) × (load bytes ≡ Ok v) × AreAlike w v
+
+-- 7. REPLAY, from 2 and 3
+
+-- A run of a journal's script prints what its entries were answered, in their order, up to the first line that is
+-- answered otherwise: since memory was wanting, or another thing became of a slot that is reaped (`AnswersOtherwise`).
+-- Where there is no such line the run ends in the state of the journal's manager. The premises are that the journal
+-- has every call since a state, that the run begins in that state, and that the numbers of its calls fit their types.
+pub record IsReplayed (journal : List Entry) (w : Whole) (output : List ℕ) (last : Point) : Type 0 where
+  pub retells : RetellsTo journal output (last.whole.state ≡ w.state)

@@ -1,9 +1,10 @@
-ghost use Rattle.std.specs.Prelude.{◌≡◌, ◌++◌, false, ℕ, List, [], IfNone, IfOk, IfSome, OnOk};
+ghost use Rattle.std.specs.Prelude.{◌≡◌, ◌++◌, false, ℕ, List, [], All, IfNone, IfOk, IfSome, OnOk};
 ghost use Rattle.pin_core.specs.Worlds.{WorldState};
 ghost use Rattle.pin_core.specs.Safety.{AreEvents, IsSafe, reached};
 ghost use Rattle.pin_core.specs.declared.event.Event.{Event};
 ghost use Rattle.pin_core.specs.declared.shape.Shape.{Shape};
 ghost use Rattle.pin_words.specs.Shown.{IsShown, Table};
+ghost use Rattle.pin_words.specs.Tries.{Tries};
 ghost use Rattle.ob_rights.specs.declared.fault.Fault.{Fault};
 ghost use Rattle.ob_store.specs.declared.limits.Limits.{Limits};
 ghost use Rattle.ob_store.specs.Consistent.{IsConsistent};
@@ -15,17 +16,19 @@ ghost use Rattle.ob_manager.specs.Savestates.{saved};
 ghost use Rattle.ob_manager.specs.Steps.{Step, is_lack, reclaim_in};
 ghost use Rattle.ob_manager.specs.declared.reply.Reply.{Reply};
 ghost use Rattle.ob_manager.specs.declared.reply.Reply.TheVariants.{Refused};
-ghost use Rattle.ob_console.specs.Runs.{AnswersAll, IsEnded};
+ghost use Rattle.ob_console.specs.Runs.{AnswersAll, AnswersTo, IsEnded, Point};
 ghost use Rattle.ob_shared.specs.Closing.{AreWhole, IsCause};
 ghost use Rattle.ob_shared.specs.Journal.{IsHistory, IsHistoryFrom, IsOrigin};
 ghost use Rattle.ob_shared.specs.Lanes.{LaneState, Lists};
 ghost use Rattle.ob_shared.specs.declared.book.Entry.{Entry};
-ghost use Rattle.obman_theorems.specs.Theorems.{AreAlike, AreOneHistory, IsHeldInWords, IsMade, IsPinned, IsRecounted, IsRefused, IsRun, IsSaved};
+ghost use Rattle.ob_replay.specs.Retelling.{FitsEntry, script_of};
+ghost use Rattle.obman_theorems.specs.Theorems.{AreAlike, AreOneHistory, IsHeld, IsHeldInWords, IsLeftOpen, IsMade, IsPinned, IsRecounted, IsRefused, IsReplayed, IsRun, IsSaved};
 
 use ob_console::{RunFault, Sink, Source, run};
 use ob_manager::{Call, Limits, Manager, Reply, Stored};
 use ob_shared::{Book, CloseCause, Closed, Lane, NotClosed, Shared};
-use pin_words::PinKeeper;
+use pin_core::Id;
+use pin_words::{PinFault, PinKeeper, Reader};
 use std::alloc::{AllocError, Global};
 use std::sync::Wait;
 
@@ -42,6 +45,11 @@ pub fn law_of_steps()
     ensures alike { (a b v w : Whole) (call : Call) (r t : Reply) → a.state ≡ b.state → Step a call r v
         → Step b call t w → is_lack r ≡ false → is_lack t ≡ false → reclaim_in r ≡ reclaim_in t
         → (r ≡ t) × (v.state ≡ w.state) }
+{}
+
+/// What the second statement leaves open, of every manager that is kept.
+pub fn law_of_choices()
+    ensures { (w : Whole) → IsConsistent w → IsLeftOpen w }
 {}
 
 /// The second statement, and with it the first, of the code: what [`Manager::apply`] does. And a reap answers what the
@@ -71,14 +79,17 @@ pub fn law_of_recounts()
 {}
 
 /// The third statement, of the code: of a [`Book`], also of the one under the lock of a [`Shared`], by its type. It
-/// began as a new manager, where it has no savestate, or else with what its savestate loads.
-pub fn recounted<K: PinKeeper>(book: &Book<K>)
+/// began as a new manager, where it has no savestate, or else with what its savestate loads; and what it stores is what
+/// that state says.
+pub fn recounted<K: PinKeeper>(book: &Book<K>) -> Stored<'_, K>
     ensures new { book.now.saved ≡ [] → IsRecounted (opening book.now.manager.state.limits) book.now.journal
         book.now.manager }
     ensures loaded { (from : State) × IsOrigin book.now.manager.state.limits book.now.saved from
         × IsRecounted from book.now.journal book.now.manager }
+    ensures stored { MatchesState book.now.manager result }
 {
     book.replays();
+    book.stored()
 }
 
 /// The third statement, of every run of a script that ended with its input.
@@ -109,6 +120,15 @@ pub fn law_of_pins()
     ensures worlds { (w : WorldState) → IsSafe w → IsPinned w }
     ensures words { (k : Shape) (s : Table) (w : WorldState) → IsShown k s w → IsHeldInWords s w }
 {}
+
+/// The fourth statement, of the code: of a pin that went through, as [`Reader::try_pin`] makes it. What a pin is
+/// refused with, and that it is at most one look and one exchange, is in `Tries`.
+pub fn pinned(reader: &mut Reader, id: Id) -> Result<(), PinFault>
+    ensures held { OnOk result (IsHeld reader.old.view id reader.new.view) }
+    ensures tries { Tries reader.old.view id result reader.new.view }
+{
+    reader.try_pin(id)
+}
 
 /// The fifth statement, of all lists that are whole beside a history.
 pub fn law_of_lanes()
@@ -154,3 +174,10 @@ pub fn savestate<K: PinKeeper>(manager: &Manager<K>, alloc: Global) -> Result<Ve
     manager.kept();
     manager.save(alloc)
 }
+
+/// Of a journal that is run again as a script, over a manager of the state with which it began.
+pub fn law_of_replay()
+    ensures { (from : State) (journal : List Entry) (w : Whole) (output : List ℕ) (first last : Point)
+        → IsHistoryFrom from journal w → All FitsEntry journal → first.whole.state ≡ from
+        → AnswersTo first (script_of journal) output last → IsReplayed journal w output last }
+{}

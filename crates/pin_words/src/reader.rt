@@ -191,8 +191,8 @@ impl Reader {
     /// look found, 2 where the Id isn't published yet, 3 where its object is given up, which stays so, and 5 where the
     /// slot has all its pins; 4 where the exchange found another word.
     ///
-    /// Where it goes through, the look and the exchange were each made on words that show a safe world, and the new copy
-    /// is one hold of the world behind them.
+    /// Where it goes through, the look and the exchange were each made on words that show a safe world, and the new
+    /// copy is one hold of the world behind them.
     #[inline]
     pub fn try_pin(&mut self, id: Id) -> Result<(), PinFault>
         ensures tries { Tries self.old.view id result self.new.view }

@@ -28,8 +28,9 @@ invariant_of-self-inside c = let one = released-one c.fetch_sub.result c.place_o
     search rules
 
 pub returns-clause-view : goal.returns-clause-view
-returns-clause-view c = let one = released-one c.fetch_sub.result c.place_of.result c.self.inside.seat.me c.fetch_sub.new.seat.me
-    c.args.id c.place_of.ensures c.self.inside.reads c.fetch_sub.ensures.2 (search rules) in search rules
+returns-clause-view c = let one = released-one c.fetch_sub.result c.place_of.result c.self.inside.seat.me
+    c.fetch_sub.new.seat.me c.args.id c.place_of.ensures c.self.inside.reads c.fetch_sub.ensures.2 (search rules) in
+    search rules
 
 pub returns-clause-steps : goal.returns-clause-steps
 returns-clause-steps c = subst (λ (z : ReaderView). ReleaseStep z c.args.id) (ap (λ w. w.view) c.self.view_is)
