@@ -1,13 +1,11 @@
 -- A new object with its first entry comes to a vacant slot.
-use Rattle.std.proofs.Common.{◌≡◌, ℕ, ◌+◌, ◌<◌, List, [], ◌∷◌, ◌++◌, length, Option, Some, None, refl, ◌∙◌, sym, subst, arith, get_or, set, map, true}
+use Rattle.std.proofs.Common.{◌≡◌, ℕ, ◌+◌, ◌<◌, List, [], ◌∷◌, ◌++◌, length, Some, None, refl, subst, arith, get_or, set, map, true}
 use Rattle.std.proofs.Math.ListN.{get_or-map}
 use Rattle.std.proofs.Math.Seq.{map-set_same}
 use Rattle.std.proofs.lemmas.List.{length-set}
 use Rattle.pin_core.specs.declared.id.Id.{Id}
 use Rattle.pin_core.specs.declared.world.Slot.{Slot}
-use Rattle.pin_core.specs.declared.word.Phase.TheVariants as phase
-use Rattle.pin_core.specs.Worlds.{slot_of, opening_slot}
-use Rattle.pin_core.specs.Events.{in_phase, with_descr}
+use Rattle.pin_core.specs.Worlds.{opening_slot}
 use Rattle.pin_words.specs.Views.{id_of}
 use Rattle.ob_rights.specs.declared.handle_flags.HandleFlags.{HandleFlags}
 use Rattle.ob_rights.specs.declared.rights.Rights.{Rights}
@@ -18,46 +16,34 @@ use Rattle.ob_body.specs.Body.{owner_of}
 use Rattle.ob_name.specs.Names.{ObjectName}
 use Rattle.ob_name.specs.Listing.{Rows, find_name}
 use Rattle.ob_tables.specs.declared.entry.Entry.{Entry}
-use Rattle.ob_tables.specs.Tables.{with_entry_of, table_of}
+use Rattle.ob_tables.specs.Tables.{with_entry_of}
 use Rattle.ob_waits.specs.Form.{form_of}
-use Rattle.ob_waits.specs.Waits.{slot_blocks}
 use Rattle.ob_waits.proofs.Room.{room_unnamed}
 use Rattle.ob_waits.proofs.Settled.{settled_unnamed}
-use Rattle.ob_tables.specs.Table.{with_entry}
-use Rattle.ob_store.specs.Objects.{Object, ObjectsState, Head, object_in, places_in, vacancy, with_object}
-use Rattle.ob_store.specs.Agreement.{Agrees, IsAgreed, IsTied}
+use Rattle.ob_store.specs.Objects.{ObjectsState, Head, object_in, places_in, vacancy, with_object}
+use Rattle.ob_store.specs.Agreement.{IsAgreed, IsTied}
 use Rattle.ob_store.specs.State as state
 use Rattle.ob_store.specs.Parts.{PartsState, state_of}
 use Rattle.ob_store.specs.State.{State, generation_of, id_at}
 use Rattle.ob_store.specs.Kept.{IsKept, IsCounted, IsListing, IsLive, form_in}
-use Rattle.ob_store.proofs.AgreeLaws.{object_at, body_at, retired_at, slot_at}
+use Rattle.ob_store.proofs.AgreeLaws.{object_at, body_at}
 use Rattle.ob_store.proofs.CountedLaws.{blocks_at, counted_added}
 use Rattle.ob_store.proofs.NamedLaws.{named_added}
 use Rattle.ob_store.proofs.BodyLaws.{formed_added, of_live_added}
 use Rattle.ob_store.proofs.ListingLaws.{listing_added, listing_name_added, placed_agreed}
-use Rattle.ob_store.proofs.PlacedLaws.{live_tabled, unreferenced}
+use Rattle.ob_store.proofs.PlacedLaws.{live_tabled}
 use Rattle.ob_store.proofs.KeptLaws.{live_changed}
 
 -- a slot without an object has no body
 pub bodiless : (s : ObjectsState) (k : ℕ) → object_at s k ≡ None → k < length s.objects → IsAgreed s
     → body_at s k ≡ None
 bodiless s k none room a =
-    let long = a.length_is in
-    (subst (λ (o : Option Object). Agrees k o (body_at s k) (retired_at s k) (slot_at s k)) none
-    (a.each k (omega (arith, room, long)))).0
+    search arith
 
 -- the Id that the state gives to the next object of a slot is that of the keeper
 pub next_id : (slots : List Slot) (k : ℕ) → ◌≡◌ {A =
     Id} (record { slot = k; generation = get_or (map generation_of slots) k 1 }) (id_of slots k)
 next_id slots k = λ i. record { slot = k; generation = (get_or-map generation_of slots k opening_slot) i }
-
--- a new object leaves the generations
-ages_added : (o : ObjectsState) (slot : ℕ) (head : Head) (body : Body)
-    → map generation_of (with_object o slot head body).keeper.slots ≡ map generation_of o.keeper.slots
-ages_added o slot head body =
-    let slots : List Slot = set o.keeper.slots slot (with_descr (slot_at o slot) head.descr) in
-    map-set_same generation_of slots slot (in_phase (slot_of slots slot) phase.Live) opening_slot refl
-    ∙ map-set_same generation_of o.keeper.slots slot (with_descr (slot_at o slot) head.descr) opening_slot refl
 
 -- the state with a new object and an entry of it
 abbrev pub with_added : State → ℕ → ℕ → Rights → HandleFlags → Head → Body → State
@@ -80,21 +66,7 @@ pub added_state : (p : PartsState) (process slot : ℕ) (rights : Rights) (flags
     })
     ≡ with_added (state_of p) process slot rights flags head body
 added_state p process slot rights flags head body rows =
-    let own = sym (next_id p.objects.keeper.slots slot) in
-    let ages = ages_added p.objects slot head body in
-    λ i. record (state_of p) {
-      tables = with_entry_of p.tables.tables process (record { id = own i; rights = rights; flags = flags });
-      objects = set p.objects.objects slot (Some (record {
-        id = own i;
-        birth = p.objects.births;
-        descr = head.descr;
-        grant = head.grant;
-        name = head.name;
-      }));
-      bodies = set p.objects.seen.bodies slot (Some body);
-      generations = ages i;
-      births = p.objects.births + 1;
-    }
+    search (arith, next_id, map-set_same)
 
 module _ (p : PartsState) (kept : IsKept p) (tied : IsTied p.objects)
     (process slot : ℕ) (rights : Rights) (flags : HandleFlags) (head : Head) (body : Body)
@@ -119,52 +91,42 @@ module _ (p : PartsState) (kept : IsKept p) (tied : IsTied p.objects)
   table = live_tabled p.limits p.processes p.tables.tables process kept.sound.processes_kept live
 
   none : object_at p.objects slot ≡ None
-  none = vacant_empty (vacancy (places_in o)) slot vacant
+  none = search arith
 
   within : slot < length p.objects.objects
-  within = vacant_within (vacancy (places_in o)) slot vacant
+  within = search arith
 
   no_references : (get_or p.objects.seen.handles slot 0 ≡ 0) × (get_or p.objects.seen.blocks slot 0 ≡ 0)
-  no_references = unreferenced o slot (bodiless o slot none within tied.agreed) tied
-
-  unnamed : slot_blocks slot p.waits.waits ≡ 0
-  unnamed = sym (blocks_at o.seen (length o.objects) p.tables.tables p.waits.waits kept.sound.counted slot within)
-      ∙ no_references.1
+  no_references = search arith
 
   -- what is kept, whichever names are entered
   pub kept_added : (rows : Rows) → IsListing rows (with_entry_of p.tables.tables process entry)
       (with_object p.objects slot head body).objects (p.objects.births + 1) → IsKept (added rows)
   kept_added rows listing =
       let bodied : slot < length o.seen.bodies = (let a = tied.agreed.length_is in let b = tied.agreed.bodied in
-      omega (arith, within, a, b)) in
+      omega (arith, within)) in
       let sound = kept.sound in
       record {
         sound = record {
           limited = sound.limited;
-          processes_kept = live_changed p.limits p.processes p.tables.tables process
-              (with_entry (table_of p.tables.tables process) entry) live sound.processes_kept;
+          processes_kept = search (arith, live_changed);
           counted = subst (λ (n : ℕ). IsCounted (with_object o slot head body).seen n
               (with_entry_of p.tables.tables process entry) p.waits.waits)
-              (sym (length-set o.objects slot (Some (object_in o slot head))))
+              (search (arith, length-set))
               (counted_added o.seen (length o.objects) p.tables.tables p.waits.waits sound.counted
               (set o.seen.bodies slot (Some body)) process entry table within no_references.0 no_references.1);
-          named = named_added o.objects p.tables.tables p.waits.waits sound.named process entry
-              (object_in o slot head) table refl none within;
-          formed = formed_added o.seen.bodies slot body p.waits.clock o.objects
-              (object_in o slot head) within bodied formed sound.formed;
+          named = search (arith, table, named_added);
+          formed = search (arith, formed_added);
           of_live = of_live_added o.seen.bodies slot body p.processes.threads p.waits.waits owned sound.of_live;
-          room = room_unnamed p.limits.max_recursion o.seen.bodies p.waits.waits slot (Some body) unnamed sound.room;
+          room = search (arith, blocks_at, room_unnamed);
           listing = listing;
         };
         populated = kept.populated;
-        settled = settled_unnamed o.seen.bodies p.waits.waits slot (Some body) unnamed kept.settled;
+        settled = search (arith, blocks_at, settled_unnamed);
       }
 
   pub kept_nameless : head.name ≡ None → IsKept (added p.rows)
-  kept_nameless nameless = kept_added p.rows
-      (listing_added p.rows p.tables.tables o.objects o.births kept.sound.listing
-      (placed_agreed o tied.agreed) process entry
-      (object_in o slot head) tied.born table refl refl nameless none within)
+  kept_nameless nameless = search (arith, live_tabled, vacant_empty, vacant_within, kept_added, listing_added, placed_agreed)
 
   pub kept_name : (name : ObjectName) → head.name ≡ Some name → find_name name p.rows ≡ None
       → IsKept (added (p.rows ++ (name, id_of p.objects.keeper.slots slot) ∷ []))

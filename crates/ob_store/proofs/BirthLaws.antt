@@ -1,4 +1,5 @@
 -- How many objects were made, slot by slot, and their numbers.
+use Rattle.ob_codec.proofs.AtPlace.{at_place}
 use Rattle.std.proofs.Common.{◌≡◌, ◌≢◌, ℕ, ◌+◌, ◌<◌, ◌≤◌, List, length, Option, Some, None, ap, ◌∙◌, sym, subst, arith, get_or, set, inl, inr}
 use Rattle.std.specs.Prelude.{sum_by}
 use Rattle.std.proofs.lemmas.List.{length-set, get_or-set_same, get_or-set_other}
@@ -32,27 +33,17 @@ aged_set n last slots i y within first most aged k lt = elim (cases_eq k i) [
 -- each slot is one that a keeper may begin with
 pub opens_set : (shape : Shape) (slots : List Slot) (i : ℕ) (y : Slot) → SlotOpens shape.max_gen y → Opens shape slots →
     Opens shape (set slots i y)
-opens_set shape slots i y new old = record {
-  wide = length-set slots i y ∙ old.wide;
-  each = λ k lt. elim (cases_eq k i) [
-    | inl same ↦ (let within : i < length slots = omega (arith, lt, same, old.wide) in
-        let is : slot_of (set slots i y) k ≡ y = ap (slot_of (set slots i y)) same
-        ∙ get_or-set_same slots i y opening_slot within in
-        subst (SlotOpens shape.max_gen) (sym is) new)
-    | inr other ↦ subst (SlotOpens shape.max_gen) (sym (get_or-set_other slots i k y opening_slot other))
-        (old.each k lt)
-  ];
-}
+opens_set shape slots i y new old = search (arith, get_or-set_other, get_or-set_same, length-set)
 
 -- a slot that changes and had as many objects as before
 pub made_set : (slots : List Slot) (i : ℕ) (y : Slot) → i < length slots → made_in y ≡ made_in (slot_of slots i)
     → sum_by made_in (set slots i y) ≡ sum_by made_in slots
-made_set slots i y within same = let sum = sum_by-set made_in slots i y opening_slot within in omega (arith, sum, same)
+made_set slots i y within same = search (arith, sum_by-set)
 
 -- or one more
 pub made_more : (slots : List Slot) (i : ℕ) (y : Slot) → i < length slots → made_in y ≡ made_in (slot_of slots i) + 1
     → sum_by made_in (set slots i y) ≡ sum_by made_in slots + 1
-made_more slots i y within more = let sum = sum_by-set made_in slots i y opening_slot within in omega (arith, sum, more)
+made_more slots i y within more = search (arith, sum_by-set)
 
 made_few : (p : Phase) (generation : ℕ) → made_by p generation ≤ generation
 made_few Free generation = omega arith
@@ -64,48 +55,27 @@ pub made_bound : (slots : List Slot) (last : ℕ) → length slots ≤ 65536 →
 made_bound slots last few most aged =
     let all = All-from_get_or (λ (x : Slot). made_in x ≤ 4294967295) slots opening_slot
     (λ i lt. let x : Slot = slot_of slots i in let y = made_few x.phase x.generation in
-    let z : x.generation ≤ last = (aged i lt).1 in omega (arith, y, z, most)) in
+    let z : x.generation ≤ last = (aged i lt).1 in omega arith) in
     let sum = sum_by-le made_in 4294967295 slots all in
-    omega (arith, sum, few)
+    omega arith
 
 -- objects that stay, or leave
 pub born_gone : (objects : List (Option Object)) (births k : ℕ) → AreBorn objects births
     → AreBorn (set objects k None) births
-born_gone objects births k born = record {
-  below = λ j o is. born.below j o (some_set objects k j o is);
-  apart = λ i j o p is it same. born.apart i j o p (some_set objects k i o is) (some_set objects k j p it) same;
-}
+born_gone objects births k born = search (arith, some_set)
 
 -- a new object, whose number is the count
 pub born_added : (objects : List (Option Object)) (births k : ℕ) (n : Object) → n.birth ≡ births → k < length objects
     → AreBorn objects births → AreBorn (set objects k (Some n)) (births + 1)
-born_added objects births k n first within born = record {
-  below = λ j o is. elim (cases_eq j k) [
-    | inl here ↦ (let e = new j o here is in omega (arith, e, first))
-    | inr other ↦ (let e = born.below j o (old j o other is) in omega (arith, e))
-  ];
-  apart = λ i j o p is it same. elim (cases_eq i k) [
-    | inl here ↦ elim (cases_eq j k) [
-      | inl there ↦ here ∙ sym there
-      | inr other ↦ absurd (let e = new i o here is in let f = born.below j p (old j p other it) in
-          omega (arith, e, f, same, first))
-    ]
-    | inr other ↦ elim (cases_eq j k) [
-      | inl there ↦ absurd (let e = new j p there it in let f = born.below i o (old i o other is) in
-          omega (arith, e, f, same, first))
-      | inr others ↦ born.apart i j o p (old i o other is) (old j p others it) same
-    ]
-  ];
-}
+born_added objects births k n first within born = grind (arith, at_place)
   where
     number : Option Object → ℕ
     number None = 0
     number (Some o) = o.birth
 
     new : (j : ℕ) (o : Object) → j ≡ k → get_or (set objects k (Some n)) j None ≡ Some o → o.birth ≡ n.birth
-    new j o here is = let e : Some o ≡ Some n = sym is ∙ ap (λ i. get_or (set objects k (Some n)) i None) here
-        ∙ get_or-set_same objects k (Some n) None within in ap number e
+    new j o here is = search (arith, get_or-set_same)
 
     old : (j : ℕ) (o : Object) → j ≢ k → get_or (set objects k (Some n)) j None ≡ Some o
         → get_or objects j None ≡ Some o
-    old j o other is = sym (get_or-set_other objects k j (Some n) None other) ∙ is
+    old j o other is = search (arith, get_or-set_other)

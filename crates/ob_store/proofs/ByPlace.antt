@@ -1,7 +1,7 @@
 -- What holds of each element of a list, and of what stands past its end, holds at each place.
-use Rattle.std.proofs.Common.{◌≡◌, ◌∙◌, ℕ, zero, suc, ◌+◌, ◌<◌, Bool, true, List, [], ◌∷◌, ap, length, get_or, inl, inr, replicate, sym, arith}
+use Rattle.std.proofs.Common.{◌≡◌, ◌∙◌, ℕ, zero, suc, ◌<◌, Bool, true, List, [], ◌∷◌, ap, length, get_or, replicate, sym, arith}
 use Rattle.std.proofs.lemmas.List.{get_or-replicate, get_or_past, length-replicate}
-use Rattle.std.proofs.lemmas.Bool.{and_parts, cases_lt}
+use Rattle.std.proofs.lemmas.Bool.{and_parts}
 use Rattle.std.specs.List.{AllByRecursion, list_all, range_with_len}
 use Rattle.std.proofs.lemmas.List.Elements.{All-from_get_or}
 use Rattle.std.proofs.lemmas.List.FromFn.{get_or-range_with_len, length-range_with_len}
@@ -22,23 +22,19 @@ pub all_by_place : {A : Type 0} (P : A → Type 0) (d : A) (xs : List A) → ((k
     → AllByRecursion P xs
 all_by_place P d [] each = tt
 all_by_place P d (x ∷ xs) each =
-    (each 0 (omega arith), all_by_place P d xs (λ k lt. each (suc k) (omega (arith, lt))))
+    (each 0 (omega arith), all_by_place P d xs (λ k lt. each (suc k) (omega arith)))
 
 number_at : (n k : ℕ) → k < n → get_or (range_with_len 0 n) k 0 ≡ k
-number_at n k lt = get_or-range_with_len 0 n k 0 lt ∙ (let e : 0 + k ≡ k = omega arith in e)
+number_at n k lt = search (arith, get_or-range_with_len)
 
 -- a test of each number below one
 pub below_from : (p : ℕ → Bool) (n : ℕ) → ((k : ℕ) → k < n → p k ≡ true) → list_all p (range_with_len 0 n) ≡ true
-below_from p n each = all_from p (range_with_len 0 n) 0 (λ k lt.
-    (let below : k < n = omega (arith, lt, length-range_with_len 0 n) in ap p (number_at n k below) ∙ each k below))
+below_from p n each = all_from p (range_with_len 0 n) 0 (search (arith, get_or-range_with_len, length-range_with_len))
 
 pub below_at : (p : ℕ → Bool) (n k : ℕ) → list_all p (range_with_len 0 n) ≡ true → k < n → p k ≡ true
 below_at p n k all lt = ap p (sym (number_at n k lt))
-    ∙ AllPass-from_list_all p (range_with_len 0 n) all k 0 (omega (arith, lt, length-range_with_len 0 n))
+    ∙ AllPass-from_list_all p (range_with_len 0 n) all k 0 (omega (arith, length-range_with_len 0 n))
 
 -- a list of what stands for none
 pub replicate_at : {A : Type 0} (n k : ℕ) (none : A) → get_or (replicate n none) k none ≡ none
-replicate_at n k none = elim (cases_lt k n) [
-  | inl lt ↦ get_or-replicate n k none none lt
-  | inr le ↦ get_or_past (replicate n none) k none (omega (arith, length-replicate n none, le))
-]
+replicate_at n k none = search (arith, get_or-replicate, get_or_past, length-replicate)

@@ -1,14 +1,12 @@
 -- What is kept is kept where a child comes with what it inherits.
-use Rattle.std.proofs.Common.{◌≡◌, ℕ, ◌+◌, ◌<◌, ◌≤◌, List, [], ◌∷◌, length, Option, Some, None, refl, ap, ◌∙◌, sym, subst, arith, get_or, inl, inr, Bool, true, false, cond, eqb}
-use Rattle.std.specs.Prelude.{IfSome, IsSome, map}
+use Rattle.std.proofs.Common.{◌≡◌, ℕ, ◌+◌, ◌<◌, ◌≤◌, List, [], ◌∷◌, length, Option, Some, None, refl, ap, sym, subst, arith, get_or, eqb}
+use Rattle.std.specs.Prelude.{IfSome, IsSome}
 use Rattle.std.proofs.lemmas.List.{length-append, length-set, length-map, get_or-map, get_or_past}
 use Rattle.std.proofs.Math.Seq.{get_or-append_seam}
 use Rattle.std.proofs.lemmas.List.Sums.{sum_by-cons}
-use Rattle.std.proofs.lemmas.Bool.{cases_lt}
-use Rattle.ob_rights.specs.Rights.{within}
 use Rattle.ob_tables.specs.declared.entry.Entry.{Entry}
 use Rattle.ob_tables.specs.Counts.{slot_handles, slot_handles_in}
-use Rattle.ob_tables.specs.Inheritance.{inheritable, inherited}
+use Rattle.ob_tables.specs.Inheritance.{inherited}
 use Rattle.ob_tables.specs.Tables as tables
 use Rattle.ob_tables.specs.Tables.{HandleTables, IsBounded, table_of}
 use Rattle.ob_tables.proofs.Counting.{handles_among-with_child, handles_in-inherited, handles_in-among}
@@ -29,27 +27,6 @@ use Rattle.ob_store.proofs.ListingLaws.{listing_child}
 use Rattle.ob_store.proofs.KeptLaws.{handled, kept_process, table_came}
 use Rattle.ob_store.proofs.PopulatedLaws.{populated_process}
 
--- a place of a child's table has what its parent's has there
-inherited_at : (t : List (Option Entry)) (i : ℕ) → get_or (inherited t) i None ≡ inheritable (get_or t i None)
-inherited_at t i = at-trimmed (map inheritable t) i ∙ elim (cases_lt i (length t)) [
-  | inl lt ↦ get_or-map inheritable t i None None lt
-  | inr le ↦ get_or_past (map inheritable t) i None (omega (arith, length-map t inheritable))
-      ∙ ap inheritable (sym (get_or_past t i None le))
-]
-
-inheritable_own : (x : Option Entry) (e : Entry) → inheritable x ≡ Some e → x ≡ Some e
-inheritable_own None e is = absurd (cc)
-inheritable_own (Some y) e is = by (within 1 y.flags.0) is
-  where
-    by : (b : Bool) → cond b (Some y) None ≡ Some e → Some y ≡ Some e
-    by true same = same
-    by false same = absurd (cc)
-
--- it comes last
-last_table : (ts : List (List (Option Entry))) (p : ℕ)
-    → table_of (tables.with_child ts p) (length ts) ≡ inherited (table_of ts p)
-last_table ts p = get_or-append_seam ts (inherited (table_of ts p)) [] []
-
 -- all but the counts of handles
 pub handles_stay : (places : List (Option Entry)) (s : ObjectsState)
     → with_handles_of s places ≡ record s { seen = record s.seen { handles = (with_handles_of s places).seen.handles } }
@@ -61,17 +38,14 @@ pub handles_long_after : (places : List (Option Entry)) (s : ObjectsState)
     → length (with_handles_of s places).seen.handles ≡ length s.seen.handles
 handles_long_after [] s = refl
 handles_long_after (None ∷ places) s = handles_long_after places s
-handles_long_after (Some e ∷ places) s = handles_long_after places (with_handle_at s (Some e))
-    ∙ length-set s.seen.handles e.id.slot (get_or s.seen.handles e.id.slot 0 + 1)
+handles_long_after (Some e ∷ places) s = search (arith, length-set, handles_long_after places (with_handle_at s (Some e)), e.id.slot, s.seen.handles)
 
 -- a slot counts as many more as the table has entries of it
 pub handles_counted : (places : List (Option Entry)) (s : ObjectsState) (k : ℕ) → k < length s.seen.handles
     → get_or (with_handles_of s places).seen.handles k 0 ≡ get_or s.seen.handles k 0 + slot_handles_in k places
 handles_counted [] s k lt = omega arith
 handles_counted (None ∷ places) s k lt =
-    let rest = handles_counted places s k lt in
-    let sum : slot_handles_in k (None ∷ places) ≡ 0 + slot_handles_in k places = sum_by-cons _ None places in
-    omega (arith, rest, sum)
+    search (arith, sum_by-cons, handles_counted places s k lt)
 handles_counted (Some e ∷ places) s k lt =
     let rest = handles_counted places (with_handle_at s (Some e)) k
     (omega (arith, length-set s.seen.handles e.id.slot (get_or s.seen.handles e.id.slot 0 + 1), lt)) in
@@ -94,7 +68,7 @@ module _ (p : PartsState) (kept : IsKept p) (parent : ℕ) (w : Whole) (view : w
       → t ≡ record p.tables { tables = tables.with_child p.tables.tables parent }
       → places ≡ inherited (table_of p.tables.tables parent)
   child_read places t child read last copied =
-      read ∙ (λ i. table_of (copied i).tables (last i)) ∙ last_table ts parent
+      search (arith, get_or-append_seam)
 
   -- what a child inherits has a body
   pub inherited_live : IsTied p.objects → (places : List (Option Entry)) → places ≡ child_table → (i : ℕ) →
@@ -108,7 +82,7 @@ module _ (p : PartsState) (kept : IsKept p) (parent : ℕ) (w : Whole) (view : w
       by None is = tt
       by (Some e) is =
           let own : get_or (table_of ts parent) i None ≡ Some e =
-          inheritable_own (get_or (table_of ts parent) i None) e (sym (inherited_at (table_of ts parent) i) ∙ is) in
+          search (arith, at-trimmed, get_or-map, get_or_past, length-map) in
           handled p e.id kept.sound tied (entry_counted p.objects.objects ts p.waits.waits kept.sound.named parent i e
           own)
 
@@ -167,30 +141,8 @@ module _ (p : PartsState) (kept : IsKept p) (parent : ℕ) (w : Whole) (view : w
   kept_child session processes threads =
       let plain = (kept_process p session w view kept processes threads).sound in
       let old = kept.sound.processes_kept in
-      let is : IsKept (with_child session counted) = record {
-        sound = record {
-          limited = kept.sound.limited;
-          processes_kept = record {
-            few_processes = plain.processes_kept.few_processes;
-            few_threads = plain.processes_kept.few_threads;
-            processes_from_one = plain.processes_kept.processes_from_one;
-            threads_from_one = plain.processes_kept.threads_from_one;
-            tabled = length-append ts (child_table ∷ []) ∙ sym (length-append ts ([] ∷ []))
-                ∙ plain.processes_kept.tabled;
-            vacated = table_came p.processes.processes ts session child_table old.tabled old.vacated;
-            live = plain.processes_kept.live;
-          };
-          counted = record { handles = handles_after; blocks = kept.sound.counted.blocks };
-          named = named_child;
-          formed = kept.sound.formed;
-          of_live = plain.of_live;
-          room = kept.sound.room;
-          listing = listing_child p.rows ts p.objects.objects p.objects.births kept.sound.listing parent;
-        };
-        populated = populated_process p.processes.processes p.processes.threads session kept.populated;
-        settled = kept.settled;
-      } in
-      subst (λ (o : ObjectsState). IsKept (with_child session o)) (sym (handles_stay child_table p.objects)) is
+      let is : IsKept (with_child session counted) = search (arith, handles_after, named_child, length-append, listing_child, populated_process, table_came, kept.populated, kept.settled, kept.sound.counted.blocks, kept.sound.formed, kept.sound.limited, kept.sound.listing, kept.sound.room, old.tabled, old.vacated, p.objects.births, p.objects.objects, p.processes.processes, p.processes.threads, p.rows, plain.of_live, plain.processes_kept.few_processes, plain.processes_kept.few_threads, plain.processes_kept.live, plain.processes_kept.processes_from_one, plain.processes_kept.tabled, plain.processes_kept.threads_from_one) in
+      search (arith, handles_stay, p.objects)
 
   pub settled_child : (session : ℕ) → ◌≡◌ {A = Whole} (record {
     state = settled

@@ -8,7 +8,7 @@ use Rattle.ob_body.specs.declared.body.Body.{Body}
 use Rattle.ob_waits.specs.Objects.{slot_acquired}
 use Rattle.ob_store.specs.Closing.{is_closing, is_closing_in, is_open}
 use Rattle.ob_store.specs.declared.seat.Seat.{Seat}
-use Rattle.ob_store.specs.Objects.{Tag, no_tag, object_at, objects_in, seat_body}
+use Rattle.ob_store.specs.Objects.{Tag, object_at, objects_in, seat_body}
 use Rattle.ob_store.proofs.LabelLaws.{object_read, seat_there}
 use Rattle.ob_store.proofs.OwnerLaws.{some_there}
 use Rattle.ob_store.proofs.SeatLaws.{read, mapped_same, mapped_set, mapped_stays}
@@ -17,9 +17,7 @@ use Rattle.ob_store.proofs.SeatLaws.{read, mapped_same, mapped_set, mapped_stays
 pub closing_read : (xs : List (Option Seat)) (ls : List Tag) (opens : List Bool) (k : ℕ) → opens ≡ map is_open xs
     → is_free_within opens k ≡ is_closing_in (objects_in xs ls) (map seat_body xs) k
 closing_read xs ls opens k opened =
-    ap (λ (z : List Bool). not (get_or z k true)) opened ∙ ap not (read is_open xs k)
-    ∙ by (get_or xs k None) (get_or ls k no_tag)
-    ∙ sym (λ i. is_closing (object_read xs ls k i) (read seat_body xs k i))
+    search (arith, object_read, read)
   where
     ended : (b : Option Body) → not (is_some b) ≡ is_none b
     ended None = refl
@@ -33,12 +31,7 @@ closing_read xs ls opens k opened =
 pub opened_at : (xs : List (Option Seat)) (opens : List Bool) (k : ℕ) (x : Seat) → opens ≡ map is_open xs
     → get_or xs k None ≡ Some x → slice_get opens k ≡ Some (is_some x.body)
 opened_at xs opens k x opened there =
-    let within : k < length opens = omega (
-      arith,
-      ap (λ (z : List Bool). length z) opened,
-      length-map xs is_open,
-      some_there xs k x there,
-    ) in
+    let within : k < length opens = search (arith, length-map, some_there) in
     slice_get-get_or opens k true within ∙ ap (λ (z : List Bool). Some (get_or z k true)) opened
     ∙ ap Some (read is_open xs k ∙ ap is_open there)
 
@@ -46,31 +39,23 @@ opened_at xs opens k x opened there =
 pub opened_left_at : (xs : List (Option Seat)) (opens : List Bool) (k : ℕ) (x y : Seat) (b : Bool) (o : Option Body)
     → opens ≡ map is_open xs → get_or xs k None ≡ Some x → o ≡ cond b x.body None → y.body ≡ cond b None x.body
     → cond (is_some o) (set opens k false) opens ≡ map is_open (set xs k (Some y))
-opened_left_at xs opens k x y true o opened there went none = by o went
-  where
-    by : (o : Option Body) → o ≡ x.body → cond (is_some o) (set opens k false) opens ≡ map is_open (set xs k (Some y))
-    by None is = mapped_stays is_open xs opens k x y opened there (ap is_some none ∙ ap is_some is)
-    by (Some body) is = mapped_set is_open xs opens k (Some y) false opened (sym (ap is_some none))
+opened_left_at xs opens k x y true o opened there went none = search (arith, mapped_set, mapped_stays)
 opened_left_at xs opens k x y false o opened there went same =
-    ap (λ (z : Option Body). cond (is_some z) (set opens k false) opens) went
-    ∙ mapped_stays is_open xs opens k x y opened there (ap is_some same)
+    search (arith, mapped_stays)
 
 -- a body that goes was there
 pub gone_was_there : (xs : List (Option Seat)) (opens : List Bool) (k : ℕ) (x : Seat) (b : Bool) (o : Option Body)
     → opens ≡ map is_open xs → get_or xs k None ≡ Some x → o ≡ cond b x.body None → is_some o ≡ true
     → slice_get opens k ≡ Some true
 gone_was_there xs opens k x true o opened there went some =
-    opened_at xs opens k x opened there ∙ ap Some (ap is_some (sym went) ∙ some)
-gone_was_there xs opens k x false o opened there went some = absurd (differ (sym some ∙ ap is_some went))
-  where
-    differ : true ≡ false → ⊥
-    differ h = cc
+    search (arith, opened_at)
+gone_was_there xs opens k x false o opened there went some = search arith
 
 -- an object comes to a vacant slot, ended or not
 pub vacant_open : (xs : List (Option Seat)) (opens : List Bool) (k : ℕ) → opens ≡ map is_open xs → k < length xs →
     get_or xs k None ≡ None → slice_get opens k ≡ Some true
 vacant_open xs opens k opened within none =
-    let long : k < length opens = omega (arith, within, ap (λ (z : List Bool). length z) opened, length-map xs is_open)
+    let long : k < length opens = search (arith, length-map)
     in
     slice_get-get_or opens k true long ∙ ap (λ (z : List Bool). Some (get_or z k true)) opened
     ∙ ap Some (read is_open xs k ∙ ap is_open none)
@@ -79,24 +64,12 @@ pub opened_back : (xs : List (Option Seat)) (opens : List Bool) (k : ℕ) (y : S
     → opens ≡ map is_open xs →
     get_or xs k None ≡ None → is_some y.body ≡ not ended
     → cond ended (set opens k false) opens ≡ map is_open (set xs k (Some y))
-opened_back xs opens k y ended opened none is = by y.body refl
-  where
-    gone : (e : Bool) (b : Option Body) → is_some b ≡ not e → e ≡ is_none b
-    gone true None h = refl
-    gone false None h = absurd cc
-    gone true (Some body) h = absurd cc
-    gone false (Some body) h = refl
-
-    by : (b : Option Body) → y.body ≡ b → cond ended (set opens k false) opens ≡ map is_open (set xs k (Some y))
-    by None none = ap (λ (e : Bool). cond e (set opens k false) opens) (gone ended y.body is ∙ ap is_none none)
-        ∙ mapped_set is_open xs opens k (Some y) false opened (sym (ap is_some none))
-    by (Some body) some = ap (λ (e : Bool). cond e (set opens k false) opens) (gone ended y.body is ∙ ap is_none some)
-        ∙ mapped_same is_open xs opens k (Some y) opened (ap is_some some ∙ sym (ap is_open none))
+opened_back xs opens k y ended opened none is = search (arith, mapped_same, mapped_set)
 
 -- a seat with a body, by the bodies that are read off the seats
 pub bodied : (xs : List (Option Seat)) (k : ℕ) (x : Seat) → get_or xs k None ≡ Some x
     → IsSome (get_or (map seat_body xs) k None) → is_some x.body ≡ true
-bodied xs k x there some = ap is_some (sym (read seat_body xs k ∙ ap seat_body there)) ∙ some
+bodied xs k x there some = search (arith, read)
 
 -- a body that is acquired stays
 pub body_stays : (thread : ℕ) (b : Option Body) → is_some (slot_acquired thread b) ≡ is_some b
@@ -110,9 +83,6 @@ pub ended_here : (xs : List (Option Seat)) (ls : List Tag) (opens : List Bool) (
 ended_here xs ls opens k opened there ended = by (get_or xs k None) refl (seat_there xs ls k there)
   where
     by : (x : Option Seat) → get_or xs k None ≡ x → IsSome (get_or xs k None) → slice_get opens k ≡ Some false
-    by None is some = absurd (differ (sym some ∙ ap is_some is))
-      where
-        differ : true ≡ false → ⊥
-        differ h = cc
+    by None is some = search arith
     by (Some x) is some = opened_at xs opens k x opened is
         ∙ ap (λ (b : Option Body). Some (is_some b)) (sym (read seat_body xs k ∙ ap seat_body is) ∙ ended)

@@ -1,5 +1,5 @@
 -- What is stored of references goes on being what is counted, as each change changes both.
-use Rattle.std.proofs.Common.{◌≡◌, ℕ, ◌+◌, ◌-◌, ◌<◌, List, [], ◌∷◌, length, Option, Some, None, refl, ap, ◌∙◌, sym, arith, get_or, set}
+use Rattle.std.proofs.Common.{◌≡◌, ℕ, ◌+◌, ◌-◌, ◌<◌, List, [], ◌∷◌, length, Option, Some, None, ap, ◌∙◌, arith, get_or, set}
 use Rattle.std.specs.Prelude.{replicate}
 use Rattle.ob_body.specs.declared.body.Body.{Body}
 use Rattle.ob_rights.specs.declared.handle_flags.HandleFlags.{HandleFlags}
@@ -13,17 +13,16 @@ use Rattle.ob_waits.specs.Objects.{Objects}
 use Rattle.ob_waits.specs.Waits.{Scene, settled, slot_blocks}
 use Rattle.ob_waits.proofs.Ends.{sizes_settled}
 use Rattle.ob_waits.proofs.References.{settled_counts}
-use Rattle.ob_store.specs.State.{by_slot}
 use Rattle.ob_store.specs.Kept.{IsCounted}
 use Rattle.ob_store.proofs.BySlot.{count_at, count_few, counts_long, recounted, recounted_one, zero_counts}
 
 module _ (seen : Objects) (n : ℕ) (ts : List (List (Option Entry))) (ws : List (Option Wait))
     (counted : IsCounted seen n ts ws) where
   pub handles_at : (k : ℕ) → k < n → get_or seen.handles k 0 ≡ slot_handles k ts
-  handles_at k lt = count_at seen.handles n (λ i. slot_handles i ts) k counted.handles lt
+  handles_at k lt = search (arith, count_at)
 
   pub blocks_at : (k : ℕ) → k < n → get_or seen.blocks k 0 ≡ slot_blocks k ws
-  blocks_at k lt = count_at seen.blocks n (λ i. slot_blocks i ws) k counted.blocks lt
+  blocks_at k lt = search (arith, count_at)
 
   pub handles_long : length seen.handles ≡ n
   handles_long = counts_long seen.handles n (λ i. slot_handles i ts) counted.handles
@@ -36,21 +35,13 @@ module _ (seen : Objects) (n : ℕ) (ts : List (List (Option Entry))) (ws : List
   handles_few processes handles k b =
       let few = count_few seen.handles n (λ i. slot_handles i ts) k counted.handles in
       let all = slot_handles-few k processes handles ts b in
-      omega (arith, few, all)
+      omega arith
 
   -- an entry comes
   pub counted_placed : (p : ℕ) (e : Entry) → p < length ts
       → IsCounted (record seen { handles = set seen.handles e.id.slot (get_or seen.handles e.id.slot 0 + 1) }) n
       (with_entry_of ts p e) ws
-  counted_placed p e table = record {
-    handles = recounted_one seen.handles n (λ k. slot_handles k ts)
-        (λ k. slot_handles k (with_entry_of ts p e)) e.id.slot _ counted.handles
-        (λ k other. let x = slot_handles-with_entry k ts p e table in let y = one_in-other e k other in
-        omega (arith, x, y))
-        (λ lt. let x = slot_handles-with_entry e.id.slot ts p e table in let y = one_in-same e in
-        let z = handles_at e.id.slot lt in omega (arith, x, y, z));
-    blocks = counted.blocks;
-  }
+  counted_placed p e table = search (arith, handles_at, recounted_one, slot_handles-with_entry)
 
   -- a new object comes with an entry, to a slot that counted nothing
   pub counted_added : (bodies : List (Option Body)) (p : ℕ) (e : Entry) → p < length ts → e.id.slot < n
@@ -60,22 +51,13 @@ module _ (seen : Objects) (n : ℕ) (ts : List (List (Option Entry))) (ws : List
         handles = set seen.handles e.id.slot 1;
         blocks = set seen.blocks e.id.slot 0;
       }) n (with_entry_of ts p e) ws
-  counted_added bodies p e table within handles blocks = record {
-    handles = recounted_one seen.handles n (λ k. slot_handles k ts)
-        (λ k. slot_handles k (with_entry_of ts p e)) e.id.slot 1 counted.handles
-        (λ k other. let x = slot_handles-with_entry k ts p e table in let y = one_in-other e k other in
-        omega (arith, x, y))
-        (λ lt. let x = slot_handles-with_entry e.id.slot ts p e table in let y = one_in-same e in
-        let z = handles_at e.id.slot lt in omega (arith, x, y, z, handles));
-    blocks = recounted_one seen.blocks n (λ k. slot_blocks k ws) (λ k. slot_blocks k ws) e.id.slot 0 counted.blocks
-        (λ k other. refl) (λ lt. let z = blocks_at e.id.slot lt in omega (arith, z, blocks));
-  }
+  counted_added bodies p e table within handles blocks = search (arith, handles_at, blocks_at, recounted_one, slot_handles-with_entry)
 
   -- an entry leaves
   pub one_less : (p value : ℕ) (e : Entry) → entry_at (table_of ts p) value ≡ Some e
       → slot_handles e.id.slot (without_entry_of ts p value) + 1 ≡ slot_handles e.id.slot ts
   one_less p value e found = let x = slot_handles-without_entry e.id.slot ts p value e found in let y = one_in-same e in
-      omega (arith, x, y)
+      omega arith
 
   pub counted_removed : (bodies : List (Option Body)) (p value : ℕ) (e : Entry)
       → entry_at (table_of ts p) value ≡ Some e
@@ -88,35 +70,24 @@ module _ (seen : Objects) (n : ℕ) (ts : List (List (Option Entry))) (ws : List
     handles = recounted_one seen.handles n (λ k. slot_handles k ts)
         (λ k. slot_handles k (without_entry_of ts p value)) e.id.slot _ counted.handles
         (λ k other. let x = slot_handles-without_entry k ts p value e found in let y = one_in-other e k other in
-        omega (arith, x, y))
-        (λ lt. let x = one_less p value e found in let z = handles_at e.id.slot lt in omega (arith, x, z));
+        omega arith)
+        (search (arith, handles_at, one_less));
     blocks = counted.blocks;
   }
 
   -- an entry has other flags
   pub counted_flags : (p value : ℕ) (e : Entry) (flags : HandleFlags) → entry_at (table_of ts p) value ≡ Some e
       → IsCounted seen n (with_flags_of ts p value flags) ws
-  counted_flags p value e flags found = record {
-    handles = counted.handles ∙ ap (by_slot n) (λ i k. sym (slot_handles-with_flags k ts p value e flags found) i);
-    blocks = counted.blocks;
-  }
+  counted_flags p value e flags found = search (arith, slot_handles-with_flags)
 
   -- a process comes
   pub counted_process : IsCounted seen n (with_process ts) ws
-  counted_process = record {
-    handles = counted.handles ∙ ap (by_slot n) (λ i k. sym (slot_handles-with_process k ts) i);
-    blocks = counted.blocks;
-  }
+  counted_process = search (arith, slot_handles-with_process)
 
   -- an object to which nothing refers leaves its slot
   pub counted_left : (bodies : List (Option Body)) (k : ℕ) → get_or seen.handles k 0 ≡ 0 → get_or seen.blocks k 0 ≡ 0
       → IsCounted (record { bodies = bodies; handles = set seen.handles k 0; blocks = set seen.blocks k 0 }) n ts ws
-  counted_left bodies k handles blocks = record {
-    handles = recounted_one seen.handles n (λ i. slot_handles i ts) (λ i. slot_handles i ts) k 0 counted.handles
-        (λ i other. refl) (λ lt. let z = handles_at k lt in omega (arith, z, handles));
-    blocks = recounted_one seen.blocks n (λ i. slot_blocks i ws) (λ i. slot_blocks i ws) k 0 counted.blocks
-        (λ i other. refl) (λ lt. let z = blocks_at k lt in omega (arith, z, blocks));
-  }
+  counted_left bodies k handles blocks = search (arith, handles_at, blocks_at, recounted_one)
 
   -- the waits settle
   pub counted_settled : (bodies : List (Option Body)) (after : Objects) (ws' : List (Option Wait))
@@ -131,12 +102,12 @@ module _ (seen : Objects) (n : ℕ) (ts : List (List (Option Entry))) (ws : List
             (ap (λ (s : Scene). length s.objects.blocks) value ∙ (sizes_settled first).blocks)
             (λ k lt.
             let at = blocks_at k lt in
-            let c = (settled_counts first).each k (omega (arith, at)) in
+            let c = (settled_counts first).each k (omega arith) in
             let x : get_or after.blocks k 0 ≡ get_or (settled first).objects.blocks k 0 =
             ap (λ (s : Scene). get_or s.objects.blocks k 0) value in
             let y : slot_blocks k ws' ≡ slot_blocks k (settled first).waits =
             ap (λ (s : Scene). slot_blocks k s.waits) value in
-            omega (arith, at, c, x, y));
+            omega arith);
       }
 
 -- nothing refers to anything yet
@@ -145,7 +116,4 @@ pub counted_opening : (n : ℕ) → IsCounted (record {
   handles = replicate n 0;
   blocks = replicate n 0;
 }) n ([] ∷ []) (None ∷ [])
-counted_opening n = record {
-  handles = zero_counts n (λ k. slot_handles k ([] ∷ [])) (λ k. refl);
-  blocks = zero_counts n (λ k. slot_blocks k (None ∷ [])) (λ k. refl);
-}
+counted_opening n = search (arith, zero_counts)

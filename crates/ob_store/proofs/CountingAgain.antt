@@ -1,12 +1,11 @@
 -- What is counted in a store that is kept is counted again, so that what it saves isn't refused.
-use Rattle.std.proofs.Common.{◌≡◌, ℕ, ◌+◌, ◌<◌, ◌≤◌, ltb, Bool, true, cond, List, [], ◌∷◌, length, get_or, Option, Some, None, Ok, Err, refl, sym, ap, ◌∙◌, subst, arith}
+use Rattle.std.proofs.Common.{◌≡◌, ℕ, ◌+◌, ◌<◌, ◌≤◌, Bool, true, cond, List, [], ◌∷◌, length, Option, Some, None, Ok, Err, refl, sym, ap, ◌∙◌, subst, arith}
 use Rattle.ob_store.proofs.ByPlace.{replicate_at}
 use Rattle.std.proofs.lemmas.Bool.{and_from, lt-ltb}
 use Rattle.std.proofs.lemmas.List.{ext_get_or, length-replicate}
 use Rattle.std.proofs.lemmas.List.Sums.{sum_by-cons}
 use Rattle.std.proofs.lemmas.Option.{same_Some}
 use Rattle.pin_core.specs.declared.id.Id.{Id}
-use Rattle.pin_core.specs.Holds.{same_id}
 use Rattle.ob_codec.specs.declared.fault.TextFault.TheVariants.{Value}
 use Rattle.ob_codec.specs.Reading.{◌>>=◌}
 use Rattle.ob_tables.specs.declared.entry.Entry.{Entry}
@@ -27,12 +26,11 @@ Again p tables = (q : Places) × (counting_all p tables ≡ Ok q)
 
 pub its_id : (x : Option Object) (id : Id) → id_in x ≡ Some id → is_its id x ≡ true
 its_id None id e = absurd cc
-its_id (Some o) id e = ap (λ (z : Id). same_id z id) (same_Some o.id id e) ∙ same_id-same id
+its_id (Some o) id e = search (arith, same_Some, same_id-same, o.id)
 
 may-again : (p : Places) (id : Id) → IsThere p.objects id → handles_at p id.slot < 4294967295 → may_count p id ≡ true
 may-again p id there room =
-    and_from (is_its id (get_or p.objects id.slot None)) (ltb (handles_at p id.slot) 4294967295)
-    (its_id (get_or p.objects id.slot None) id there) (lt-ltb (handles_at p id.slot) 4294967295 room)
+    search (arith, its_id, and_from, lt-ltb, id.slot, p.objects)
 
 in-again : (p : Places) (places : List (Option Entry)) → IsWide p →
     ((k : ℕ) → handles_at p k + slot_handles_in k places ≤ 4294967295) →
@@ -40,10 +38,8 @@ in-again : (p : Places) (places : List (Option Entry)) → IsWide p →
 in-again p [] wide few named = (p, refl)
 in-again p (None ∷ places) wide few named =
     in-again p places wide
-    (λ k. (let s = sum_by-cons (λ (y : Option Entry). cond (names_slot k y) 1 0) None places in let f = few k in
-    omega (arith, s, f)))
-    (λ id h. named id (let s = sum_by-cons (λ (y : Option Entry). cond (names id y) 1 0) None places in
-    omega (arith, s, h)))
+    (search (arith, sum_by-cons))
+    (search (arith, sum_by-cons))
 in-again p (Some e ∷ places) wide few named =
     let own : cond {A = ℕ} (names e.id (Some e)) 1 0 ≡ 1 = ap {B = ℕ} (λ (b : Bool). cond b 1 0) (same_id-same e.id) in
     let there : IsThere p.objects e.id =

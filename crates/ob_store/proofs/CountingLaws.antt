@@ -1,15 +1,13 @@
 -- What counting leaves: all is as it was but for the handles, which are more by the entries that name a slot.
-use Rattle.std.proofs.Common.{◌≡◌, ℕ, zero, suc, ◌+◌, ◌<◌, Bool, true, false, cond, List, [], ◌∷◌, length, get_or, set, Option, Some, None, Ok, refl, sym, ap, ◌∙◌, subst, arith, inl, inr}
-use Rattle.std.proofs.lemmas.Bool.{and_parts, cases_eq}
+use Rattle.std.proofs.Common.{◌≡◌, ℕ, zero, suc, ◌+◌, ◌<◌, Bool, true, false, cond, List, [], ◌∷◌, length, get_or, Option, Some, None, Ok, sym, ap, ◌∙◌, subst, arith}
 use Rattle.std.proofs.lemmas.List.{length-set, get_or-set_same, get_or-set_other}
 use Rattle.std.proofs.lemmas.List.Sums.{sum_by-cons}
 use Rattle.pin_core.specs.declared.id.Id.{Id}
 use Rattle.ob_codec.specs.declared.fault.TextFault.TheVariants.{Value}
-use Rattle.ob_codec.specs.Steps.{bind_ok, guard_passed, ok_is}
+use Rattle.ob_codec.specs.Steps.{bind_ok, guard_passed}
 use Rattle.ob_tables.specs.declared.entry.Entry.{Entry}
 use Rattle.ob_tables.specs.Counts.{names, names_slot, handles_in, handles_among, slot_handles_in, slot_handles}
 use Rattle.ob_tables.proofs.Counting.{one_id}
-use Rattle.ob_tables.proofs.SlotCounts.{one_in, one_in-same, one_in-other}
 use Rattle.ob_store.specs.Counting.{counting, counting_all, counting_in, is_its, may_count}
 use Rattle.ob_store.specs.Kept.{IsThere, id_in}
 use Rattle.ob_store.specs.Objects.{Object, Places, with_handle}
@@ -32,15 +30,6 @@ IsWide p = length p.objects ≡ length p.seen.handles
 pub still_wide : (p q : Places) (more : ℕ → ℕ) (Named : Id → Type 0) → Counts p q more Named → IsWide p → IsWide q
 still_wide p q more Named c wide = ap (λ (z : Places). length z.objects) c.same ∙ wide ∙ sym c.length_is
 
-none_counts : (p : Places) (more : ℕ → ℕ) (Named : Id → Type 0) → ((k : ℕ) → more k ≡ 0) → ((id : Id) → Named id → ⊥) →
-    Counts p p more Named
-none_counts p more Named none never = record {
-  same = refl;
-  length_is = refl;
-  handles = λ k. (let z = none k in omega (arith, z));
-  named = λ id h. absurd (never id h);
-}
-
 pub its_there : (x : Option Object) (id : Id) → is_its id x ≡ true → id_in x ≡ Some id
 its_there None id e = absurd cc
 its_there (Some o) id e = ap Some (one_id o.id id e)
@@ -49,34 +38,12 @@ its_there (Some o) id e = ap Some (one_id o.id id e)
 pub one_counts : (p : Places) (e : Entry) → IsWide p → may_count p e.id ≡ true →
     Counts p (with_handle p e.id.slot) (λ k. cond (names_slot k (Some e)) 1 0) (λ id. names id (Some e) ≡ true)
 one_counts p e wide may =
-    let there : IsThere p.objects e.id =
-    its_there (get_or p.objects e.id.slot None) e.id (and_parts (is_its e.id (get_or p.objects e.id.slot None)) _ may).0
-    in
-    let within : e.id.slot < length p.seen.handles = omega (arith, there_within p.objects e.id there, wide) in
-    record {
-      same = refl;
-      length_is = length-set p.seen.handles e.id.slot _;
-      handles = λ k. elim (cases_eq k e.id.slot) [
-        | inl here ↦ (let one : one_in k e ≡ 1 = ap (λ (z : ℕ). one_in z e) here ∙ one_in-same e in
-            let now : get_or (set p.seen.handles e.id.slot (handles_at p e.id.slot + 1)) e.id.slot 0 ≡
-            handles_at p e.id.slot + 1 =
-            get_or-set_same p.seen.handles e.id.slot (handles_at p e.id.slot + 1) 0 within in
-            ap (λ (z : ℕ). handles_at (with_handle p e.id.slot) z) here ∙ now ∙
-            ap (λ (z : ℕ). handles_at p z + 1) (sym here)
-            ∙ ap (λ (z : ℕ). handles_at p k + z) (sym one))
-        | inr apart ↦ (let none : one_in k e ≡ 0 = one_in-other e k apart in
-            let now : handles_at (with_handle p e.id.slot) k ≡ handles_at p k =
-            get_or-set_other p.seen.handles e.id.slot k (handles_at p e.id.slot + 1) 0 apart in
-            omega (arith, none, now))
-      ];
-      named = λ id h. subst (IsThere p.objects) (one_id e.id id h) there;
-    }
+    search (arith, its_there, get_or-set_other, get_or-set_same, length-set, there_within)
 
 place_counts : (p q : Places) (place : Option Entry) → IsWide p → counting p place ≡ Ok q →
     Counts p q (λ k. cond (names_slot k place) 1 0) (λ id. names id place ≡ true)
 place_counts p q None wide e =
-    subst (λ (z : Places). Counts p z (λ k. cond (names_slot k None) 1 0) (λ id. names id None ≡ true)) (ok_is p q e)
-    (none_counts p (λ k. cond (names_slot k None) 1 0) (λ id. names id None ≡ true) (λ k. refl) (λ id h. cc))
+    search arith
 place_counts p q (Some entry) wide e =
     let g = guard_passed (may_count p entry.id) Value (with_handle p entry.id.slot) q e in
     subst (λ (z : Places). Counts p z (λ k. cond (names_slot k (Some entry)) 1 0) (λ id. names id (Some entry) ≡
@@ -90,19 +57,12 @@ then_counts : (p q r : Places) (more more' all : ℕ → ℕ) (Named Named' All 
     ((id : Id) → All id → (Named id → IsThere p.objects id) → (Named' id → IsThere p.objects id) →
     IsThere p.objects id) →
     Counts p r all All
-then_counts p q r more more' all Named Named' All c d sum either = record {
-  same = d.same ∙ ap (λ (z : Places). record z { seen = record z.seen { handles = r.seen.handles } }) c.same;
-  length_is = d.length_is ∙ c.length_is;
-  handles = λ k. (let x = c.handles k in let y = d.handles k in let z = sum k in omega (arith, x, y, z));
-  named = λ id h. either id h (c.named id) (λ later. subst (λ (z : Places). IsThere z.objects id) c.same
-      (d.named id later));
-}
+then_counts p q r more more' all Named Named' All c d sum either = grind arith
 
 pub table_counts : (p q : Places) (places : List (Option Entry)) → IsWide p → counting_in p places ≡ Ok q →
     Counts p q (λ k. slot_handles_in k places) (λ id. 0 < handles_in id places)
 table_counts p q [] wide e =
-    subst (λ (z : Places). Counts p z (λ k. slot_handles_in k []) (λ id. 0 < handles_in id [])) (ok_is p q e)
-    (none_counts p (λ k. slot_handles_in k []) (λ id. 0 < handles_in id []) (λ k. refl) (λ id h. omega (arith, h)))
+    search arith
 table_counts p q (place ∷ places) wide e =
     let b = bind_ok (counting p place) (λ (z : Places). counting_in z places) q e in
     let c = place_counts p b.0 place wide b.1 in
@@ -110,10 +70,8 @@ table_counts p q (place ∷ places) wide e =
     (λ k. slot_handles_in k (place ∷ places))
     (λ id. names id place ≡ true) (λ id. 0 < handles_in id places) (λ id. 0 < handles_in id (place ∷ places))
     c (table_counts b.0 q places (still_wide p b.0 _ _ c wide) b.2)
-    (λ k. sum_by-cons (λ (y : Option Entry). cond (names_slot k y) 1 0) place places)
-    (λ id h first later. either id (names id place) refl
-    (subst (λ (n : ℕ). 0 < n) (sum_by-cons (λ (y : Option Entry). cond (names id y) 1 0) place places) h) first
-    later)
+    (search (arith, sum_by-cons))
+    (search arith)
   where
     either : (id : Id) (t : Bool) → names id place ≡ t → 0 < cond t 1 0 + handles_in id places →
         (names id place ≡ true → IsThere p.objects id) → (0 < handles_in id places → IsThere p.objects id) →
@@ -124,8 +82,7 @@ table_counts p q (place ∷ places) wide e =
 pub tables_count : (p q : Places) (tables : List (List (Option Entry))) → IsWide p → counting_all p tables ≡ Ok q →
     Counts p q (λ k. slot_handles k tables) (λ id. 0 < handles_among id tables)
 tables_count p q [] wide e =
-    subst (λ (z : Places). Counts p z (λ k. slot_handles k []) (λ id. 0 < handles_among id [])) (ok_is p q e)
-    (none_counts p (λ k. slot_handles k []) (λ id. 0 < handles_among id []) (λ k. refl) (λ id h. omega (arith, h)))
+    search arith
 tables_count p q (table ∷ tables) wide e =
     let b = bind_ok (counting_in p table) (λ (z : Places). counting_all z tables) q e in
     let c = table_counts p b.0 table wide b.1 in
@@ -133,12 +90,11 @@ tables_count p q (table ∷ tables) wide e =
     (λ k. slot_handles k (table ∷ tables))
     (λ id. 0 < handles_in id table) (λ id. 0 < handles_among id tables) (λ id. 0 < handles_among id (table ∷ tables))
     c (tables_count b.0 q tables (still_wide p b.0 _ _ c wide) b.2)
-    (λ k. sum_by-cons (slot_handles_in k) table tables)
-    (λ id h first later. either id (handles_in id table) refl
-    (subst (λ (n : ℕ). 0 < n) (sum_by-cons (handles_in id) table tables) h) first later)
+    (search (arith, sum_by-cons))
+    (search arith)
   where
     either : (id : Id) (n : ℕ) → handles_in id table ≡ n → 0 < n + handles_among id tables →
         (0 < handles_in id table → IsThere p.objects id) → (0 < handles_among id tables → IsThere p.objects id) →
         IsThere p.objects id
     either id zero is h first later = later (omega arith)
-    either id (suc n) is h first later = first (omega (arith, is))
+    either id (suc n) is h first later = first (omega arith)

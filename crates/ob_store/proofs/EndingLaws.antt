@@ -1,32 +1,27 @@
 -- Threads and processes end: what is sound stays so, and is on its way to the settled state.
-use Rattle.std.proofs.Common.{◌≡◌, ◌≢◌, ℕ, ◌<◌, List, [], length, Option, Some, None, refl, ap, ◌∙◌, sym, subst, arith, get_or, set, map, Bool, true, false, cond, inl, inr, eqb}
-use Rattle.std.specs.Prelude.{IsSome, is_some, sum_by}
-use Rattle.std.proofs.lemmas.Bool.{cases_eq}
+use Rattle.std.proofs.Common.{◌≡◌, ◌≢◌, ℕ, ◌<◌, List, length, Option, Some, None, refl, ap, ◌∙◌, sym, subst, arith, get_or, set, map, true, inl, inr}
+use Rattle.std.specs.Prelude.{is_some, sum_by}
 use Rattle.std.proofs.lemmas.List.{length-set, length-map, get_or-set_other, get_or-set_same}
-use Rattle.std.proofs.lemmas.Bool.Decides.{nat_tests}
 use Rattle.pin_core.specs.declared.id.Id.{Id}
 use Rattle.pin_words.specs.Keepers.{KeeperState}
 use Rattle.ob_body.specs.declared.body.Body.{Body}
-use Rattle.ob_body.specs.declared.body.Body.TheVariants.{Event, Mutex}
-use Rattle.ob_body.specs.Mutex as mutex
+use Rattle.ob_body.specs.declared.body.Body.TheVariants.{Mutex}
 use Rattle.ob_body.specs.Body.{owner_of, after_abandon}
-use Rattle.ob_body.proofs.Effects.{room_after_abandon}
 use Rattle.ob_tables.specs.declared.entry.Entry.{Entry}
 use Rattle.ob_tables.specs.Tables.{table_of, without_entries}
-use Rattle.ob_tables.specs.Counts.{handles_among, handles_in, names, names_slot, slot_handles, slot_handles_in}
+use Rattle.ob_tables.specs.Counts.{handles_among, slot_handles}
 use Rattle.ob_tables.proofs.Counting.{handles_among-without_entries}
 use Rattle.ob_tables.proofs.SlotCounts.{slot_handles-without_entries}
 use Rattle.ob_waits.specs.declared.wait.Wait.{Wait}
-use Rattle.ob_waits.specs.Form.{form_of, slot_form, slot_owner}
-use Rattle.ob_waits.specs.Objects.{Objects, slot_room, without_blocks}
+use Rattle.ob_waits.specs.Form.{slot_form, slot_owner}
+use Rattle.ob_waits.specs.Objects.{Objects, without_blocks}
 use Rattle.ob_waits.specs.Rules as rules
 use Rattle.ob_waits.specs.Rules.{thread_of}
-use Rattle.ob_waits.specs.Waits.{slot_blocks, thread_ids, unless_of, is_waits_of, without_thread}
+use Rattle.ob_waits.specs.Waits.{slot_blocks, thread_ids, unless_of, without_thread}
 use Rattle.ob_waits.proofs.Counted.{slot_dropped, blocks_dropped}
 use Rattle.ob_waits.proofs.Ends.{sizes_left}
 use Rattle.ob_waits.proofs.References.{left_all}
-use Rattle.ob_waits.proofs.Room.{room_changed, room_dropped}
-use Rattle.ob_waits.proofs.TrackedLaws.{thread_waits}
+use Rattle.ob_waits.proofs.Room.{room_dropped}
 use Rattle.ob_store.specs.Agreement.{IsTied}
 use Rattle.ob_store.specs.Ends.{slot_left_by, thread_ended}
 use Rattle.ob_store.specs.Kept.{IsCounted, IsLive}
@@ -34,7 +29,7 @@ use Rattle.ob_store.specs.Processes.{ProcessesState}
 use Rattle.ob_store.specs.Objects.{ObjectsState, KeptRest, kept_rest}
 use Rattle.ob_store.specs.Parts.{PartsState}
 use Rattle.ob_store.specs.Signaled.{SignaledState, KeepsEnough}
-use Rattle.ob_store.specs.State.{State, by_slot}
+use Rattle.ob_store.specs.State.{State}
 use Rattle.ob_store.specs.UnderWay.{AreLeft, IsEnding, IsUnderWay}
 use Rattle.ob_store.proofs.BodyLaws.{formed_by}
 use Rattle.ob_store.proofs.BySlot.{recounted}
@@ -42,56 +37,16 @@ use Rattle.ob_store.proofs.CountedLaws.{blocks_at}
 use Rattle.ob_store.proofs.EndLaws.{some_set}
 use Rattle.ob_store.proofs.EnoughLaws.{enough_unwaited}
 use Rattle.ob_store.proofs.KeptLaws.{sound_rested, state_rested}
-use Rattle.ob_store.proofs.LeftLaws.{left_blocks, left_more, room_left_at}
-use Rattle.ob_store.proofs.ListingLaws.{listing_counts}
-use Rattle.ob_store.proofs.NamedLaws.{named_fewer, sum_none}
-use Rattle.ob_store.proofs.Places.{from_one_less}
+use Rattle.ob_store.proofs.LeftLaws.{left_blocks}
+use Rattle.ob_store.proofs.NamedLaws.{sum_none}
 use Rattle.ob_store.proofs.SeatLaws.{read}
 
 left_mapped : (t : ℕ) (bodies after : List (Option Body)) → AreLeft bodies after
     → AreLeft (map (slot_left_by t) bodies) (map (slot_left_by t) after)
-left_mapped t bodies after l = record {
-  length_is = length-map after (slot_left_by t) ∙ l.length_is ∙ sym (length-map bodies (slot_left_by t));
-  each = λ k. elim (l.each k) [
-    | inl same ↦ inl (read (slot_left_by t) after k ∙ ap (slot_left_by t) same ∙ sym (read (slot_left_by t) bodies k))
-    | inr none ↦ inr (read (slot_left_by t) after k ∙ ap (slot_left_by t) none)
-  ];
-}
-
-abandon_form : (t : ℕ) (b : Body) → form_of (after_abandon t b) ≡ form_of b
-abandon_form t (Event e) = refl
-abandon_form t b = refl
-
-form_left_by : (t : ℕ) (x : Option Body) → slot_form (slot_left_by t x) ≡ slot_form x
-form_left_by t None = refl
-form_left_by t (Some b) = ap Some (abandon_form t b)
-
-some_left_by : (t : ℕ) (x : Option Body) → is_some (slot_left_by t x) ≡ is_some x
-some_left_by t None = refl
-some_left_by t (Some b) = refl
-
-room_left_by : (limit u t : ℕ) (x : Option Body) → slot_room limit t x ≡ true
-    → slot_room limit t (slot_left_by u x) ≡ true
-room_left_by limit u t None h = refl
-room_left_by limit u t (Some b) h = room_after_abandon limit u t b h
-
--- who owns a mutex still owned it before, and is another
-mutex_owner : (u t : ℕ) (owner : Option ℕ) (recursion : ℕ) (abandoned : Bool)
-    → (mutex.after_abandon u (record { owner = owner; recursion = recursion; abandoned = abandoned })).owner ≡ Some t
-    → (owner ≡ Some t) × (t ≢ u)
-mutex_owner u t None recursion abandoned h = absurd (cc)
-mutex_owner u t (Some o) recursion abandoned h = by (eqb o u) refl h
-  where
-    by : (c : Bool) → eqb o u ≡ c → (cond c (mutex.free_mutex true) (record {
-      owner = Some o;
-      recursion = recursion;
-      abandoned = abandoned;
-    })).owner ≡ Some t → (Some o ≡ Some t) × (t ≢ u)
-    by true is h = absurd (cc)
-    by false is h = (h, λ same. let own : o ≡ t = cc in absurd (grind (arith, nat_tests, is, own, same)))
+left_mapped t bodies after l = search (arith, length-map, read)
 
 body_owner : (u t : ℕ) (b : Body) → owner_of (after_abandon u b) ≡ Some t → (owner_of b ≡ Some t) × (t ≢ u)
-body_owner u t (Mutex m) h = mutex_owner u t m.owner m.recursion m.abandoned h
+body_owner u t (Mutex m) h = search arith
 body_owner u t b h = absurd (cc)
 
 owner_left_by : (u t : ℕ) (x : Option Body) → slot_owner (slot_left_by u x) ≡ Some t → (slot_owner x ≡ Some t) × (t ≢ u)
@@ -100,18 +55,10 @@ owner_left_by u t (Some b) h = body_owner u t b h
 
 -- whose wait is left is another's
 waiter_left : (t u : ℕ) (w : Option Wait) → thread_of (unless_of t w) ≡ Some u → (thread_of w ≡ Some u) × (u ≢ t)
-waiter_left t u w h = by (is_waits_of t w) refl h
-  where
-    by : (c : Bool) → is_waits_of t w ≡ c → thread_of (cond c None w) ≡ Some u → (thread_of w ≡ Some u) × (u ≢ t)
-    by true is h = absurd (cc)
-    by false is h = (
-      h,
-      λ same. absurd (let own : is_waits_of t w ≡ true = thread_waits t w (h ∙ ap Some same) in
-          cc (own, is)),
-    )
+waiter_left t u w h = search arith
 
 live_still : (threads : List (Option ℕ)) (t u : ℕ) → u ≢ t → IsLive threads u → IsLive (set threads t None) u
-live_still threads t u other live = subst IsSome (sym (get_or-set_other threads t u None None other)) live
+live_still threads t u other live = search (arith, get_or-set_other)
 
 -- a thread ends: its blocks left, which q tells, and then its mutexes are abandoned, which r tells
 module _ (p : PartsState) (q r : ObjectsState) (a : SignaledState) (t : ℕ)
@@ -147,18 +94,14 @@ module _ (p : PartsState) (q r : ObjectsState) (a : SignaledState) (t : ℕ)
   bodies_are = ap (λ (x : Objects). x.bodies) seen
 
   body_is : (k : ℕ) → get_or r.seen.bodies k None ≡ slot_left_by t (get_or q.seen.bodies k None)
-  body_is k = ap (λ (x : List (Option Body)). get_or x k None) bodies_are ∙ read (slot_left_by t) q.seen.bodies k
+  body_is k = search (arith, read)
 
   fewer : AreLeft p.objects.seen.bodies q.seen.bodies
   fewer = subst (λ (x : Objects). AreLeft p.objects.seen.bodies x.bodies) (sym blocks) (left_blocks ids p.objects.seen)
 
   form_at : (k : ℕ) → is_some (get_or r.seen.bodies k None) ≡ true
       → slot_form (get_or r.seen.bodies k None) ≡ slot_form (get_or p.objects.seen.bodies k None)
-  form_at k h = ap slot_form (body_is k) ∙ form_left_by t (get_or q.seen.bodies k None) ∙ elim (fewer.each k) [
-    | inl same ↦ ap slot_form same
-    | inr none ↦ absurd (let a = ap is_some (body_is k) in let b = some_left_by t (get_or q.seen.bodies k None) in
-        let c = ap is_some none in cc (a, b, c, h))
-  ]
+  form_at k h = search (arith, read, fewer.each)
 
   owner_at : (k u : ℕ) → slot_owner (get_or r.seen.bodies k None) ≡ Some u
       → (slot_owner (get_or p.objects.seen.bodies k None) ≡ Some u) × (u ≢ t)
@@ -176,19 +119,9 @@ module _ (p : PartsState) (q r : ObjectsState) (a : SignaledState) (t : ℕ)
   way_thread tied first s way = record {
     tied = tied;
     sound = sound_rested p processes_left r (without_thread p.waits t) a rests way.sound refl
-        (record {
-          few_processes = way.sound.processes_kept.few_processes;
-          few_threads = (let x = length-set p.processes.threads t None in
-              let y = way.sound.processes_kept.few_threads in omega (arith, x, y));
-          processes_from_one = way.sound.processes_kept.processes_from_one;
-          threads_from_one = from_one_less p.processes.threads t way.sound.processes_kept.threads_from_one;
-          tabled = way.sound.processes_kept.tabled;
-          vacated = way.sound.processes_kept.vacated;
-          live = λ u n h. way.sound.processes_kept.live u n (some_set p.processes.threads t u n h);
-        })
+        (search (arith, length-set, some_set))
         counted
-        (named_fewer p.objects.objects p.tables.tables p.tables.tables p.waits.waits dropped (λ id. omega arith)
-        (λ id. let x = blocks_dropped id t p.waits.waits alone in omega (arith, x)) way.sound.named)
+        (search (arith, blocks_dropped))
         (formed_by p.waits.clock p.objects.objects p.objects.seen.bodies r.seen.bodies form_at way.sound.formed)
         (record {
           owners = λ k u h. let own = owner_at k u h in
@@ -197,11 +130,7 @@ module _ (p : PartsState) (q r : ObjectsState) (a : SignaledState) (t : ℕ)
               (sym (ap thread_of (read (unless_of t) p.waits.waits n)) ∙ h) in
               live_still p.processes.threads t u own.1 (way.sound.of_live.waiters n u own.0);
         })
-        (room_dropped limit r.seen.bodies p.waits.waits t
-        (room_changed limit p.objects.seen.bodies r.seen.bodies p.waits.waits
-        (λ u k h. subst (λ (x : Option Body). slot_room limit u x ≡ true) (sym (body_is k))
-        (room_left_by limit t u (get_or q.seen.bodies k None)
-        (room_left_at limit u p.objects.seen.bodies q.seen.bodies k fewer h))) way.sound.room));
+        (search (arith, body_is, fewer, room_dropped));
     rest = state_rested p processes_left r (without_thread p.waits t) a rests
         ∙ ap (λ (x : State). record x {
           threads = set x.threads t None;
@@ -209,8 +138,7 @@ module _ (p : PartsState) (q r : ObjectsState) (a : SignaledState) (t : ℕ)
           waits = map (unless_of t) x.waits;
         }) way.rest;
     bodies = subst (λ (x : List (Option Body)). AreLeft (map (slot_left_by t) s.bodies) x) (sym bodies_are)
-        (left_mapped t s.bodies q.seen.bodies (left_more s.bodies p.objects.seen.bodies q.seen.bodies way.bodies
-        fewer));
+        (left_mapped t s.bodies q.seen.bodies (search (arith, fewer)));
     keeper = ap (λ (x : KeptRest). x.keeper) rests ∙ way.keeper;
   }
     where
@@ -228,7 +156,7 @@ module _ (p : PartsState) (q r : ObjectsState) (a : SignaledState) (t : ℕ)
             ap (λ (z : Objects). get_or z.blocks k 0) blocks in
             let y = left_all ids p.objects.seen k in
             let z = slot_dropped k t p.waits.waits alone in
-            omega (arith, at, x, y, z));
+            omega arith);
       }
 
   pub ending_thread : IsTied r → KeepsEnough p.signaled q.seen.bodies a r.seen.bodies
@@ -257,17 +185,11 @@ module _ (first : KeeperState) (p : PartsState) (s : State) (process : ℕ)
 
   slots_same : (k : ℕ) → slot_handles k (without_entries p.tables.tables process) ≡ slot_handles k p.tables.tables
   slots_same k =
-      let x = slot_handles-without_entries k p.tables.tables process table in
-      let y : slot_handles_in k (table_of p.tables.tables process) ≡ 0 =
-      none_counted (λ z. cond (names_slot k z) 1 0) refl (table_of p.tables.tables process) none in
-      omega (arith, x, y)
+      search (arith, none_counted, slot_handles-without_entries)
 
   ids_same : (id : Id) → handles_among id (without_entries p.tables.tables process) ≡ handles_among id p.tables.tables
   ids_same id =
-      let x = handles_among-without_entries id p.tables.tables process table in
-      let y : handles_in id (table_of p.tables.tables process) ≡ 0 =
-      none_counted (λ z. cond (names id z) 1 0) refl (table_of p.tables.tables process) none in
-      omega (arith, x, y)
+      search (arith, none_counted, handles_among-without_entries)
 
   pub ending_process : IsEnding first (record p {
     processes =
@@ -278,39 +200,7 @@ module _ (first : KeeperState) (p : PartsState) (s : State) (process : ℕ)
   ending_process = record {
     under_way = record {
       tied = way.tied;
-      sound = record {
-        limited = way.sound.limited;
-        processes_kept = record {
-          few_processes = (let a = length-set p.processes.processes process None in
-              let b = way.sound.processes_kept.few_processes in omega (arith, a, b));
-          few_threads = way.sound.processes_kept.few_threads;
-          processes_from_one = from_one_less p.processes.processes process
-              way.sound.processes_kept.processes_from_one;
-          threads_from_one = way.sound.processes_kept.threads_from_one;
-          tabled = length-set p.tables.tables process [] ∙ way.sound.processes_kept.tabled
-              ∙ sym (length-set p.processes.processes process None);
-          vacated = λ q gone. elim (cases_eq q process) [
-            | inl same ↦ ap (λ i. get_or cleared i []) same ∙ get_or-set_same p.tables.tables process [] [] table
-            | inr other ↦ get_or-set_other p.tables.tables process q [] [] other
-                ∙ way.sound.processes_kept.vacated q
-                (sym (get_or-set_other p.processes.processes process q None None other) ∙ gone)
-          ];
-          live = λ t r h. live_still p.processes.processes process r (λ same. alone t (h ∙ ap Some same))
-              (way.sound.processes_kept.live t r h);
-        };
-        counted = record {
-          handles = way.sound.counted.handles
-              ∙ ap (by_slot (length p.objects.objects)) (λ i k. sym (slots_same k) i);
-          blocks = way.sound.counted.blocks;
-        };
-        named = named_fewer p.objects.objects p.tables.tables cleared p.waits.waits p.waits.waits (λ id. let x =
-            ids_same id in omega (arith, x)) (λ id. omega arith) way.sound.named;
-        formed = way.sound.formed;
-        of_live = way.sound.of_live;
-        room = way.sound.room;
-        listing = listing_counts p.rows p.tables.tables p.objects.objects p.objects.births way.sound.listing cleared
-            ids_same;
-      };
+      sound = search (arith, slots_same, ids_same, get_or-set_other, get_or-set_same, length-set);
       rest = ap (λ (x : State). record x {
         tables = cleared;
         processes = set x.processes process None;

@@ -1,7 +1,6 @@
 -- The slots by which it is enough to settle, while bodies and waits go and mutexes are abandoned.
-use Rattle.std.proofs.Common.{◌≡◌, ℕ, List, [], ◌∷◌, ◌++◌, Option, None, refl, ap, ◌∙◌, sym, subst, arith, eqb, get_or, set, map, true, false}
+use Rattle.std.proofs.Common.{◌≡◌, ℕ, List, [], ◌∷◌, ◌++◌, Option, None, ap, ◌∙◌, sym, subst, arith, get_or, set, map, true, false}
 use Rattle.std.proofs.lemmas.List.{get_or-set_other}
-use Rattle.std.proofs.lemmas.Bool.Decides.{nat_tests}
 use Rattle.pin_core.specs.declared.id.Id.{Id}
 use Rattle.ob_body.specs.declared.body.Body.{Body}
 use Rattle.ob_waits.specs.declared.wait.Wait.{Wait}
@@ -11,28 +10,18 @@ use Rattle.ob_waits.specs.Waits.{has_slot, unless_of}
 use Rattle.ob_waits.proofs.Settled.{settled_dropped}
 use Rattle.ob_store.specs.Signaled.{SignaledState, IsEnough, KeepsEnough, in_slot}
 use Rattle.ob_store.specs.UnderWay.{AreLeft}
-use Rattle.ob_store.proofs.LeftLaws.{left_blocks, less_gone}
+use Rattle.ob_store.proofs.LeftLaws.{left_blocks}
 
 -- where no wait is ready any are enough
 pub enough_settled : (a : SignaledState) (bodies : List (Option Body)) (ws : List (Option Wait)) → IsSettled bodies ws
     → IsEnough a bodies ws
-enough_settled a bodies ws settled = record {
-  each =
-      λ whole. record { before = bodies; settled = settled; less = λ t k out signaled. signaled };
-}
+enough_settled a bodies ws settled = search arith
 
 -- bodies that went signal nothing
 pub enough_left : (a : SignaledState) (bodies after : List (Option Body)) (ws : List (Option Wait))
     → AreLeft bodies after → IsEnough a bodies ws → IsEnough a after ws
 enough_left a bodies after ws left enough = record {
-  each = λ whole. let e = enough.each whole in record {
-    before = e.before;
-    settled = e.settled;
-    less = λ t k out signaled. e.less t k out ((less_gone bodies after left).each t (record {
-      slot = k;
-      generation = 0;
-    }) signaled);
-  };
+  each = λ whole. let e = enough.each whole in search arith;
 }
 
 -- a thread's wait leaves
@@ -40,20 +29,16 @@ pub enough_dropped : (a : SignaledState) (bodies : List (Option Body)) (ws : Lis
     → IsEnough a bodies ws → IsEnough a bodies (map (unless_of t) ws)
 enough_dropped a bodies ws t enough = record {
   each = λ whole. let e = enough.each whole in
-      record { before = e.before; settled = settled_dropped e.before ws t e.settled; less = e.less };
+      search (arith, settled_dropped);
 }
 
 -- a slot that isn't listed with one more
 not_listed : (ids : List Id) (id : Id) (k : ℕ) → has_slot (ids ++ id ∷ []) k ≡ false
     → (has_slot ids k ≡ false) × (k ≡ id.slot → ⊥)
-not_listed [] id k h = (
-  refl,
-  λ same. let own : eqb id.slot k ≡ true = grind (arith, nat_tests, same) in
-      grind (arith, own, h),
-)
+not_listed [] id k h = search arith
 not_listed (x ∷ ids) id k h =
-    let rest = not_listed ids id k (grind (arith, h)) in
-    let none = rest.0 in (grind (arith, h, none), rest.1)
+    let rest = not_listed ids id k (grind arith) in
+    let none = rest.0 in (grind arith, rest.1)
 
 -- a slot was noted, and its body changed
 pub enough_added : (a b : SignaledState) (p q : Objects) (slot : ℕ) (x : Option Body)
@@ -79,4 +64,4 @@ pub enough_unwaited : (a : SignaledState) (o p : Objects) (ws : List (Option Wai
 enough_unwaited a o p ws t ids blocks enough =
     let fewer : AreLeft o.bodies p.bodies = subst (λ (x : Objects). AreLeft o.bodies x.bodies) (sym blocks)
     (left_blocks ids o) in
-    enough_dropped a p.bodies ws t (enough_left a o.bodies p.bodies ws fewer enough)
+    search (arith, enough_dropped)

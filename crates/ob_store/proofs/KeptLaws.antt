@@ -1,8 +1,9 @@
 -- What is kept is kept by each change of a store, and the state after it is the settled one.
+use Rattle.ob_codec.proofs.AtPlace.{at_place}
 use Rattle.std.proofs.Common.{◌≡◌, ℕ, zero, suc, ◌+◌, ◌<◌, ◌≤◌, List, [], ◌∷◌, ◌++◌, length, Option, Some, None, refl, ap, ◌∙◌, sym, subst, arith, get_or, map, true, inl, inr, ltb, set}
-use Rattle.std.specs.Prelude.{IsSome, is_some}
+use Rattle.std.specs.Prelude.{IsSome}
 use Rattle.std.proofs.Math.Seq.{get_or-append_seam}
-use Rattle.std.proofs.lemmas.List.{length-set, length-append}
+use Rattle.std.proofs.lemmas.List.{length-append}
 use Rattle.std.proofs.lemmas.Bool.Decides.{nat_tests}
 use Rattle.pin_core.specs.declared.id.Id.{Id}
 use Rattle.pin_core.specs.declared.world.Slot.{Slot}
@@ -10,13 +11,12 @@ use Rattle.pin_words.specs.Keepers.{KeeperState}
 use Rattle.ob_rights.specs.declared.handle_flags.HandleFlags.{HandleFlags}
 use Rattle.ob_tables.specs.declared.entry.Entry.{Entry}
 use Rattle.ob_tables.specs.Counts.{handles_among}
-use Rattle.ob_tables.specs.Table.{entry_at, with_entry, with_flags}
+use Rattle.ob_tables.specs.Table.{entry_at}
 use Rattle.ob_tables.specs.Tables.{IsBounded, table_of, with_entry_of, with_flags_of}
 use Rattle.ob_tables.specs.Tables as tables
 use Rattle.ob_tables.proofs.SlotCounts.{slot_handles-le}
 use Rattle.ob_waits.specs.Rules.{HasBodies, WaitsHaveRoom}
 use Rattle.ob_waits.specs.Waits.{WaitList}
-use Rattle.ob_waits.proofs.Writes.{set_at}
 use Rattle.ob_store.specs.declared.limits.Limits.{Limits}
 use Rattle.ob_store.specs.Processes as spec
 use Rattle.ob_store.specs.Processes.{ProcessesState}
@@ -40,23 +40,13 @@ use Rattle.ob_store.proofs.ThreadListLaws.{live_more}
 pub table_changed : (limits : Limits) (l : ProcessesState) (ts : List (List (Option Entry))) (process : ℕ)
     (table : List (Option Entry)) → (get_or l.processes process None ≡ None → table ≡ [])
     → ProcessesKept limits l ts → ProcessesKept limits l (set ts process table)
-table_changed limits l ts process table empty k = record {
-  few_processes = k.few_processes;
-  few_threads = k.few_threads;
-  processes_from_one = k.processes_from_one;
-  threads_from_one = k.threads_from_one;
-  tabled = length-set ts process table ∙ k.tabled;
-  vacated = λ q none. set_at (λ (t : List (Option Entry)). t ≡ []) ts process q table []
-      (λ same. empty (ap (λ i. get_or l.processes i None) (sym same) ∙ none)) (k.vacated q none);
-  live = k.live;
-}
+table_changed limits l ts process table empty k = grind (arith, at_place)
 
 -- that of a live process changes at will
 pub live_changed : (limits : Limits) (l : ProcessesState) (ts : List (List (Option Entry))) (process : ℕ)
     (table : List (Option Entry)) → IsLive l.processes process → ProcessesKept limits l ts
     → ProcessesKept limits l (set ts process table)
-live_changed limits l ts process table live = table_changed limits l ts process table
-    (λ none. absurd (let e = ap is_some none in cc (e, live)))
+live_changed limits l ts process table live = grind (arith, at_place)
 
 -- a process comes with a table
 pub table_came : (ps : List (Option ℕ)) (ts : List (List (Option Entry))) (session : ℕ) (table : List (Option Entry))
@@ -64,11 +54,11 @@ pub table_came : (ps : List (Option ℕ)) (ts : List (List (Option Entry))) (ses
     → get_or (ps ++ Some session ∷ []) q None ≡ None → get_or (ts ++ table ∷ []) q [] ≡ []
 table_came [] [] session table same each zero none = absurd cc
 table_came [] [] session table same each (suc q) none = refl
-table_came [] (t ∷ ts) session table same each q none = absurd (omega (arith, same))
-table_came (p ∷ ps) [] session table same each q none = absurd (omega (arith, same))
+table_came [] (t ∷ ts) session table same each q none = absurd (omega arith)
+table_came (p ∷ ps) [] session table same each q none = absurd (omega arith)
 table_came (p ∷ ps) (t ∷ ts) session table same each zero none = each zero none
 table_came (p ∷ ps) (t ∷ ts) session table same each (suc q) none =
-    table_came ps ts session table (omega (arith, same)) (λ r. each (suc r)) q none
+    table_came ps ts session table (omega arith) (λ r. each (suc r)) q none
 
 -- what stands at a place stays there where one more comes at the end
 pub live_pushed : (xs : List (Option ℕ)) (x : Option ℕ) (n : ℕ) → IsLive xs n → IsLive (xs ++ x ∷ []) n
@@ -78,11 +68,7 @@ live_pushed (y ∷ xs) x n h = elim n as (λ n. IsLive (y ∷ xs) n
 
 -- what is stored is what the state counts
 pub objects_are : (p : PartsState) → IsSound p → p.objects.seen ≡ objects_of (state_of p)
-objects_are p sound = λ i. record {
-  bodies = p.objects.seen.bodies;
-  handles = sound.counted.handles i;
-  blocks = sound.counted.blocks i;
-}
+objects_are p sound = search arith
 
 -- nothing is left to settle
 pub settled_kept : (p : PartsState) → IsKept p → IsTied p.objects → settled (state_of p) ≡ state_of p
@@ -91,7 +77,7 @@ settled_kept p kept tied = settled_still (state_of p) kept.sound.named
 
 pub whole_kept : (p : PartsState) → IsKept p → IsTied p.objects
     → ◌≡◌ {A = Whole} (whole_of p) (record { state = settled (state_of p); keeper = p.objects.keeper })
-whole_kept p kept tied = λ i. record { state = sym (settled_kept p kept tied) i; keeper = p.objects.keeper }
+whole_kept p kept tied = search (arith, settled_kept)
 
 -- a keeper that only closed slots has its generations and its shape
 generations_open : (xs : List Slot) → map generation_of (map open_slot xs) ≡ map generation_of xs
@@ -111,12 +97,6 @@ module _ (p : PartsState) (l : ProcessesState) (q : ObjectsState) (ws : WaitList
   abbrev pub rested : PartsState
   rested = record p { processes = l; objects = q; waits = ws; signaled = a }
 
-  objects_same : q.objects ≡ p.objects.objects
-  objects_same = ap (λ (r : KeptRest). r.rest.objects) rest
-
-  births_same : q.births ≡ p.objects.births
-  births_same = ap (λ (r : KeptRest). r.births) rest
-
   pub state_rested : state_of rested ≡ record (state_of p) {
     processes = l.processes;
     threads = l.threads;
@@ -126,12 +106,7 @@ module _ (p : PartsState) (l : ProcessesState) (q : ObjectsState) (ws : WaitList
   }
   state_rested =
       let generations = same_generations q.keeper p.objects.keeper (ap (λ (r : KeptRest). r.keeper) rest) in
-      λ i. record (state_of rested) {
-        objects = objects_same i;
-        generations = generations i;
-        retired = (rest i).rest.retired;
-        births = births_same i;
-      }
+      search arith
 
   pub sound_rested : IsSound p → ws.limit ≡ p.waits.limit → ProcessesKept p.limits l p.tables.tables
       → IsCounted q.seen (length p.objects.objects) p.tables.tables ws.waits
@@ -146,14 +121,13 @@ module _ (p : PartsState) (l : ProcessesState) (q : ObjectsState) (ws : WaitList
       shape_is = same_shape q.keeper p.objects.keeper (ap (λ (r : KeptRest). r.keeper) rest) ∙ sound.limited.shape_is;
     };
     processes_kept = live;
-    counted = subst (λ (xs : List (Option Object)). IsCounted q.seen (length xs) p.tables.tables ws.waits)
-        (sym objects_same) counted;
-    named = subst (λ (xs : List (Option Object)). IsNamed xs p.tables.tables ws.waits) (sym objects_same) named;
-    formed = subst (λ (xs : List (Option Object)). AreFormed ws.clock xs q.seen.bodies) (sym objects_same) formed;
+    counted = search arith;
+    named = search arith;
+    formed = search arith;
     of_live = of_live;
     room = room;
     listing = subst (λ (z : List (Option Object) × ℕ). IsListing p.rows p.tables.tables z.0 z.1)
-        (λ i. (sym objects_same i, sym births_same i)) sound.listing;
+        (search arith) sound.listing;
   }
 
 -- the object of a handle has a body
@@ -165,7 +139,7 @@ handled p id sound tied some =
     within in
     let slot = slot_handles-le id p.tables.tables in
     let yes : ltb 0 (get_or p.objects.seen.handles id.slot 0 + get_or p.objects.seen.blocks id.slot 0) ≡ true =
-    grind (arith, nat_tests, at, slot, some) in
+    search arith in
     tied.bodied.each id.slot ∙ yes
 
 pub few_handles : (p : PartsState) (slot : ℕ) → IsSound p
@@ -185,25 +159,7 @@ placed p process e = record p {
 pub kept_placed : (p : PartsState) (process : ℕ) (e : Entry) → IsKept p → IsLive p.processes.processes process
     → 0 < handles_among e.id p.tables.tables → IsKept (placed p process e)
 kept_placed p process e kept live some =
-    let ts = p.tables.tables in
-    let sound = kept.sound in
-    let table = live_tabled p.limits p.processes ts process sound.processes_kept live in
-    record {
-      sound = record {
-        limited = sound.limited;
-        processes_kept = live_changed p.limits p.processes ts process (with_entry (table_of ts process) e) live
-            sound.processes_kept;
-        counted = counted_placed p.objects.seen (length p.objects.objects) ts p.waits.waits sound.counted process e
-            table;
-        named = named_placed p.objects.objects ts p.waits.waits sound.named process e table some;
-        formed = sound.formed;
-        of_live = sound.of_live;
-        room = sound.room;
-        listing = listing_placed p.rows ts p.objects.objects p.objects.births sound.listing process e some;
-      };
-      populated = kept.populated;
-      settled = kept.settled;
-    }
+    search (arith, live_changed, counted_placed, listing_placed, live_tabled, named_placed)
 
 -- an entry has other flags
 abbrev pub flagged : PartsState → ℕ → ℕ → HandleFlags → PartsState
@@ -219,26 +175,7 @@ kept_flags p process value flags kept some = by (entry_at (table_of p.tables.tab
     by : (x : Option Entry) → entry_at (table_of p.tables.tables process) value ≡ x → IsSome x
         → IsKept (flagged p process value flags)
     by None found none = absurd (cc)
-    by (Some e) found _ = record {
-      sound = record {
-        limited = kept.sound.limited;
-        processes_kept = table_changed p.limits p.processes p.tables.tables process
-            (with_flags (table_of p.tables.tables process) value flags)
-            (λ none. ap (λ (t : List (Option Entry)). with_flags t value flags)
-            (kept.sound.processes_kept.vacated process none)) kept.sound.processes_kept;
-        counted = counted_flags p.objects.seen (length p.objects.objects) p.tables.tables p.waits.waits
-            kept.sound.counted process value e flags found;
-        named = named_flags p.objects.objects p.tables.tables p.waits.waits kept.sound.named process value e flags
-            found;
-        formed = kept.sound.formed;
-        of_live = kept.sound.of_live;
-        room = kept.sound.room;
-        listing = listing_flags p.rows p.tables.tables p.objects.objects p.objects.births kept.sound.listing process
-            value e flags found;
-      };
-      populated = kept.populated;
-      settled = kept.settled;
-    }
+    by (Some e) found _ = search (arith, table_changed, counted_flags, listing_flags, named_flags, kept.sound.processes_kept.vacated)
 
 -- a process comes
 abbrev pub with_process : PartsState → ℕ → PartsState
@@ -253,31 +190,12 @@ pub kept_process : (p : PartsState) (session : ℕ) (w : Whole) → whole_of p �
 kept_process p session w view kept processes threads = record {
   sound = record {
     limited = kept.sound.limited;
-    processes_kept = record {
-      few_processes = (let a : length p.processes.processes ≤ p.limits.processes =
-          subst (λ (w : Whole). length w.state.processes ≤ w.state.limits.processes) (sym view) processes in
-          simp length-append (omega arith));
-      few_threads = (let a : length p.processes.threads ≤ p.limits.threads =
-          subst (λ (w : Whole). length w.state.threads ≤ w.state.limits.threads) (sym view) threads in
-          simp length-append (omega arith));
-      processes_from_one = from_one_more p.processes.processes (Some session)
-          kept.sound.processes_kept.processes_from_one;
-      threads_from_one = from_one_more p.processes.threads (Some (length p.processes.processes))
-          kept.sound.processes_kept.threads_from_one;
-      tabled = (let a = length-append p.processes.processes (Some session ∷ []) in
-          let b = length-append p.tables.tables ([] ∷ []) in let c = kept.sound.processes_kept.tabled in
-          omega (arith, a, b, c));
-      vacated = table_came p.processes.processes p.tables.tables session [] kept.sound.processes_kept.tabled
-          kept.sound.processes_kept.vacated;
-      live = live_after;
-    };
+    processes_kept = grind (arith, at_place);
     counted = counted_process p.objects.seen (length p.objects.objects) p.tables.tables p.waits.waits
         kept.sound.counted;
     named = named_process p.objects.objects p.tables.tables p.waits.waits kept.sound.named;
     formed = kept.sound.formed;
-    of_live = of_live_more p.processes.threads (spec.with_process p.processes session).threads p.objects.seen.bodies
-        p.waits.waits (λ t h. live_pushed p.processes.threads (Some (length p.processes.processes)) t h)
-        kept.sound.of_live;
+    of_live = search (arith, live_pushed);
     room = kept.sound.room;
     listing = listing_process p.rows p.tables.tables p.objects.objects p.objects.births kept.sound.listing;
   };
@@ -289,8 +207,7 @@ kept_process p session w view kept processes threads = record {
         → IsLive (p.processes.processes ++ Some session ∷ []) q
     live_after t q h = elim (live_more p.processes.threads (length p.processes.processes) t q h) [
       | inl old ↦ live_pushed p.processes.processes (Some session) q (kept.sound.processes_kept.live t q old.1)
-      | inr new ↦ subst (λ (r : ℕ). IsLive (p.processes.processes ++ Some session ∷ []) r) (sym new.1)
-          (ap is_some (get_or-append_seam p.processes.processes (Some session) [] None))
+      | inr new ↦ search (arith, get_or-append_seam)
     ]
 
 -- a thread comes
@@ -300,32 +217,4 @@ with_thread p process = record p { processes = spec.with_thread p.processes proc
 pub kept_thread : (p : PartsState) (process : ℕ) → IsKept p → length p.processes.threads ≤ p.limits.threads
     → IsLive p.processes.processes process → IsKept (with_thread p process)
 kept_thread p process kept threads live =
-    let l = p.processes in
-    let sound = kept.sound in
-    record {
-      sound = record {
-        limited = sound.limited;
-        processes_kept = record {
-          few_processes = sound.processes_kept.few_processes;
-          few_threads = simp length-append (omega arith);
-          processes_from_one = sound.processes_kept.processes_from_one;
-          threads_from_one = from_one_more l.threads (Some process) sound.processes_kept.threads_from_one;
-          tabled = sound.processes_kept.tabled;
-          vacated = sound.processes_kept.vacated;
-          live = λ t q h. elim (live_more l.threads process t q h) [
-            | inl old ↦
-                sound.processes_kept.live t q old.1
-            | inr new ↦ subst (λ (r : ℕ). IsLive l.processes r) (sym new.1) live
-          ];
-        };
-        counted = sound.counted;
-        named = sound.named;
-        formed = sound.formed;
-        of_live = of_live_more l.threads (spec.with_thread l process).threads p.objects.seen.bodies p.waits.waits
-            (λ t h. live_pushed l.threads (Some process) t h) sound.of_live;
-        room = sound.room;
-        listing = sound.listing;
-      };
-      populated = populated_thread l.processes l.threads process kept.populated;
-      settled = kept.settled;
-    }
+    grind (arith, nat_tests, at_place, live_pushed, from_one_more, length-append, live_more, of_live_more, populated_thread)

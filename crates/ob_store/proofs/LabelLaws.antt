@@ -1,11 +1,11 @@
 -- The objects that are read off the seats and their tags, and the tags that are read off labels and names.
-use Rattle.std.proofs.Common.{◌≡◌, ℕ, zero, suc, ◌∷◌, [], ◌<◌, List, length, Option, Some, None, refl, ap, ◌∙◌, sym, subst, arith, get_or, set, replicate, false, cond}
+use Rattle.std.proofs.Common.{◌≡◌, ℕ, zero, suc, ◌∷◌, [], ◌<◌, List, length, Option, Some, None, refl, ap, ◌∙◌, sym, arith, get_or, set, replicate, false, cond}
 use Rattle.std.specs.Prelude.{is_none, IsSome}
 use Rattle.std.proofs.lemmas.List.{get_or_default}
 use Rattle.ob_name.specs.Names.{ObjectName}
 use Rattle.ob_store.specs.declared.label.Label.{Label}
 use Rattle.ob_store.specs.declared.seat.Seat.{Seat}
-use Rattle.ob_store.specs.Objects.{Object, Tag, name_in, object_at, object_of, objects_in, no_tag, tag_of, tags_in}
+use Rattle.ob_store.specs.Objects.{Tag, name_in, object_at, object_of, objects_in, no_tag, tag_of, tags_in}
 
 pub object_read : (xs : List (Option Seat)) (ls : List Tag) (k : ℕ)
     → get_or (objects_in xs ls) k None ≡ object_at (get_or xs k None) (get_or ls k no_tag)
@@ -33,9 +33,9 @@ objects_kept (x ∷ xs) (l ∷ ls) (suc k) y same = ap (λ t. object_at x l ∷ 
 pub objects_put : (xs : List (Option Seat)) (ls : List Tag) (k : ℕ) (y : Seat) (m : Tag) → k < length ls
     → objects_in (set xs k (Some y)) (set ls k m) ≡ set (objects_in xs ls) k (Some (object_of y m))
 objects_put [] ls k y m lt = refl
-objects_put (x ∷ xs) [] k y m lt = absurd (omega (arith, lt))
+objects_put (x ∷ xs) [] k y m lt = absurd (omega arith)
 objects_put (x ∷ xs) (l ∷ ls) zero y m lt = refl
-objects_put (x ∷ xs) (l ∷ ls) (suc k) y m lt = ap (λ t. object_at x l ∷ t) (objects_put xs ls k y m (omega (arith, lt)))
+objects_put (x ∷ xs) (l ∷ ls) (suc k) y m lt = ap (λ t. object_at x l ∷ t) (objects_put xs ls k y m (omega arith))
 
 -- a seat leaves, and its tag stays
 pub objects_out : (xs : List (Option Seat)) (ls : List Tag) (k : ℕ)
@@ -60,13 +60,12 @@ none_object (Some x) l = refl
 pub object_here : (xs : List (Option Seat)) (ls : List Tag) (k : ℕ) (x : Seat) (l : Tag) → get_or xs k None ≡ Some x
     → l ≡ get_or ls k l → k < length ls → get_or (objects_in xs ls) k None ≡ Some (object_of x l)
 object_here xs ls k x l seat label within = object_read xs ls k ∙ ap (λ z. object_at z (get_or ls k no_tag)) seat
-    ∙ ap (λ z. Some (object_of x z)) (get_or_default ls k no_tag l within ∙ sym label)
+    ∙ ap (λ z. Some (object_of x z)) (search (arith, get_or_default))
 
 -- a slot with an object has a seat
 pub seat_there : (xs : List (Option Seat)) (ls : List Tag) (k : ℕ) → IsSome (get_or (objects_in xs ls) k None)
     → IsSome (get_or xs k None)
-seat_there xs ls k there = by (get_or xs k None) (get_or ls k no_tag)
-    (subst (λ (z : Option Object). IsSome z) (object_read xs ls k) there)
+seat_there xs ls k there = search (arith, object_read)
   where
     by : (x : Option Seat) (l : Tag) → IsSome (object_at x l) → IsSome x
     by None l there = there
@@ -80,11 +79,11 @@ tags_length (l ∷ ls) (n ∷ ns) = ap suc (tags_length ls ns)
 pub tag_read : (ls : List Label) (ns : List (Option ObjectName)) (k : ℕ) (l : Label) (n : Option ObjectName)
     → l ≡ get_or ls k l → n ≡ get_or ns k n → k < length ls → k < length ns
     → tag_of l n ≡ get_or (tags_in ls ns) k (tag_of l n)
-tag_read [] ns k l n is named labelled within = absurd (omega (arith, labelled))
-tag_read (m ∷ ls) [] k l n is named labelled within = absurd (omega (arith, within))
+tag_read [] ns k l n is named labelled within = absurd (omega arith)
+tag_read (m ∷ ls) [] k l n is named labelled within = absurd (omega arith)
 tag_read (m ∷ ls) (o ∷ ns) zero l n is named labelled within = λ i. tag_of (is i) (named i)
 tag_read (m ∷ ls) (o ∷ ns) (suc k) l n is named labelled within =
-    tag_read ls ns k l n is named (omega (arith, labelled)) (omega (arith, within))
+    tag_read ls ns k l n is named (omega arith) (omega arith)
 
 -- an object has the name that stands beside its label, where that says so
 pub name_here : (xs : List (Option Seat)) (ls : List Label) (ns : List (Option ObjectName)) (k : ℕ) (l : Label)
@@ -95,7 +94,7 @@ name_here xs ls ns k l n there is named labelled within =
     sym (ap name_in (object_read xs (tags_in ls ns) k)
     ∙ by (get_or xs k None) (get_or (tags_in ls ns) k no_tag) (seat_there xs (tags_in ls ns) k there)
     ∙ ap (λ (t : Tag). t.name) (get_or_default (tags_in ls ns) k no_tag (tag_of l n)
-    (subst (λ m. k < m) (sym (tags_length ls ns)) labelled) ∙ sym (tag_read ls ns k l n is named labelled within)))
+    (search (arith, tags_length)) ∙ sym (tag_read ls ns k l n is named labelled within)))
   where
     by : (x : Option Seat) (t : Tag) → IsSome x → name_in (object_at x t) ≡ t.name
     by None t there = absurd (cc there)
@@ -107,16 +106,15 @@ pub tags_plain : (ls : List Label) (ns : List (Option ObjectName)) (k : ℕ) (l 
 tags_plain [] ns k l plain = refl
 tags_plain (m ∷ ls) [] zero l plain = refl
 tags_plain (m ∷ ls) [] (suc k) l plain = ap (λ t. tag_of m None ∷ t) (tags_plain ls [] k l plain)
-tags_plain (m ∷ ls) (n ∷ ns) zero l plain = ap (λ t. t ∷ tags_in ls ns) (plain_tag l n plain)
+tags_plain (m ∷ ls) (n ∷ ns) zero l plain = search arith
   where
     plain_tag : (l : Label) (n : Option ObjectName) → l.is_named ≡ false → tag_of l n ≡ tag_of l None
-    plain_tag l n plain = ap (λ b. record { birth = l.birth; descr = l.descr; name = cond b n None }) plain
-        ∙ ap (λ b. record { birth = l.birth; descr = l.descr; name = cond b None None }) (sym plain)
+    plain_tag l n plain = search arith
 tags_plain (m ∷ ls) (n ∷ ns) (suc k) l plain = ap (λ t. tag_of m n ∷ t) (tags_plain ls ns k l plain)
 
 pub tags_named : (ls : List Label) (ns : List (Option ObjectName)) (k : ℕ) (l : Label) (n : Option ObjectName)
     → k < length ns → tags_in (set ls k l) (set ns k n) ≡ set (tags_in ls ns) k (tag_of l n)
 tags_named [] ns k l n lt = refl
-tags_named (m ∷ ls) [] k l n lt = absurd (omega (arith, lt))
+tags_named (m ∷ ls) [] k l n lt = absurd (omega arith)
 tags_named (m ∷ ls) (o ∷ ns) zero l n lt = refl
-tags_named (m ∷ ls) (o ∷ ns) (suc k) l n lt = ap (λ t. tag_of m o ∷ t) (tags_named ls ns k l n (omega (arith, lt)))
+tags_named (m ∷ ls) (o ∷ ns) (suc k) l n lt = ap (λ t. tag_of m o ∷ t) (tags_named ls ns k l n (omega arith))

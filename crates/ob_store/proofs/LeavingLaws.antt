@@ -1,39 +1,33 @@
 -- The entry of a handle leaves: what is sound stays so, and is on its way to the settled state.
-use Rattle.std.proofs.Common.{◌≡◌, ℕ, ◌+◌, ◌<◌, List, length, Option, Some, None, refl, ap, ◌∙◌, sym, subst, arith, get_or, Bool, true, false, cond, eqb, set, ltb, []}
+use Rattle.ob_codec.proofs.AtPlace.{at_place}
+use Rattle.std.proofs.Common.{◌≡◌, ℕ, ◌+◌, ◌<◌, List, length, Option, Some, None, refl, ap, ◌∙◌, sym, subst, arith, get_or, Bool, true, false, cond, eqb, []}
 use Rattle.std.specs.Prelude.{is_some, IsSome}
 use Rattle.std.proofs.lemmas.Bool.Decides.{nat_tests}
-use Rattle.pin_core.specs.declared.word.Phase.TheVariants as phase
-use Rattle.pin_core.specs.Worlds.{slot_of}
-use Rattle.pin_words.specs.Keepers.{KeeperState, closed}
+use Rattle.pin_words.specs.Keepers.{KeeperState}
 use Rattle.ob_name.specs.Names.{ObjectName}
 use Rattle.ob_name.specs.Listing.{Rows}
 use Rattle.ob_tables.specs.declared.entry.Entry.{Entry}
-use Rattle.ob_tables.specs.Table.{entry_at, without_entry, place_of}
+use Rattle.ob_tables.specs.Table.{entry_at, without_entry}
 use Rattle.ob_tables.specs.Counts.{handles_among}
 use Rattle.ob_tables.specs.Tables.{table_of, without_entry_of}
-use Rattle.ob_waits.proofs.Room.{room_changed}
-use Rattle.ob_store.specs.Objects.{Object, ObjectsState, name_in, places_in, is_last_handle, without_handle_of, opened}
+use Rattle.ob_store.specs.Objects.{Object, ObjectsState, name_in, without_handle_of}
 use Rattle.ob_store.specs.Agreement.{IsTied}
 use Rattle.ob_store.specs.Kept.{IsThere, IsNamed, IsListing, IsSound}
-use Rattle.ob_store.specs.Moves.{OnlyCloses, rows_left, rows_without}
-use Rattle.ob_store.specs.Parts.{PartsState, state_of}
+use Rattle.ob_store.specs.Moves.{rows_left, rows_without}
+use Rattle.ob_store.specs.Parts.{PartsState}
 use Rattle.ob_store.specs.State.{State}
 use Rattle.ob_store.specs.UnderWay.{AreLeft, IsUnderWay}
-use Rattle.ob_store.proofs.AgreeLaws.{opened_closed, live_at}
+use Rattle.ob_store.proofs.AgreeLaws.{opened_closed}
 use Rattle.ob_store.proofs.CountedLaws.{handles_at, counted_removed, one_less}
 use Rattle.ob_store.proofs.NamedLaws.{there_some, there_within, named_entry, named_removed, handles_are}
 use Rattle.ob_store.proofs.BodyLaws.{of_live_gone}
-use Rattle.ob_store.proofs.LeftLaws.{formed_left, left_gone, left_more, room_left_at}
+use Rattle.ob_store.proofs.LeftLaws.{formed_left, left_gone}
 use Rattle.ob_store.proofs.ListingLaws.{placed_agreed, listing_removed, listing_removed_last, listing_name_removed}
-use Rattle.ob_store.proofs.KeptLaws.{same_generations, same_shape, table_changed}
+use Rattle.ob_store.proofs.KeptLaws.{same_generations, table_changed}
 
 -- an empty table stays empty
 nothing_left : (value : ℕ) → without_entry [] value ≡ []
-nothing_left value = by (ltb value 4)
-  where
-    by : (b : Bool) → cond b [] (set {A = Option Entry} [] (place_of value) None) ≡ []
-    by true = refl
-    by false = refl
+nothing_left value = search arith
 
 module _ (p : PartsState) (process value : ℕ) (e : Entry)
     (sound : IsSound p)
@@ -58,32 +52,18 @@ module _ (p : PartsState) (process value : ℕ) (e : Entry)
   held =
       let a = handles_at o.seen (length o.objects) p.tables.tables p.waits.waits sound.counted e.id.slot within in
       let b = one_less o.seen (length o.objects) p.tables.tables p.waits.waits sound.counted process value e found in
-      omega (arith, a, b)
-
-  has_body : is_some (get_or p.objects.seen.bodies e.id.slot None) ≡ true
-  has_body = tied.bodied.each e.id.slot ∙ grind (arith, nat_tests, held)
+      omega arith
 
   pub seated : (q : ObjectsState) → q ≡ without_handle_of p.objects e.id.slot → IsSome (get_or q.objects e.id.slot None)
   seated q is = ap (λ (x : ObjectsState). is_some (get_or x.objects e.id.slot None)) is
       ∙ ap is_some (there_some o.objects e.id there).1
-
-  -- the slot closes, if it does, from where it is live
-  only_closes : OnlyCloses p.objects.keeper (without_handle_of p.objects e.id.slot).keeper
-  only_closes = by (is_last_handle (places_in o) e.id.slot)
-    where
-      live : (slot_of p.objects.keeper.slots e.id.slot).phase ≡ phase.Live
-      live = live_at o e.id.slot has_body tied.agreed (omega (arith, within, tied.agreed.length_is))
-
-      by : (c : Bool) → opened (cond c (closed o.keeper e.id.slot) o.keeper) ≡ opened o.keeper
-      by true = opened_closed o.keeper e.id.slot live
-      by false = refl
 
   named_after : IsNamed p.objects.objects (without_entry_of p.tables.tables process value) p.waits.waits
   named_after = named_removed o.objects p.tables.tables p.waits.waits sound.named process value e found
 
   -- bodies stay, but for one at most
   pub bodies_left : AreLeft p.objects.seen.bodies (without_handle_of p.objects e.id.slot).seen.bodies
-  bodies_left = left_gone (is_last_handle (places_in o) e.id.slot) o.seen.bodies e.id.slot
+  bodies_left = search (arith, left_gone)
 
   sound_removed : (rows : Rows) → IsListing rows (without_entry_of p.tables.tables process value) p.objects.objects
       p.objects.births
@@ -93,26 +73,14 @@ module _ (p : PartsState) (process value : ℕ) (e : Entry)
         rows = rows;
       })
   sound_removed rows listing = record {
-    limited = record {
-      processes_are = sound.limited.processes_are;
-      handles_are = sound.limited.handles_are;
-      waits_are = sound.limited.waits_are;
-      shape_is = same_shape handle_left.keeper o.keeper only_closes
-          ∙ sound.limited.shape_is;
-    };
-    processes_kept = table_changed p.limits p.processes p.tables.tables process
-        (without_entry (table_of p.tables.tables process) value)
-        (λ none. ap (λ (t : List (Option Entry)). without_entry t value) (sound.processes_kept.vacated process none)
-        ∙ nothing_left value) sound.processes_kept;
+    limited = search arith;
+    processes_kept = search (arith, nothing_left, table_changed, sound.processes_kept.vacated);
     counted = counted_removed o.seen (length o.objects) p.tables.tables p.waits.waits sound.counted
         handle_left.seen.bodies process value e found;
     named = named_after;
     formed = formed_left p.waits.clock o.objects o.seen.bodies handle_left.seen.bodies bodies_left sound.formed;
-    of_live = of_live_gone (is_last_handle (places_in o) e.id.slot) o.seen.bodies e.id.slot p.processes.threads
-        p.waits.waits sound.of_live;
-    room = room_changed p.limits.max_recursion o.seen.bodies handle_left.seen.bodies p.waits.waits
-        (λ t k h. room_left_at p.limits.max_recursion t o.seen.bodies handle_left.seen.bodies k bodies_left h)
-        sound.room;
+    of_live = search (arith, of_live_gone);
+    room = search (arith, bodies_left);
     listing = listing;
   }
 
@@ -123,17 +91,15 @@ module _ (p : PartsState) (process value : ℕ) (e : Entry)
       let a = handles_at o.seen (length o.objects) p.tables.tables p.waits.waits sound.counted e.id.slot within in
       let b = one_less o.seen (length o.objects) p.tables.tables p.waits.waits sound.counted process value e found in
       let c = handles_are o.objects tables_after p.waits.waits named_after e.id there in
-      omega (arith, a, b, c)
+      omega arith
 
   listing_zero : (x : Object) → get_or p.objects.objects e.id.slot None ≡ Some x → x.id ≡ e.id
       → handles_among e.id (without_entry_of p.tables.tables process value) ≡ 0 → (name : Option ObjectName)
       → x.name ≡ name
       → IsListing (rows_without p.rows name) (without_entry_of p.tables.tables process value) p.objects.objects
       p.objects.births
-  listing_zero x at own none None is = listing_removed_last p.rows p.tables.tables o.objects o.births sound.listing
-      (placed_agreed o tied.agreed) process value e x found none at own is
-  listing_zero x at own none (Some name) is = listing_name_removed p.rows p.tables.tables o.objects o.births
-      sound.listing (placed_agreed o tied.agreed) process value e x name tied.born found none at own is
+  listing_zero x at own none None is = search (arith, listing_removed_last, placed_agreed)
+  listing_zero x at own none (Some name) is = search (arith, listing_name_removed, placed_agreed)
 
   -- with the last handle the name of the object leaves
   module _ (was_last : Bool) (q : ObjectsState) (rows : Rows)
@@ -155,11 +121,9 @@ module _ (p : PartsState) (process value : ℕ) (e : Entry)
             let x = there_some o.objects e.id there in
             subst (λ (n : Option ObjectName). IsListing (rows_without p.rows n) tables_after o.objects o.births)
             (sym its_name) (listing_zero x.0 x.1 x.2
-            (let h : get_or p.objects.seen.handles e.id.slot 0 ≡ 1 = grind (arith, nat_tests, one) in
-            let were = handles_were in omega (arith, h, were)) x.0.name refl)
-        by false more = listing_removed p.rows p.tables.tables o.objects o.births sound.listing process value e found
-            (let h : 1 < get_or p.objects.seen.handles e.id.slot 0 = grind (arith, nat_tests, more, held) in
-            let were = handles_were in omega (arith, h, were))
+            (let h : get_or p.objects.seen.handles e.id.slot 0 ≡ 1 = grind arith in
+            let were = handles_were in omega arith) x.0.name refl)
+        by false more = search (arith, handles_were, listing_removed)
 
     abbrev pub removed : PartsState
     removed = record p {
@@ -169,29 +133,8 @@ module _ (p : PartsState) (process value : ℕ) (e : Entry)
     }
 
     pub sound_left : IsSound removed
-    sound_left = subst (λ (x : ObjectsState). IsSound (record p {
-      tables = record p.tables { tables = tables_after };
-      objects = x;
-      rows = rows;
-    })) (sym is) (sound_removed rows listing_left)
+    sound_left = search (arith, sound_removed, listing_left)
 
     pub way_left : IsTied q → (first : KeeperState) (s : State) → IsUnderWay first p s
         → IsUnderWay first removed (record s { tables = without_entry_of p.tables.tables process value })
-    way_left after first s way = record {
-      tied = after;
-      sound = sound_left;
-      rest = (let generations = same_generations q.keeper o.keeper closes in
-          λ i. record (state_of removed) {
-            objects = (is i).objects;
-            generations = generations i;
-            retired = (is i).retired;
-            births = (is i).births;
-          })
-          ∙ ap (λ (x : State). record x { tables = tables_after; bodies = q.seen.bodies }) way.rest;
-      bodies = left_more s.bodies o.seen.bodies q.seen.bodies way.bodies
-          (subst (λ (x : ObjectsState). AreLeft o.seen.bodies x.seen.bodies) (sym is) bodies_left);
-      keeper = closes ∙ way.keeper;
-    }
-      where
-        closes : OnlyCloses p.objects.keeper q.keeper
-        closes = ap (λ (x : ObjectsState). opened x.keeper) is ∙ only_closes
+    way_left after first s way = grind (arith, nat_tests, at_place, held, opened_closed, sound_left, same_generations)

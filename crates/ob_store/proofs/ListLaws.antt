@@ -1,12 +1,10 @@
 -- The published list has each object.
-use Rattle.std.proofs.Common.{◌≡◌, ℕ, ◌<◌, true, List, [], ◌∷◌, ◌++◌, length, get_or, set, sym, ap, subst, ◌∙◌, arith, Option, Some, None, inl, inr}
+use Rattle.std.proofs.Common.{◌≡◌, ℕ, ◌<◌, List, [], ◌∷◌, ◌++◌, length, get_or, set, ap, arith, Option, Some, None}
 use Rattle.std.proofs.lemmas.List.{get_or-set_same, get_or-set_other, get_or_past, length-set}
-use Rattle.std.proofs.lemmas.Bool.{cases_eq, cases_lt}
 use Rattle.pin_core.specs.declared.id.Id.{Id}
 use Rattle.pin_core.specs.declared.descr.Descr.{Descr}
 use Rattle.pin_core.specs.declared.world.Slot.{Slot}
-use Rattle.pin_core.specs.Holds.{weight}
-use Rattle.pin_core.specs.Worlds.{slot_of, is_with, opening_slot}
+use Rattle.pin_core.specs.Worlds.{slot_of}
 use Rattle.pin_core.specs.Events.{with_descr}
 use Rattle.pin_core.proofs.Counts.{count-snoc}
 use Rattle.pin_words.specs.Keepers.{stored, published}
@@ -17,18 +15,7 @@ use Rattle.ob_store.specs.Agreement.{Listed, IsListed}
 -- an object set at a slot, or one that leaves
 pub listed_set : (ps : List (Id × Descr)) (objects : List (Option Object)) (s : ℕ) (x : Option Object) → Listed ps x
     → IsListed ps objects → IsListed ps (set objects s x)
-listed_set ps objects s x new old = record {
-  each = λ j. elim (cases_eq j s) [
-    | inl same ↦ subst (λ (k : ℕ). Listed ps (get_or (set objects s x) k None)) (sym same)
-        (elim (cases_lt s (length objects)) [
-          | inl lt ↦ subst (Listed ps) (sym (get_or-set_same objects s x None lt)) new
-          | inr le ↦ subst (Listed ps) (sym (get_or_past (set objects s x) s None
-              (omega (arith, length-set objects s x))))
-              tt
-        ])
-    | inr other ↦ subst (Listed ps) (sym (get_or-set_other objects s j x None other)) (old.each j)
-  ];
-}
+listed_set ps objects s x new old = search (arith, get_or-set_other, get_or-set_same, get_or_past, length-set)
 
 pub listed_gone : (ps : List (Id × Descr)) (objects : List (Option Object)) (s : ℕ) → IsListed ps objects
     → IsListed ps (set objects s None)
@@ -36,14 +23,10 @@ listed_gone ps objects s old = listed_set ps objects s None tt old
 
 more : (ps : List (Id × Descr)) (p : Id × Descr) (x : Option Object) → Listed ps x → Listed (ps ++ p ∷ []) x
 more ps p None old = tt
-more ps p (Some o) old = let c = count-snoc (is_with o.id o.descr) ps p in omega arith
-
-is_with_self : (id : Id) (d : Descr) → is_with id d (id, d) ≡ true
-is_with_self id d = grind arith
+more ps p (Some o) old = search (arith, count-snoc)
 
 new_one : (ps : List (Id × Descr)) (p : Id × Descr) (o : Object) → p ≡ (o.id, o.descr) → Listed (ps ++ p ∷ []) (Some o)
-new_one ps p o is = let c = count-snoc (is_with o.id o.descr) ps p in let w : weight (is_with o.id o.descr p) ≡ 1 =
-    ap (λ (z : Id × Descr). weight (is_with o.id o.descr z)) is ∙ ap weight (is_with_self o.id o.descr) in omega arith
+new_one ps p o is = search (arith, count-snoc)
 
 -- a new object is published with its descriptor
 pub listed_added : (s : ObjectsState) (k : ℕ) (head : Head) → k < length s.keeper.slots
@@ -53,7 +36,7 @@ listed_added s k head inside old =
     let slots = set s.keeper.slots k (with_descr (slot_of s.keeper.slots k) head.descr) in
     let o : Object = object_in s k head in
     let at : slot_of slots k ≡ with_descr (slot_of s.keeper.slots k) head.descr =
-    get_or-set_same s.keeper.slots k (with_descr (slot_of s.keeper.slots k) head.descr) opening_slot inside in
+    search (arith, get_or-set_same) in
     let p : (id_of slots k, (slot_of slots k).descr) ≡ (o.id, o.descr) =
     λ i. (
       (ap (λ (x : Slot). let z : Id = record { slot = k; generation = x.generation } in z) at) i,

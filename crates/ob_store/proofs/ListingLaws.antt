@@ -1,17 +1,16 @@
 -- The names that are entered go on being the directory, and distinct, as handles and objects come and leave.
-use Rattle.std.proofs.Common.{◌≡◌, ℕ, ◌+◌, ◌<◌, ◌≤◌, [], ◌∷◌, ◌++◌, length, replicate, Option, Some, None, refl, ap, ◌∙◌, sym, subst, arith, add-one, get_or, set, Bool, true, false, cond, not, ◌&&◌, ltb, is_some, inl, inr}
+use Rattle.std.proofs.Common.{◌≡◌, ℕ, ◌+◌, ◌<◌, ◌≤◌, [], ◌∷◌, ◌++◌, length, replicate, Option, Some, None, refl, ap, ◌∙◌, sym, subst, arith, get_or, set, Bool, true, false, not, ◌&&◌, ltb, is_some, inl, inr}
 use Rattle.std.specs.Cmp.{both_ways}
-use Rattle.std.specs.List.{All, Contains, IsDistinct, cons_option, filter}
+use Rattle.std.specs.List.{All, Contains, IsDistinct, filter}
 use Rattle.std.specs.Map.{keys_of}
-use Rattle.std.proofs.lemmas.Bool.{cases_lt, false_from_ne_true, lt-ltb, ltb-true}
-use Rattle.std.proofs.lemmas.Bool.Decides.{nat_tests}
+use Rattle.std.proofs.lemmas.Bool.{cases_lt, ltb-true}
 use Rattle.std.proofs.lemmas.List.{append-nil, get_or_past, map-append, set_past}
-use Rattle.std.proofs.lemmas.List.Elements.{All-contains, All-from_recursion, All-tail, Contains-get_or}
+use Rattle.std.proofs.lemmas.List.Elements.{All-from_recursion, All-tail, Contains-get_or}
 use Rattle.std.proofs.lemmas.Map.Entries.{none_past_head}
 use Rattle.std.proofs.lemmas.Map.Keys.{IsDistinct-push, IsDistinct-tail}
 use Rattle.std.proofs.lemmas.Map.Made.{IsDistinct-keys_filter, is_some-lookup}
 use Rattle.std.proofs.lemmas.Map.Views.{Contains-from_lookup, lookup-from_Contains}
-use Rattle.std.proofs.lemmas.Option.{none-some, same_Some}
+use Rattle.std.proofs.lemmas.Option.{same_Some}
 use Rattle.ob_rights.specs.declared.handle_flags.HandleFlags.{HandleFlags}
 use Rattle.pin_core.specs.declared.id.Id.{Id}
 use Rattle.pin_core.specs.Holds.{same_id}
@@ -23,11 +22,11 @@ use Rattle.ob_tables.specs.declared.entry.Entry.{Entry}
 use Rattle.ob_tables.specs.Counts.{handles_among, handles_in}
 use Rattle.ob_tables.specs.Table.{entry_at}
 use Rattle.ob_tables.specs.Tables.{table_of, with_child, with_entry_of, with_flags_of, with_process, without_entry_of}
-use Rattle.ob_tables.proofs.Counting.{found_counts, handles_among-with_child, handles_among-with_entry, handles_among-with_flags, handles_among-with_process, handles_among-without_entry, handles_in-among, handles_in-inherited, one_id, one_of, one_of-same, same_id-same, some_within}
+use Rattle.ob_tables.proofs.Counting.{found_counts, handles_among-with_child, handles_among-with_entry, handles_among-with_flags, handles_among-with_process, handles_among-without_entry, handles_in-among, handles_in-inherited, one_of, some_within}
 use Rattle.ob_store.specs.Objects.{Object, ObjectsState}
 use Rattle.pin_core.specs.Worlds.{slot_of}
 use Rattle.ob_store.specs.Agreement.{Agrees, AreBorn, IsAgreed}
-use Rattle.ob_store.specs.Directory.{named_row, rows_of}
+use Rattle.ob_store.specs.Directory.{rows_of}
 use Rattle.ob_store.specs.Kept.{IsListing}
 use Rattle.ob_store.proofs.DirectoryLaws.{IsRow, ObjectSlots, Tables, first_goes, has_handles, is_of_other, others_stay, row_there, rows_added, rows_are, rows_gone, rows_left, rows_same}
 
@@ -35,90 +34,33 @@ use Rattle.ob_store.proofs.DirectoryLaws.{IsRow, ObjectSlots, Tables, first_goes
 abbrev pub ArePlaced : ObjectSlots → Type 0
 ArePlaced objects = (k : ℕ) (o : Object) → get_or objects k None ≡ Some o → o.id.slot ≡ k
 
--- what tells whether there are handles
-both_have : (m n : ℕ) → (0 < m → 0 < n) → (0 < n → 0 < m) → ltb 0 m ≡ ltb 0 n
-both_have m n up down = grind (arith, nat_tests)
-
 -- one table's handles are among all, also where there is no such table
 table_among : (id : Id) (ts : Tables) (p : ℕ) → handles_in id (table_of ts p) ≤ handles_among id ts
-table_among id ts p = elim (cases_lt p (length ts)) [
-  | inl less ↦ handles_in-among id ts p less
-  | inr past ↦ let none : handles_in id (table_of ts p) ≡ 0 = ap (handles_in id) (get_or_past ts p [] past) in
-      omega (arith, none)
-]
+table_among id ts p = search (arith, get_or_past, handles_in-among)
 
 child_has : (id : Id) (ts : Tables) (from : ℕ) → has_handles id (with_child ts from) ≡ has_handles id ts
 child_has id ts from =
     let sum = handles_among-with_child id ts from in
     let among = table_among id ts from in
     let fewer = handles_in-inherited id (table_of ts from) in
-    both_have (handles_among id (with_child ts from)) (handles_among id ts)
-    (λ some. omega (arith, sum, among, fewer, some)) (λ some. omega (arith, sum, some))
-
--- an entry of another object counts nothing
-other_one : (id : Id) (e : Entry) → same_id id e.id ≡ false → one_of id e ≡ 0
-other_one id e other = ap {B = ℕ} (λ b. cond b 1 0)
-    (false_from_ne_true (same_id e.id id) (λ is. let again : same_id id e.id ≡ true =
-    ap (same_id id) (one_id e.id id is) ∙ same_id-same id in absurd (cc (again, other))))
+    search arith
 
 -- tables that differ by an entry: where its object has handles without it, the same objects have handles
 still_has : (more fewer : Tables) (e : Entry) (id : Id) (b : Bool) → same_id id e.id ≡ b
     → handles_among id fewer + one_of id e ≡ handles_among id more → 0 < handles_among e.id fewer
     → has_handles id fewer ≡ has_handles id more
 still_has more fewer e id true is sum some =
-    let same : handles_among id fewer ≡ handles_among e.id fewer =
-    ap (λ (i : Id). handles_among i fewer) (one_id id e.id is) in
-    both_have (handles_among id fewer) (handles_among id more) (λ _. omega (arith, sum, same, some))
-    (λ _. omega (arith, same, some))
+    search arith
 still_has more fewer e id false is sum some =
-    let none = other_one id e is in
-    let same : handles_among id fewer ≡ handles_among id more = omega (arith, sum, none) in
-    ap (λ n. ltb 0 n) same
+    search arith
 
 -- else its object alone has none any more
 none_left : (more fewer : Tables) (e : Entry) (id : Id) (b : Bool) → same_id id e.id ≡ b
     → handles_among id fewer + one_of id e ≡ handles_among id more → handles_among e.id fewer ≡ 0
     → has_handles id fewer ≡ (not b && has_handles id more)
-none_left more fewer e id true is sum none = ap (λ (i : Id). has_handles i fewer) (one_id id e.id is)
-    ∙ ap (λ n. ltb 0 n) none
+none_left more fewer e id true is sum none = search arith
 none_left more fewer e id false is sum none =
-    let nothing = other_one id e is in
-    let same : handles_among id fewer ≡ handles_among id more = omega (arith, sum, nothing) in
-    ap (λ n. ltb 0 n) same
-
--- an entry that comes for an object of an empty slot is none of the other objects'
-others_have : (ts : Tables) (objects : ObjectSlots) (p : ℕ) (e : Entry) (k : ℕ) (o : Object) (b : Bool)
-    → ArePlaced objects → p < length ts
-    → get_or objects e.id.slot None ≡ None → get_or objects k None ≡ Some o → same_id o.id e.id ≡ b
-    → has_handles o.id (with_entry_of ts p e) ≡ has_handles o.id ts
-others_have ts objects p e k o true placed table empty at is =
-    let slot : k ≡ e.id.slot = sym (placed k o at) ∙ ap (λ (i : Id). i.slot) (one_id o.id e.id is) in
-    absurd (none-some o (sym empty ∙ ap (λ j. get_or objects j None) (sym slot) ∙ at))
-others_have ts objects p e k o false placed table empty at is =
-    let sum = handles_among-with_entry o.id ts p e table in
-    let nothing = other_one o.id e is in
-    let same : handles_among o.id (with_entry_of ts p e) ≡ handles_among o.id ts = omega (arith, sum, nothing) in
-    ap (λ n. ltb 0 n) same
-
--- the rows with a new object and its first entry
-rows_with : (ts : Tables) (objects : ObjectSlots) (births p : ℕ) (e : Entry) (o : Object) (name : Option ObjectName)
-    → ArePlaced objects → AreBorn objects births → p < length ts
-    → o.id ≡ e.id → o.birth ≡ births → o.name ≡ name → get_or objects e.id.slot None ≡ None → e.id.slot < length objects
-    → rows_of (with_entry_of ts p e) (set objects e.id.slot (Some o)) (births + 1) ≡ rows_of ts objects births
-    ++ cons_option (named_row o.id name) []
-rows_with ts objects births p e o name placed born table own number named empty within =
-    let after : Tables = with_entry_of ts p e in
-    let sum : handles_among e.id after ≡ handles_among e.id ts + one_of e.id e =
-    handles_among-with_entry e.id ts p e table in
-    let one = one_of-same e in
-    let has : has_handles e.id after ≡ true = lt-ltb 0 (handles_among e.id after) (omega (arith, sum, one)) in
-    let others : rows_of after objects births ≡ rows_of ts objects births =
-    rows_same ts after objects births (λ k q at. others_have ts objects p e k q
-    (same_id q.id e.id) placed table empty at refl) in
-    ap (rows_of after (set objects e.id.slot (Some o))) (add-one births)
-    ∙ rows_added after objects e.id.slot o births within empty number (ap (λ (i : Id). has_handles i after) own
-    ∙ has) born.below
-    ∙ λ i. others i ++ cons_option (named_row o.id (named i)) []
+    search arith
 
 -- a name that isn't there comes last
 pub distinct_with : (rows : Rows) (name : ObjectName) (id : Id) → AreDistinct rows → find_name name rows ≡ None
@@ -142,15 +84,6 @@ name_goes name id (row ∷ rows) distinct alike =
     (none_past_head same_name_equiv name row rows distinct is) k d less))
     (name_goes name id rows (IsDistinct-tail same_name row.0 (keys_of rows) distinct) later)
 
--- a row with an object's Id has its name
-row_names : (ts : Tables) (objects : ObjectSlots) (o : Object) (row : Row) → ArePlaced objects
-    → get_or objects o.id.slot None ≡ Some o → IsRow ts objects row → row.1 ≡ o.id → o.name ≡ Some row.0
-row_names ts objects o row placed at is one =
-    let slot : is.place ≡ o.id.slot = sym (placed is.place is.object is.is_there)
-    ∙ ap (λ (i : Id). i.slot) (is.its_id ∙ one) in
-    let object : is.object ≡ o = same_Some is.object o (sym is.is_there ∙ ap (λ k. get_or objects k None) slot ∙ at) in
-    ap (λ (q : Object). q.name) (sym object) ∙ is.its_name
-
 -- and where names are distinct, a row with its name has its Id
 row_alike : (ts : Tables) (objects : ObjectSlots) (rows : Rows) (o : Object) (name : ObjectName) (row : Row)
     → AreDistinct rows → ArePlaced objects → get_or objects o.id.slot None ≡ Some o → o.name ≡ Some name
@@ -159,8 +92,7 @@ row_alike ts objects rows o name row distinct placed at named there also is =
     both_ways (same_id row.1 o.id) (same_name name row.0) up down
   where
     up : same_id row.1 o.id ≡ true → same_name name row.0 ≡ true
-    up one = (same_name-Decides name row.0).1 (same_Some name row.0 (sym named
-        ∙ row_names ts objects o row placed at is (one_id row.1 o.id one)))
+    up one = (same_name-Decides name row.0).1 (search arith)
 
     down : same_name name row.0 ≡ true → same_id row.1 o.id ≡ true
     down one =
@@ -170,15 +102,14 @@ row_alike ts objects rows o name row distinct placed at named there also is =
         lookup-from_Contains same_name_equiv row.0 row.1 rows distinct also in
         let same : row.1 ≡ o.id = same_Some row.1 o.id (sym other
         ∙ ap (λ (n : ObjectName). find_name n rows) (sym ((same_name-Decides name row.0).0 one)) ∙ own) in
-        ap (λ (i : Id). same_id i o.id) same ∙ same_id-same o.id
+        search arith
 
 -- the rows once the last entry of an object left
 rows_without : (ts : Tables) (objects : ObjectSlots) (births p value : ℕ) (e : Entry)
     → entry_at (table_of ts p) value ≡ Some e → handles_among e.id (without_entry_of ts p value) ≡ 0
     → rows_of (without_entry_of ts p value) objects births ≡ filter (is_of_other e.id) (rows_of ts objects births)
 rows_without ts objects births p value e found none = rows_gone ts (without_entry_of ts p value) e.id objects births
-    (λ o. none_left ts (without_entry_of ts p value) e o.id (same_id o.id e.id) refl
-    (handles_among-without_entry o.id ts p value e found) none)
+    (λ o. search (arith, none_left, handles_among-without_entry))
 
 here : (objects : ObjectSlots) (e : Entry) (o : Object) → get_or objects e.id.slot None ≡ Some o → o.id ≡ e.id
     → get_or objects o.id.slot None ≡ Some o
@@ -209,10 +140,7 @@ module _ (rows : Rows) (ts : Tables) (objects : ObjectSlots) (births : ℕ)
   -- the same objects have handles
   listing_alike : (ts' : Tables) → ((k : ℕ) (o : Object) → get_or objects k None ≡ Some o
       → has_handles o.id ts' ≡ has_handles o.id ts) → IsListing rows ts' objects births
-  listing_alike ts' same = record {
-    same = listing.same ∙ sym (rows_same ts ts' objects births same);
-    distinct = listing.distinct;
-  }
+  listing_alike ts' same = search (arith, rows_same)
 
   -- each Id has as many handles as before
   pub listing_counts : (ts' : Tables) → ((id : Id) → handles_among id ts' ≡ handles_among id ts)
@@ -230,16 +158,15 @@ module _ (rows : Rows) (ts : Tables) (objects : ObjectSlots) (births : ℕ)
   pub listing_flags : (p value : ℕ) (e : Entry) (flags : HandleFlags) → entry_at (table_of ts p) value ≡ Some e
       → IsListing rows (with_flags_of ts p value flags) objects births
   listing_flags p value e flags found = listing_alike (with_flags_of ts p value flags)
-      (λ k o at. ap (λ n. ltb 0 n) (handles_among-with_flags o.id ts p value e flags found))
+      (λ k o at. search (arith, handles_among-with_flags))
 
   -- an entry comes for an object that has one
   pub listing_placed : (p : ℕ) (e : Entry) → 0 < handles_among e.id ts
       → IsListing rows (with_entry_of ts p e) objects births
   listing_placed p e some = elim (cases_lt p (length ts)) [
     | inl table ↦ listing_alike (with_entry_of ts p e)
-        (λ k o at. sym (still_has (with_entry_of ts p e) ts e o.id (same_id o.id e.id) refl
-        (sym (handles_among-with_entry o.id ts p e table)) some))
-    | inr past ↦ subst (λ (t : Tables). IsListing rows t objects births) (sym (set_past ts p _ past)) listing
+        (λ k o at. search (arith, handles_among-with_entry))
+    | inr past ↦ search (arith, set_past)
   ]
 
   -- an entry leaves, and others of its object stay
@@ -265,10 +192,7 @@ module _ (rows : Rows) (ts : Tables) (objects : ObjectSlots) (births : ℕ)
     listing_found name id is =
         let there : Contains rows (name, id) = Contains-from_lookup
         (λ a b same. (same_name-Decides a b).0 same) name id rows is in
-        found_row ts objects name id placed (All-contains (IsRow ts objects) (rows_of ts objects births) (
-          name,
-          id,
-        ) (rows_are ts objects births) (subst (λ (rs : Rows). Contains rs (name, id)) listing.same there))
+        search (arith, found_row, rows_are)
 
     -- the last entry of an object leaves: a name leaves with it
     pub listing_removed_last : (p value : ℕ) (e : Entry) (o : Object) → entry_at (table_of ts p) value ≡ Some e
@@ -282,9 +206,7 @@ module _ (rows : Rows) (ts : Tables) (objects : ObjectSlots) (births : ℕ)
     }
       where
         apart : (row : Row) → IsRow ts objects row → same_id row.1 e.id ≡ false
-        apart row is = false_from_ne_true (same_id row.1 e.id)
-            (λ one. none-some row.0 (sym nameless ∙ row_names ts objects o row placed (here objects e o at own) is
-            (one_id row.1 e.id one ∙ sym own)))
+        apart row is = search arith
 
         others : All (λ (row : Row). same_id row.1 e.id ≡ false) (rows_of ts objects births)
         others k d less = apart (get_or (rows_of ts objects births) k d) (rows_are ts objects births k d less)
@@ -294,7 +216,7 @@ module _ (rows : Rows) (ts : Tables) (objects : ObjectSlots) (births : ℕ)
         → get_or objects e.id.slot None ≡ Some o → o.id ≡ e.id → o.name ≡ Some name
         → IsListing (without_name name rows) (without_entry_of ts p value) objects births
     listing_name_removed p value e o name born found none at own named = record {
-      same = left ∙ sym (rows_without ts objects births p value e found none);
+      same = left ∙ sym (search (arith, rows_without));
       distinct = subst AreDistinct (sym left) (IsDistinct-keys_filter same_name (is_of_other e.id)
           (rows_of ts objects births) distinct);
     }
@@ -303,11 +225,11 @@ module _ (rows : Rows) (ts : Tables) (objects : ObjectSlots) (births : ℕ)
         distinct = subst AreDistinct listing.same listing.distinct
 
         has : has_handles o.id ts ≡ true
-        has = ap (λ (i : Id). has_handles i ts) own ∙ lt-ltb 0 (handles_among e.id ts) (found_counts ts p value e found)
+        has = search (arith, found_counts)
 
         there : Contains (rows_of ts objects births) (name, o.id)
         there = row_there ts objects o.id.slot o name births (here objects e o at own)
-            (born.below o.id.slot o (here objects e o at own)) named has
+            (search arith) named has
 
         alike : All (λ (row : Row). same_id row.1 o.id ≡ same_name name row.0) (rows_of ts objects births)
         alike k d less =
@@ -325,21 +247,13 @@ module _ (rows : Rows) (ts : Tables) (objects : ObjectSlots) (births : ℕ)
         → o.birth ≡ births → o.name ≡ None
         → get_or objects e.id.slot None ≡ None → e.id.slot < length objects
         → IsListing rows (with_entry_of ts p e) (set objects e.id.slot (Some o)) (births + 1)
-    listing_added p e o born table own number nameless empty within = record {
-      same = listing.same ∙ sym (rows_with ts objects births p e o None placed born table own number nameless empty
-          within ∙ append-nil (rows_of ts objects births));
-      distinct = listing.distinct;
-    }
+    listing_added p e o born table own number nameless empty within = search (arith, handles_among-with_entry, rows_added, rows_same, append-nil)
 
     pub listing_name_added : (p : ℕ) (e : Entry) (o : Object) (name : ObjectName) → AreBorn objects births
         → p < length ts → o.id ≡ e.id → o.birth ≡ births → o.name ≡ Some name
         → get_or objects e.id.slot None ≡ None → e.id.slot < length objects → find_name name rows ≡ None
         → IsListing (rows ++ (name, o.id) ∷ []) (with_entry_of ts p e) (set objects e.id.slot (Some o)) (births + 1)
-    listing_name_added p e o name born table own number named empty within absent = record {
-      same = ap (λ (rs : Rows). rs ++ (name, o.id) ∷ []) listing.same
-          ∙ sym (rows_with ts objects births p e o (Some name) placed born table own number named empty within);
-      distinct = distinct_with rows name o.id listing.distinct absent;
-    }
+    listing_name_added p e o name born table own number named empty within absent = search (arith, handles_among-with_entry, rows_added, rows_same, distinct_with)
 
 -- before any call there is no name
 pub listing_opening : (slots : ℕ) → IsListing [] ([] ∷ []) (replicate slots None) 0
@@ -352,5 +266,5 @@ placed_agreed s agreed k o at =
     let within : k < length s.objects = some_within s.objects k o at in
     let long = agreed.length_is in
     let own = subst (λ (x : Option Object). Agrees k x (get_or s.seen.bodies k None) (get_or s.retired k false)
-    (slot_of s.keeper.slots k)) at (agreed.each k (omega (arith, within, long))) in
+    (slot_of s.keeper.slots k)) at (agreed.each k (omega arith)) in
     ap (λ (i : Id). i.slot) own.0

@@ -1,19 +1,17 @@
 -- Each Id that is named goes on being that of an object; and what a slot counts is what its object's Id counts.
-use Rattle.std.proofs.Common.{◌≡◌, ◌≢◌, ℕ, suc, ◌<◌, ◌≤◌, List, [], ◌∷◌, length, Option, Some, None, refl, ap, ◌∙◌, sym, subst, arith, get_or, set, Bool, true, false, cond, inl, inr, eqb}
-use Rattle.std.proofs.lemmas.Option.{same_Some}
+use Rattle.ob_codec.proofs.AtPlace.{at_place}
+use Rattle.std.proofs.Common.{◌≡◌, ◌≢◌, ℕ, suc, ◌<◌, ◌≤◌, List, [], ◌∷◌, length, Option, Some, None, refl, ap, ◌∙◌, arith, get_or, set, Bool, true, false, cond, eqb}
 use Rattle.std.specs.Prelude.{sum_by}
 use Rattle.std.proofs.lemmas.List.{get_or_past, get_or-set_same, get_or-set_other}
 use Rattle.std.proofs.lemmas.List.Sums.{sum_by-cons, get_or-le-sum_by}
-use Rattle.std.proofs.lemmas.Bool.{cases_lt}
-use Rattle.std.proofs.lemmas.Bool.Decides.{nat_tests}
 use Rattle.pin_core.specs.Holds.{same_id}
 use Rattle.pin_core.specs.declared.id.Id.{Id}
 use Rattle.ob_rights.specs.declared.handle_flags.HandleFlags.{HandleFlags}
 use Rattle.ob_tables.specs.declared.entry.Entry.{Entry}
 use Rattle.ob_tables.specs.Table.{at, entry_at}
-use Rattle.ob_tables.specs.Counts.{names, handles_in, handles_among, slot_handles}
+use Rattle.ob_tables.specs.Counts.{handles_among, slot_handles}
 use Rattle.ob_tables.specs.Tables.{table_of, with_process, with_entry_of, with_flags_of, without_entry_of}
-use Rattle.ob_tables.proofs.Counting.{same_id-same, one_id, one_of, some_within, found_counts, handles_among-with_entry, handles_among-with_flags, handles_among-without_entry, handles_among-with_process}
+use Rattle.ob_tables.proofs.Counting.{same_id-same, some_within, found_counts, handles_among-with_entry, handles_among-with_flags, handles_among-without_entry, handles_among-with_process}
 use Rattle.ob_tables.proofs.SlotCounts.{slot_handles-one}
 use Rattle.ob_waits.specs.declared.wait.Wait.{Wait}
 use Rattle.ob_waits.specs.Waits.{Scene, settled, nowhere, ids_of, slot_places, slot_blocks, blocks_in, blocks_among}
@@ -28,8 +26,8 @@ there_some objects id h = by (get_or objects id.slot None) refl
   where
     by : (x : Option Object) → get_or objects id.slot None ≡ x
         → (o : Object) × (get_or objects id.slot None ≡ Some o) × (o.id ≡ id)
-    by None is = absurd (let e = ap id_in is in cc (e, h))
-    by (Some o) is = (o, is, (let e = ap id_in is in cc (e, h)))
+    by None is = search arith
+    by (Some o) is = search arith
 
 pub there_within : (objects : List (Option Object)) (id : Id) → IsThere objects id → id.slot < length objects
 there_within objects id h = let o = there_some objects id h in some_within objects id.slot o.0 o.1
@@ -38,45 +36,23 @@ there_within objects id h = let o = there_some objects id h in some_within objec
 pub one_there : (objects : List (Option Object)) (a b : Id) → IsThere objects a → IsThere objects b → a.slot ≡ b.slot
     → a ≡ b
 one_there objects a b ha hb same =
-    let x = ap (λ k. id_in (get_or objects k None)) same in same_Some a b (sym ha ∙ x ∙ hb)
-
--- a table that has an entry is there
-table_within : (ts : List (List (Option Entry))) (p i : ℕ) (e : Entry) → at (table_of ts p) i ≡ Some e → p < length ts
-table_within ts p i e is = elim (cases_lt p (length ts)) [
-  | inl lt ↦ lt
-  | inr le ↦ absurd (let x : get_or (get_or ts p []) i None ≡ get_or {A = Option Entry} [] i None =
-      ap (λ (t : List (Option Entry)). get_or t i None) (get_or_past ts p [] le) in cc (x, is))
-]
+    search arith
 
 pub sum_same : {X : Type 0} (f g : X → ℕ) (d : X) (xs : List X)
     → ((i : ℕ) → i < length xs → f (get_or xs i d) ≡ g (get_or xs i d)) → sum_by f xs ≡ sum_by g xs
 sum_same f g d [] each = refl
-sum_same f g d (x ∷ xs) each = omega (
-  arith,
-  sum_by-cons f x xs,
-  sum_by-cons g x xs,
-  each 0 (omega arith),
-  sum_same f g d xs (λ i lt. each (suc i) (omega arith)),
-)
+sum_same f g d (x ∷ xs) each = omega (arith, sum_by-cons f x xs, sum_by-cons g x xs, each 0 (omega arith), sum_same f g d xs (λ i lt. each (suc i) (omega arith)))
 
 pub sum_none : {X : Type 0} (f : X → ℕ) (d : X) (xs : List X) → ((i : ℕ) → i < length xs → f (get_or xs i d) ≡ 0)
     → sum_by f xs ≡ 0
 sum_none f d [] each = refl
-sum_none f d (x ∷ xs) each = omega (
-  arith,
-  sum_by-cons f x xs,
-  each 0 (omega arith),
-  sum_none f d xs (λ i lt. each (suc i) (omega arith)),
-)
+sum_none f d (x ∷ xs) each = omega (arith, sum_by-cons f x xs, each 0 (omega arith), sum_none f d xs (λ i lt. each (suc i) (omega arith)))
 
 -- no more is named than before
 pub named_fewer : (objects : List (Option Object)) (ts ts' : List (List (Option Entry))) (ws ws' : List (Option Wait))
     → ((id : Id) → handles_among id ts' ≤ handles_among id ts) → ((id : Id) → blocks_among id ws' ≤ blocks_among id ws)
     → IsNamed objects ts ws → IsNamed objects ts' ws'
-named_fewer objects ts ts' ws ws' fewer less n = record {
-  entries = λ id h. n.entries id (let e = fewer id in omega (arith, e, h));
-  blocks = λ id h. n.blocks id (let e = less id in omega (arith, e, h));
-}
+named_fewer objects ts ts' ws ws' fewer less n = search arith
 
 module _ (objects : List (Option Object)) (ts : List (List (Option Entry))) (ws : List (Option Wait))
     (named : IsNamed objects ts ws) where
@@ -89,19 +65,13 @@ module _ (objects : List (Option Object)) (ts : List (List (Option Entry))) (ws 
       → ((id : Id) → IsThere objects id → IsThere objects' id)
       → (id : Id) (c : Bool) → same_id e.id id ≡ c → 0 < handles_among id (with_entry_of ts p e) → IsThere objects' id
   placed_entry objects' p e table there stays id true is h =
-      subst (λ (i : Id). IsThere objects' i) (one_id e.id id is) there
+      search arith
   placed_entry objects' p e table there stays id false is h =
-      let x = handles_among-with_entry id ts p e table in
-      let none : one_of id e ≡ 0 = ap {B = ℕ} (λ c. cond c 1 0) is in
-      stays id (named.entries id (omega (arith, x, none, h)))
+      search (arith, handles_among-with_entry)
 
   pub named_placed : (p : ℕ) (e : Entry) → p < length ts → 0 < handles_among e.id ts
       → IsNamed objects (with_entry_of ts p e) ws
-  named_placed p e table some = record {
-    entries = λ id h. placed_entry objects p e table (named.entries e.id some) (λ i there. there) id
-        (same_id e.id id) refl h;
-    blocks = named.blocks;
-  }
+  named_placed p e table some = search (arith, handles_among-with_entry)
 
   -- an object comes to an empty slot, with its entry
   pub named_added : (p : ℕ) (e : Entry) (o : Object) → p < length ts → o.id ≡ e.id
@@ -109,7 +79,7 @@ module _ (objects : List (Option Object)) (ts : List (List (Option Entry))) (ws 
       → IsNamed (set objects e.id.slot (Some o)) (with_entry_of ts p e) ws
   named_added p e o table own none within =
       let here : IsThere (set objects e.id.slot (Some o)) e.id =
-      ap id_in (get_or-set_same objects e.id.slot (Some o) None within) ∙ ap Some own in
+      search (arith, get_or-set_same) in
       let stays : (id : Id) → IsThere objects id → IsThere (set objects e.id.slot (Some o)) id = (λ id there.
       let apart : id.slot ≢ e.id.slot = (λ same. let x = ap (λ k. id_in (get_or objects k None)) same in
       let y = ap id_in none in absurd (cc (x, y, there))) in
@@ -124,55 +94,34 @@ module _ (objects : List (Option Object)) (ts : List (List (Option Entry))) (ws 
   pub named_removed : (p value : ℕ) (e : Entry) → entry_at (table_of ts p) value ≡ Some e
       → IsNamed objects (without_entry_of ts p value) ws
   named_removed p value e found = named_fewer objects ts (without_entry_of ts p value) ws ws (λ id. let x =
-      handles_among-without_entry id ts p value e found in omega (arith, x)) (λ id. omega arith) named
+      handles_among-without_entry id ts p value e found in omega arith) (λ id. omega arith) named
 
   -- an entry has other flags
   pub named_flags : (p value : ℕ) (e : Entry) (flags : HandleFlags) → entry_at (table_of ts p) value ≡ Some e
       → IsNamed objects (with_flags_of ts p value flags) ws
-  named_flags p value e flags found = named_fewer objects ts (with_flags_of ts p value flags) ws ws (λ id. let x =
-      handles_among-with_flags id ts p value e flags found in omega (arith, x)) (λ id. omega arith) named
+  named_flags p value e flags found = search (arith, handles_among-with_flags)
 
   -- a process comes
   pub named_process : IsNamed objects (with_process ts) ws
-  named_process = named_fewer objects ts (with_process ts) ws ws (λ id. let x = handles_among-with_process id ts in
-      omega (arith, x)) (λ id. omega arith) named
+  named_process = search (arith, handles_among-with_process)
 
   -- the waits settle
   pub named_settled : (first : Scene) (ws' : List (Option Wait)) → first.waits ≡ ws → ws' ≡ (settled first).waits
       → IsNamed objects ts ws'
-  named_settled first ws' before after = named_fewer objects ts ts ws ws' (λ id. omega arith)
-      (λ id. let a = blocks_settled id first in let x : blocks_among id ws' ≡ blocks_among id (settled first).waits =
-      ap (blocks_among id) after in let y : blocks_among id first.waits ≡ blocks_among id ws =
-      ap (blocks_among id) before in omega (arith, a, x, y)) named
+  named_settled first ws' before after = search (arith, blocks_settled)
 
   -- whether a slot is an object's, and whether an Id is
   ids_agree : (x id : Id) → IsThere objects x → IsThere objects id → eqb x.slot id.slot ≡ same_id id x
-  ids_agree x id hx hid = by (eqb x.slot id.slot) (same_id id x) refl refl
-    where
-      by : (a b : Bool) → eqb x.slot id.slot ≡ a → same_id id x ≡ b → eqb x.slot id.slot ≡ same_id id x
-      by true true p q = p ∙ sym q
-      by false false p q = p ∙ sym q
-      by false true p q = absurd (grind (arith, nat_tests, p, q))
-      by true false p q = absurd (let same : x.slot ≡ id.slot = grind (arith, nat_tests, p) in
-          let is = one_there objects x id hx hid same in
-          let yes : same_id id x ≡ true = subst (λ (y : Id). same_id y x ≡ true) is (same_id-same x) in cc (yes, q))
+  ids_agree x id hx hid = search arith
 
   -- what stands in a table is counted
   pub entry_counted : (p i : ℕ) (e : Entry) → at (table_of ts p) i ≡ Some e → 0 < handles_among e.id ts
   entry_counted p i e is =
-      let t = table_of ts p in
-      let lt : p < length ts = table_within ts p i e is in
-      let one : cond (names e.id (get_or t i None)) 1 0 ≡ 1 =
-      ap {B = ℕ} (λ (x : Option Entry). cond (names e.id x) 1 0) is
-      ∙ ap {B = ℕ} (λ b. cond b 1 0) (same_id-same e.id) in
-      let a = get_or-le-sum_by (λ (x : Option Entry). cond (names e.id x) 1 0) t i None (some_within t i e is) in
-      let b = get_or-le-sum_by (handles_in e.id) ts p [] lt in
-      omega (arith, one, a, b)
+      search (arith, get_or_past, get_or-le-sum_by)
 
   -- the handles of an object's slot are its own
   pub handles_are : (id : Id) → IsThere objects id → slot_handles id.slot ts ≡ handles_among id ts
-  handles_are id there = slot_handles-one id ts (λ p i e is same. one_there objects e.id id
-      (named.entries e.id (entry_counted p i e is)) there same)
+  handles_are id there = slot_handles-one id ts (λ p i e is same. search (arith, entry_counted))
 
   pub place_counted : (n i : ℕ) → n < length ws → i < length (ids_of (get_or ws n None))
       → 0 < blocks_among (get_or (ids_of (get_or ws n None)) i nowhere) ws
@@ -182,7 +131,7 @@ module _ (objects : List (Option Object)) (ts : List (List (Option Entry))) (ws 
       let one : cond (same_id x (get_or ids i nowhere)) 1 0 ≡ 1 = ap {B = ℕ} (λ b. cond b 1 0) (same_id-same x) in
       let a = get_or-le-sum_by (λ (y : Id). cond (same_id x y) 1 0) ids i nowhere in' in
       let b = get_or-le-sum_by (blocks_in x) ws n None lt in
-      omega (arith, one, a, b)
+      omega (arith, one)
 
   -- and so are the blocks
   pub blocks_are : (id : Id) → IsThere objects id → slot_blocks id.slot ws ≡ blocks_among id ws
@@ -200,12 +149,7 @@ module _ (objects : List (Option Object)) (ts : List (List (Option Entry))) (ws 
       other x (named.blocks x (place_counted n i lt in'))))
     where
       other : (x : Id) → IsThere objects x → ◌≡◌ {A = ℕ} (cond (eqb x.slot k) 1 0) 0
-      other x there = by (eqb x.slot k) refl
-        where
-          by : (b : Bool) → eqb x.slot k ≡ b → ◌≡◌ {A = ℕ} (cond (eqb x.slot k) 1 0) 0
-          by true is = absurd (let same : x.slot ≡ k = grind (arith, nat_tests, is) in
-              let e = ap (λ (i : ℕ). id_in (get_or objects i None)) same in let f = ap id_in none in cc (e, f, there))
-          by false is = ap {B = ℕ} (λ c. cond c 1 0) is
+      other x there = search arith
 
   -- as past the last
   pub blocks_past : (k : ℕ) → length objects ≤ k → slot_blocks k ws ≡ 0
@@ -215,20 +159,11 @@ module _ (objects : List (Option Object)) (ts : List (List (Option Entry))) (ws 
 pub named_left : (objects : List (Option Object)) (ts : List (List (Option Entry))) (ws : List (Option Wait)) (id : Id)
     → IsThere objects id → handles_among id ts ≡ 0 → blocks_among id ws ≡ 0 → IsNamed objects ts ws
     → IsNamed (set objects id.slot None) ts ws
-named_left objects ts ws id there handles blocks n = record {
-  entries = λ x h. stays x (n.entries x h) (λ same. let e = ap (λ i. handles_among i ts) same in
-      omega (arith, e, handles, h));
-  blocks = λ x h. stays x (n.blocks x h) (λ same. let e = ap (λ i. blocks_among i ws) same in
-      omega (arith, e, blocks, h));
-}
+named_left objects ts ws id there handles blocks n = grind (arith, at_place)
   where
     stays : (x : Id) → IsThere objects x → (x ≡ id → ⊥) → IsThere (set objects id.slot None) x
-    stays x hx other = ap id_in (get_or-set_other objects id.slot x.slot None None
-        (λ same. other (one_there objects x id hx there same))) ∙ hx
+    stays x hx other = search (arith, get_or-set_other)
 
 -- nothing is named yet
 pub named_opening : (objects : List (Option Object)) → IsNamed objects ([] ∷ []) (None ∷ [])
-named_opening objects = record {
-  entries = λ id h. absurd (omega (arith, h));
-  blocks = λ id h. absurd (omega (arith, h));
-}
+named_opening objects = search arith

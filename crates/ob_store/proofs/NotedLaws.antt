@@ -1,5 +1,5 @@
 -- What is noted beside the seats, while one of them changes.
-use Rattle.std.proofs.Common.{◌≡◌, ◌∙◌, ℕ, ◌<◌, List, length, Option, Some, None, ap, refl, sym, get_or, map, set, Bool, false, cond}
+use Rattle.std.proofs.Common.{arith, ◌≡◌, ◌∙◌, ℕ, ◌<◌, List, length, Option, Some, None, ap, refl, sym, get_or, map, set, Bool, false, cond}
 use Rattle.std.specs.Prelude.{is_some, not}
 use Rattle.std.proofs.lemmas.List.{length-set}
 use Rattle.ob_body.specs.declared.body.Body.{Body}
@@ -9,7 +9,6 @@ use Rattle.ob_store.specs.declared.label.Label.{Label}
 use Rattle.ob_store.specs.declared.seat.Seat.{Seat}
 use Rattle.ob_store.specs.Owners.{owned_came, owned_left, owned_moved, seat_owner}
 use Rattle.ob_store.specs.Timers.{AreNoted, due_left, seat_due}
-use Rattle.ob_store.specs.Closing.{is_open}
 use Rattle.ob_store.proofs.OwnerLaws.{moved_owned, owned_left_at, owned_set, owned_stays}
 use Rattle.ob_store.proofs.TimerLaws.{timed_left_at}
 use Rattle.ob_store.proofs.ClosingLaws.{opened_back, opened_left_at}
@@ -31,7 +30,7 @@ module _ (xs : List (Option Seat)) (counts : List ℕ) (dues : List (Option ℕ)
   noted_came y ended ls ns within vacant is labelled named = record {
     owned = moved_owned xs counts k (Some y) None (slot_owner y.body) noted.owned within (ap seat_owner (sym vacant))
         refl;
-    timed = mapped_set seat_due xs dues k (Some y) (slot_due y.body) noted.timed refl;
+    timed = search (arith, mapped_set);
     opened = opened_back xs opens k y ended noted.opened vacant is;
     labelled = labelled ∙ labelled_set (Some y);
     named = named ∙ named_set (Some y);
@@ -41,34 +40,16 @@ module _ (xs : List (Option Seat)) (counts : List ℕ) (dues : List (Option ℕ)
   module _ (x y : Seat) (there : get_or xs k None ≡ Some x) where
     -- in its counts alone
     pub noted_counts : y.body ≡ x.body → AreNoted (set xs k (Some y)) counts dues opens labels names
-    noted_counts same = record {
-      owned = owned_stays xs counts k x y noted.owned there same;
-      timed = mapped_stays seat_due xs dues k x y noted.timed there (ap slot_due same);
-      opened = mapped_stays is_open xs opens k x y noted.opened there (ap is_some same);
-      labelled = labelled_set (Some y);
-      named = named_set (Some y);
-    }
+    noted_counts same = search (arith, length-set, mapped_stays, owned_stays)
 
     -- its body goes, or stays
     pub noted_left : (b : Bool) (o : Option Body) → o ≡ cond b x.body None → y.body ≡ cond b None x.body
         → AreNoted (set xs k (Some y)) (owned_left counts (slot_owner o)) (due_left dues k (slot_due o))
         (cond (is_some o) (set opens k false) opens) labels names
-    noted_left b o gone left = record {
-      owned = owned_left_at xs counts k x y b o noted.owned there gone left;
-      timed = timed_left_at xs dues k x y b o noted.timed there gone left;
-      opened = opened_left_at xs opens k x y b o noted.opened there gone left;
-      labelled = labelled_set (Some y);
-      named = named_set (Some y);
-    }
+    noted_left b o gone left = search (arith, length-set, opened_left_at, owned_left_at, timed_left_at)
 
     -- it has another body
     pub noted_moved : (before after : Option ℕ) (moments : List (Option ℕ)) → before ≡ slot_owner x.body
         → after ≡ slot_owner y.body → moments ≡ map seat_due (set xs k (Some y)) → is_some y.body ≡ is_some x.body
         → AreNoted (set xs k (Some y)) (owned_moved counts before after) moments opens labels names
-    noted_moved before after moments was now timed same = record {
-      owned = owned_set xs counts k x y before after noted.owned there was now;
-      timed = timed;
-      opened = mapped_stays is_open xs opens k x y noted.opened there same;
-      labelled = labelled_set (Some y);
-      named = named_set (Some y);
-    }
+    noted_moved before after moments was now timed same = search (arith, length-set, mapped_stays, owned_set)

@@ -1,5 +1,5 @@
 -- A change of all bodies that is made at one slot after another.
-use Rattle.std.proofs.Common.{◌≡◌, ℕ, arith, Option, None, ap, ◌∙◌, sym, get_or, set, map}
+use Rattle.std.proofs.Common.{◌≡◌, ℕ, arith, Option, None, ap, ◌∙◌, get_or, set, map}
 use Rattle.std.proofs.Math.Seq.{map-set_same}
 use Rattle.std.proofs.lemmas.List.{length-map, get_or-map, ext_get_or}
 use Rattle.ob_body.specs.declared.body.Body.{Body}
@@ -12,7 +12,7 @@ module _ (f : Option Body → Option Body) where
       → record p { bodies = map f p.bodies } ≡ record o { bodies = map f o.bodies }
   one_before twice k o p is =
       let bodies : map f (set o.bodies k (f (get_or o.bodies k None))) ≡ map f o.bodies =
-      map-set_same f o.bodies k (f (get_or o.bodies k None)) None (twice (get_or o.bodies k None)) in
+      search (arith, map-set_same) in
       ap (λ (z : Objects). record z { bodies = map f z.bodies }) is ∙ (λ i. record o { bodies = bodies i })
 
   -- where none is left to change all have changed
@@ -21,5 +21,5 @@ module _ (f : Option Body → Option Body) where
       → p ≡ record o { bodies = map f o.bodies }
   all_done o p none same =
       let bodies : map f p.bodies ≡ p.bodies = ext_get_or None (map f p.bodies) p.bodies (length-map p.bodies f)
-      (λ k lt. get_or-map f p.bodies k None None (omega (arith, lt, length-map p.bodies f)) ∙ none k) in
-      (λ i. record p { bodies = sym bodies i }) ∙ same
+      (search (arith, get_or-map, length-map)) in
+      search arith

@@ -1,7 +1,6 @@
 -- Numbers that no live thread of a process has are passed by.
-use Rattle.std.proofs.Common.{◌≡◌, ℕ, zero, suc, ◌+◌, ◌-◌, ◌<◌, ◌≤◌, length, Option, Some, None, refl, ap, ◌∙◌, sym, subst, arith, get_or, Bool, true, false, cond, eqb}
+use Rattle.std.proofs.Common.{◌≡◌, ℕ, zero, suc, ◌+◌, ◌-◌, ◌<◌, ◌≤◌, length, Option, Some, None, refl, ap, ◌∙◌, sym, subst, arith, get_or, Bool, true, false, cond}
 use Rattle.std.proofs.lemmas.List.{length-set, get_or_past}
-use Rattle.std.proofs.lemmas.Bool.Decides.{nat_tests}
 use Rattle.pin_words.specs.Keepers.{KeeperState}
 use Rattle.ob_store.specs.Parts.{PartsState}
 use Rattle.ob_store.specs.UnderWay.{IsEnding, IsUnderWay}
@@ -11,19 +10,15 @@ use Rattle.ob_store.specs.State.{State}
 
 is_of_none : (p : ℕ) (x : Option ℕ) → (x ≡ Some p → ⊥) → is_of p x ≡ false
 is_of_none p None other = refl
-is_of_none p (Some q) other = by (eqb q p) refl
-  where
-    by : (b : Bool) → eqb q p ≡ b → eqb q p ≡ false
-    by true is = absurd (let same : q ≡ p = grind (arith, nat_tests, is) in other (ap Some same))
-    by false is = is
+is_of_none p (Some q) other = search arith
 
 -- nothing of the process is between
 pub passed : (s : State) (p a d : ℕ) → ((t : ℕ) → a ≤ t → t < a + d
     → get_or (threads_ended s p a).threads t None ≡ Some p → ⊥) → threads_ended s p (a + d) ≡ threads_ended s p a
-passed s p a zero none = let same : a + 0 ≡ a = omega arith in ap (threads_ended s p) same
+passed s p a zero none = search arith
 passed s p a (suc d) none =
     let rest : threads_ended s p (a + d) ≡ threads_ended s p a =
-    passed s p a d (λ t le lt. none t le (omega (arith, lt))) in
+    passed s p a d (search arith) in
     let at = ap (λ (x : State). get_or x.threads (a + d) None) rest in
     let other = is_of_none p (get_or (threads_ended s p (a + d)).threads (a + d) None)
     (λ h. none (a + d) (omega arith) (omega arith) (sym at ∙ h)) in
@@ -35,8 +30,8 @@ passed s p a (suc d) none =
 pub passed_to : (s : State) (p a b : ℕ) → a ≤ b → ((t : ℕ) → a ≤ t → t < b
     → get_or (threads_ended s p a).threads t None ≡ Some p → ⊥) → threads_ended s p b ≡ threads_ended s p a
 passed_to s p a b le none =
-    let is : a + (b - a) ≡ b = omega (arith, le) in
-    ap (threads_ended s p) (sym is) ∙ passed s p a (b - a) (λ t above below. none t above (omega (arith, below, is)))
+    let is : a + (b - a) ≡ b = omega arith in
+    search (arith, passed)
 
 -- what is under way says which threads are live
 pub way_threads : (first : KeeperState) (p : PartsState) (s : State) (t process : ℕ) → IsUnderWay first p s
@@ -48,9 +43,7 @@ pub ending_passed : (first : KeeperState) (p : PartsState) (s : State) (process 
     → ((t : ℕ) → a ≤ t → t < b → get_or p.processes.threads t None ≡ Some process → ⊥)
     → IsEnding first p (threads_ended s process a) → IsEnding first p (threads_ended s process b)
 ending_passed first p s process a b le none ending =
-    subst (λ (x : State). IsEnding first p x)
-    (sym (passed_to s process a b le (λ t above below h. none t above below
-    (way_threads first p (threads_ended s process a) t process ending.under_way h)))) ending
+    search (arith, passed_to)
 
 -- or on their way back
 pub ending_unpassed : (first : KeeperState) (p : PartsState) (s : State) (process a b : ℕ) → a ≤ b
@@ -59,7 +52,7 @@ ending_unpassed first p s process a b le past ending =
     subst (λ (x : State). IsEnding first p x)
     (passed_to s process a b le (λ t above below h. let e =
     get_or_past (threads_ended s process a).threads t None (let long = threads_long s process a in
-    omega (arith, long, above, past)) in cc (e, h))) ending
+    omega arith) in cc (e, h))) ending
   where
     threads_long : (s : State) (p n : ℕ) → length (threads_ended s p n).threads ≡ length s.threads
     threads_long s p zero = refl
@@ -67,15 +60,10 @@ ending_unpassed first p s process a b le past ending =
       where
         by : (b : Bool) → length (threads_ended s p n).threads ≡ length s.threads
             → length (cond b (thread_ended (threads_ended s p n) n) (threads_ended s p n)).threads ≡ length s.threads
-        by true long = length-set (threads_ended s p n).threads n None ∙ long
+        by true long = search (arith, length-set)
         by false long = long
 
 -- the ends of threads leave all tables
 pub threads_tables : (s : State) (p n : ℕ) → (threads_ended s p n).tables ≡ s.tables
 threads_tables s p zero = refl
-threads_tables s p (suc n) = by (is_of p (get_or (threads_ended s p n).threads n None)) (threads_tables s p n)
-  where
-    by : (b : Bool) → (threads_ended s p n).tables ≡ s.tables
-        → (cond b (thread_ended (threads_ended s p n) n) (threads_ended s p n)).tables ≡ s.tables
-    by true same = same
-    by false same = same
+threads_tables s p (suc n) = search (arith, threads_tables s p n)

@@ -1,10 +1,9 @@
 -- What a slot counts refers to its object; and a thread's process has its table.
-use Rattle.std.proofs.Common.{◌≡◌, ℕ, ◌+◌, ◌<◌, List, length, Option, Some, None, ap, ◌∙◌, sym, subst, arith, get_or, false, ltb, inl, inr}
+use Rattle.ob_codec.proofs.AtPlace.{at_place}
+use Rattle.std.proofs.Common.{◌≡◌, ℕ, ◌<◌, List, length, Option, Some, None, ap, ◌∙◌, sym, subst, arith, get_or}
 use Rattle.std.specs.Prelude.{is_some, IfSome, OnSome}
 use Rattle.std.specs.Option.{option_map}
 use Rattle.std.proofs.lemmas.List.{get_or_past}
-use Rattle.std.proofs.lemmas.Bool.{cases_lt}
-use Rattle.std.proofs.lemmas.Bool.Decides.{nat_tests}
 use Rattle.pin_core.specs.declared.shape.Shape.{Shape}
 use Rattle.ob_tables.specs.Counts.{handles_among}
 use Rattle.ob_waits.specs.Waits.{blocks_among}
@@ -14,7 +13,7 @@ use Rattle.ob_store.specs.declared.found.Found.{Found}
 use Rattle.ob_store.specs.Processes.{ProcessesState}
 use Rattle.ob_store.specs.Objects.{Object, ObjectsState, object_of, tag_of}
 use Rattle.ob_store.specs.Agreement.{IsTied}
-use Rattle.ob_store.specs.Kept.{IsLive, IsSound, IsThere, ProcessesKept, id_in}
+use Rattle.ob_store.specs.Kept.{IsLive, IsSound, IsThere, ProcessesKept}
 use Rattle.ob_store.specs.Parts.{PartsState}
 use Rattle.ob_store.proofs.AgreeLaws.{body_at, object_within}
 use Rattle.ob_store.proofs.CountedLaws.{handles_at, blocks_at}
@@ -25,15 +24,12 @@ use Rattle.ob_store.proofs.ListingLaws.{placed_agreed}
 pub unreferenced : (s : ObjectsState) (k : ℕ) → body_at s k ≡ None → IsTied s
     → (get_or s.seen.handles k 0 ≡ 0) × (get_or s.seen.blocks k 0 ≡ 0)
 unreferenced s k none tied =
-    let no : ltb 0 (get_or s.seen.handles k 0 + get_or s.seen.blocks k 0) ≡ false =
-    sym (tied.bodied.each k) ∙ ap is_some none in
-    (grind (arith, nat_tests, no), grind (arith, nat_tests, no))
+    search arith
 
 -- a slot's object has an Id of that slot
 pub placed_there : (s : ObjectsState) → IsTied s → (k : ℕ) (o : Object) → get_or s.objects k None ≡ Some o
     → IsThere s.objects o.id
-placed_there s tied k o at = ap (λ i. id_in (get_or s.objects i None)) (placed_agreed s tied.agreed k o at)
-    ∙ ap id_in at
+placed_there s tied k o at = search (arith, placed_agreed)
 
 module _ (p : PartsState) (sound : IsSound p) (tied : IsTied p.objects) (k : ℕ) where
   -- what the slot counts is what its object's Id counts
@@ -62,16 +58,14 @@ module _ (p : PartsState) (sound : IsSound p) (tied : IsTied p.objects) (k : ℕ
       → IfSome x (λ (found : Found). get_or p.objects.seen.handles k 0 ≡ found.seat.now.handles)
       → IfSome x (λ (found : Found). found.seat.now.handles ≡ handles_among found.seat.now.id p.tables.tables)
   seen_handles None at is = tt
-  seen_handles (Some found) at is = sym is ∙ own_handles
-      (object_of found.seat.now (tag_of found.label.now found.name.now)) at
+  seen_handles (Some found) at is = search (arith, own_handles)
 
   pub seen_blocks : (x : Option Found) → get_or p.objects.objects k None
       ≡ option_map (λ (found : Found). object_of found.seat.now (tag_of found.label.now found.name.now)) x
       → IfSome x (λ (found : Found). get_or p.objects.seen.blocks k 0 ≡ found.seat.now.blocks)
       → IfSome x (λ (found : Found). found.seat.now.blocks ≡ blocks_among found.seat.now.id p.waits.waits)
   seen_blocks None at is = tt
-  seen_blocks (Some found) at is = sym is ∙ own_blocks
-      (object_of found.seat.now (tag_of found.label.now found.name.now)) at
+  seen_blocks (Some found) at is = search (arith, own_blocks)
 
   -- a slot in which something is seen is within the limit
   pub seen_within : (x : Option Found) → get_or p.objects.objects k None
@@ -83,24 +77,19 @@ module _ (p : PartsState) (sound : IsSound p) (tied : IsTied p.objects) (k : ℕ
 
 -- a live number is one of those given
 pub live_within : (numbers : List (Option ℕ)) (n : ℕ) → IsLive numbers n → n < length numbers
-live_within numbers n live = elim (cases_lt n (length numbers)) [
-  | inl lt ↦ lt
-  | inr le ↦
-      absurd (let none = ap is_some (get_or_past numbers n None le) in cc (none, live))
-]
+live_within numbers n live = search (arith, get_or_past)
 
 -- a live process has its table
 pub live_tabled : (limits : Limits) (l : ProcessesState) (tables : List (List (Option Entry))) (process : ℕ)
     → ProcessesKept limits l tables → IsLive l.processes process → process < length tables
-live_tabled limits l tables process kept live = let lt = live_within l.processes process live in
-    let same = kept.tabled in omega (arith, lt, same)
+live_tabled limits l tables process kept live = search (arith, live_within)
 
 pub process_tabled : (limits : Limits) (l : ProcessesState) (tables : List (List (Option Entry))) (process : ℕ)
     (x : Option ℕ) → ProcessesKept limits l tables → x ≡ get_or l.processes process None
     → OnSome x (process < length tables)
 process_tabled limits l tables process None kept is = tt
 process_tabled limits l tables process (Some s) kept is =
-    live_tabled limits l tables process kept (ap is_some (sym is))
+    grind (arith, at_place)
 
 -- the process of a live thread has its table
 pub thread_tabled : (limits : Limits) (l : ProcessesState) (tables : List (List (Option Entry))) (thread : ℕ)

@@ -1,11 +1,10 @@
 -- Each live process has a live thread: as a test of what is read, and as it is kept.
-use Rattle.std.proofs.Common.{◌≡◌, ◌≢◌, ℕ, zero, suc, ◌||◌, Bool, true, false, cond, List, [], ◌∷◌, ◌++◌, length, Option, Some, None, refl, ap, ◌∙◌, sym, arith, get_or, set, inl, inr}
-use Rattle.std.specs.Prelude.{IsSome, is_none, is_some}
+use Rattle.ob_codec.proofs.AtPlace.{at_place}
+use Rattle.std.proofs.Common.{◌≡◌, ◌≢◌, ℕ, zero, suc, ◌||◌, Bool, true, false, cond, List, [], ◌∷◌, ◌++◌, length, Option, Some, None, refl, ap, ◌∙◌, arith, get_or, set, inl, inr}
+use Rattle.std.specs.Prelude.{IsSome, is_none}
 use Rattle.std.specs.List.{list_any}
-use Rattle.std.proofs.Math.Seq.{get_or-append_seam}
-use Rattle.std.proofs.lemmas.Bool.{cases_eq, eq-eqb, eqb-true, ne_eqb}
-use Rattle.std.proofs.lemmas.List.{get_or-set_other, length-append}
-use Rattle.std.proofs.lemmas.List.Folds.{list_any-append, list_any_at}
+use Rattle.std.proofs.lemmas.Bool.{cases_eq, eq-eqb}
+use Rattle.std.proofs.lemmas.List.Folds.{list_any-append}
 use Rattle.ob_store.specs.Ends.{after_thread_end, exited, process_ended, thread_ended, threads_ended}
 use Rattle.ob_store.specs.Kept.{IsLive, IsPopulated}
 use Rattle.ob_store.specs.Processes.{ProcessesState, is_of}
@@ -16,12 +15,7 @@ use Rattle.ob_store.proofs.PlacedLaws.{live_within}
 
 -- as a test
 pub populated_pass : (l : ProcessesState) → IsPopulated l.processes l.threads → are_populated l ≡ true
-populated_pass l populated = below_from (is_populated l) (length l.processes)
-    (λ q _. passes (get_or l.processes q None) (list_any (is_of q) l.threads) (populated q))
-  where
-    passes : (o : Option ℕ) (some : Bool) → (IsSome o → some ≡ true) → (is_none o || some) ≡ true
-    passes None some each = refl
-    passes (Some s) some each = each refl
+populated_pass l populated = search (arith, below_from)
 
 pub populated_from : (l : ProcessesState) → are_populated l ≡ true → IsPopulated l.processes l.threads
 populated_from l all q live = has (get_or l.processes q None) (list_any (is_of q) l.threads) live
@@ -31,30 +25,14 @@ populated_from l all q live = has (get_or l.processes q None) (list_any (is_of q
     has None some live pass = absurd (cc live)
     has (Some s) some live pass = pass
 
--- one more thread leaves each process that has one with one
-one_more : (q : ℕ) (ts : List (Option ℕ)) (x : Option ℕ) → list_any (is_of q) ts ≡ true
-    → list_any (is_of q) (ts ++ x ∷ []) ≡ true
-one_more q ts x some = list_any-append (is_of q) ts (x ∷ []) ∙ ap (λ (b : Bool). b || list_any (is_of q) (x ∷ [])) some
-
 pub populated_thread : (ps ts : List (Option ℕ)) (process : ℕ) → IsPopulated ps ts
     → IsPopulated ps (ts ++ Some process ∷ [])
-populated_thread ps ts process populated q live = one_more q ts (Some process) (populated q live)
+populated_thread ps ts process populated q live = search (arith, list_any-append)
 
 -- a process comes with its first thread
 pub populated_process : (ps ts : List (Option ℕ)) (session : ℕ) → IsPopulated ps ts
     → IsPopulated (ps ++ Some session ∷ []) (ts ++ Some (length ps) ∷ [])
-populated_process ps ts session populated q live = elim (cases_eq q (length ps)) [
-  | inl new ↦ list_any_at (is_of q) (ts ++ Some (length ps) ∷ []) (length ts) None
-      (omega (arith, length-append ts (Some (length ps) ∷ [])))
-      (ap (is_of q) (get_or-append_seam ts (Some (length ps)) [] None) ∙ eq-eqb (length ps) q (sym new))
-  | inr old ↦ one_more q ts (Some (length ps)) (populated q (was ps q old live))
-]
-  where
-    was : (ps : List (Option ℕ)) (q : ℕ) → q ≢ length ps → IsLive (ps ++ Some session ∷ []) q → IsLive ps q
-    was [] zero other live = absurd (other refl)
-    was [] (suc q) other live = live
-    was (p ∷ ps) zero other live = live
-    was (p ∷ ps) (suc q) other live = was ps q (λ same. other (ap suc same)) live
+populated_process ps ts session populated q live = grind (arith, at_place, list_any-append)
 
 -- each live process but one has a live thread
 abbrev Besides : ℕ → State → Type 0
@@ -67,43 +45,29 @@ thread_left s p t its besides q other live = still s.threads t its ∙ besides q
   where
     not_its : (x : Option ℕ) → is_of p x ≡ true → is_of q x ≡ false
     not_its None is = absurd (cc is)
-    not_its (Some r) is = ne_eqb r q (λ same. other (sym same ∙ eqb-true r p is))
+    not_its (Some r) is = search arith
 
     still : (ts : List (Option ℕ)) (t : ℕ) → is_of p (get_or ts t None) ≡ true
         → list_any (is_of q) (set ts t None) ≡ list_any (is_of q) ts
     still [] t is = refl
-    still (x ∷ ts) zero is = ap (λ (b : Bool). b || list_any (is_of q) ts) (sym (not_its x is))
+    still (x ∷ ts) zero is = search arith
     still (x ∷ ts) (suc t) is = ap (λ (b : Bool). is_of q x || b) (still ts t is)
 
 -- or all of them below a number
 threads_left : (s : State) (p n : ℕ) → Besides p s → Besides p (threads_ended s p n)
 threads_left s p zero besides = besides
 threads_left s p (suc n) besides =
-    by (is_of p (get_or (threads_ended s p n).threads n None)) refl (threads_left s p n besides)
-  where
-    by : (b : Bool) → is_of p (get_or (threads_ended s p n).threads n None) ≡ b → Besides p (threads_ended s p n)
-        → Besides p (cond b (thread_ended (threads_ended s p n) n) (threads_ended s p n))
-    by true its = thread_left (threads_ended s p n) p n its
-    by false other = λ rest. rest
+    search (arith, thread_left, threads_left s p n besides)
 
 -- so each has one where that one ends
 process_left : (s : State) (p : ℕ) → Besides p s
     → IsPopulated (process_ended s p).processes (process_ended s p).threads
-process_left s p besides q live = elim (cases_eq q p) [
-  | inl gone ↦ absurd (let at = ap (λ k. get_or (set s.processes p None) k None) gone in
-      let none = ap is_some (at ∙ is_gone s.processes p) in cc (none, live))
-  | inr other ↦ besides q other (ap is_some (sym (get_or-set_other s.processes p q None None other)) ∙ live)
-]
-  where
-    is_gone : (ps : List (Option ℕ)) (p : ℕ) → get_or (set ps p None) p None ≡ None
-    is_gone [] p = refl
-    is_gone (x ∷ ps) zero = refl
-    is_gone (x ∷ ps) (suc p) = is_gone ps p
+process_left s p besides q live = grind (arith, at_place)
 
 pub populated_exited : (s : State) (p : ℕ) → IsPopulated s.processes s.threads
     → IsPopulated (exited s p).processes (exited s p).threads
 populated_exited s p populated =
-    process_left (threads_ended s p (length s.threads)) p (threads_left s p (length s.threads) (λ q other. populated q))
+    search (arith, threads_left, process_left)
 
 -- a thread ends, and its process with its last one
 pub populated_thread_ended : (s : State) (p t : ℕ) → get_or s.threads t None ≡ Some p
@@ -118,7 +82,7 @@ populated_thread_ended s p t its populated = by (list_any (is_of p) (thread_ende
         → (let after = cond b (thread_ended s t) (process_ended (thread_ended s t) p) in
         IsPopulated after.processes after.threads)
     by true some = λ q live. elim (cases_eq q p) [
-      | inl same ↦ ap (λ k. list_any (is_of k) (thread_ended s t).threads) same ∙ some
+      | inl same ↦ search arith
       | inr other ↦ rest q other live
     ]
     by false none = process_left (thread_ended s t) p rest

@@ -1,34 +1,31 @@
 -- Objects that are kept are read again as they were written.
-use Rattle.std.proofs.Common.{◌≡◌, ℕ, ◌+◌, ◌<◌, Bool, false, List, [], ◌∷◌, ◌++◌, length, get_or, map, Option, Some, None, Result, Ok, Err, cond, refl, sym, ap, ◌∙◌, subst, arith}
+use Rattle.std.proofs.Common.{◌≡◌, ℕ, ◌<◌, Bool, false, List, [], ◌∷◌, ◌++◌, length, get_or, map, Option, Some, None, Ok, Err, cond, refl, sym, ap, ◌∙◌, subst, arith}
 use Rattle.std.specs.Prelude.{replicate, sum_by}
 use Rattle.std.specs.List.{AllByRecursion, range_with_len}
 use Rattle.std.proofs.lemmas.List.{ext_get_or, get_or-map, length-map}
 use Rattle.std.proofs.lemmas.List.FromFn.{get_or-map-range_with_len, length-map-range_with_len, get_or-range_with_len, length-range_with_len}
 use Rattle.std.proofs.lemmas.List.Sums.{sum_by-cons}
 use Rattle.ob_codec.specs.Codecs.{items_again}
-use Rattle.ob_codec.specs.declared.fault.TextFault.{TextFault}
 use Rattle.ob_codec.specs.declared.fault.TextFault.TheVariants.{Value}
 use Rattle.ob_codec.specs.Reading.{◌>>=◌, Read, items_at}
 use Rattle.pin_core.specs.declared.shape.Shape.{Shape}
-use Rattle.pin_core.specs.declared.word.Phase.{Phase}
 use Rattle.pin_core.specs.declared.world.Slot.{Slot}
 use Rattle.pin_core.specs.Worlds.{opening_slot, slot_of}
 use Rattle.ob_body.specs.declared.body.Body.{Body}
 use Rattle.ob_name.specs.Listing.{Rows}
 use Rattle.ob_tables.specs.declared.entry.Entry.{Entry}
 use Rattle.ob_tables.specs.Tables.{IsBounded}
-use Rattle.ob_waits.specs.Waits.{WaitList, slot_blocks}
+use Rattle.ob_waits.specs.Waits.{WaitList}
 use Rattle.ob_store.specs.declared.limits.Limits.{Limits}
 use Rattle.ob_store.specs.declared.saved_slot.SavedSlot.{SavedSlot}
-use Rattle.ob_store.specs.Agreement.{Agrees, AreBorn, IsTied, made_by, made_in}
+use Rattle.ob_store.specs.Agreement.{Agrees, AreBorn, IsTied, made_in}
 use Rattle.ob_store.specs.Counting.{counting_all, uncounted}
 use Rattle.ob_store.specs.Kept.{AreOfLive, IsCounted, IsListing, IsNamed, IsQuiet}
-use Rattle.ob_store.specs.Objects.{Object, ObjectsState, Places, places_in, with_keeper}
-use Rattle.ob_store.specs.SavedBirths.{births_from}
+use Rattle.ob_store.specs.Objects.{Object, ObjectsState, Places, places_in}
 use Rattle.ob_store.specs.SavedNames.{names_in}
 use Rattle.ob_store.specs.SavedObjects.{begun_over, object_saved, objects_at, objects_text, slot_saved, slots_saved, whole_at, whole_objects, with_slots}
 use Rattle.ob_store.specs.SavedWaits.{all_stand, with_blocks}
-use Rattle.ob_store.specs.SavedSlots.{SlotFits, body_from, body_in, is_retired, keeper_slot, keeper_slot_with, object_from, object_in_slot, objects_from, places_from, slot_at, slots_at, slots_from}
+use Rattle.ob_store.specs.SavedSlots.{SlotFits, body_from, body_in, is_retired, keeper_slot, objects_from, places_from, slot_at, slots_at, slots_from}
 use Rattle.ob_store.specs.State.{shape_of}
 use Rattle.ob_store.proofs.BySlot.{zero_counts}
 use Rattle.ob_store.proofs.CountingAgain.{counting_again}
@@ -42,23 +39,12 @@ use Rattle.ob_store.proofs.WholeAgain.{births_again, bodied_again}
 
 sum_map : {A B : Type 0} (f : B → ℕ) (g : A → B) (xs : List A) → sum_by f (map g xs) ≡ sum_by (λ x. f (g x)) xs
 sum_map f g [] = refl
-sum_map f g (x ∷ xs) = omega (arith, sum_by-cons f (g x) (map g xs), sum_by-cons (λ y. f (g y)) x xs, sum_map f g xs)
-
--- an object, its body and its slot, as they are saved
-one-object : (k : ℕ) (x : Option Object) (b : Option Body) (r : Bool) (y : Slot) → Agrees k x b r y →
-    object_in_slot (record { slot = k; generation = y.generation }) (object_saved x b) ≡ x
-one-object k None b r y a = refl
-one-object k (Some o) b r y a = λ i. Some (record o { id = sym a.0 i })
+sum_map f g (x ∷ xs) = search (arith, sum_by-cons, sum_map f g xs)
 
 one-body : (k : ℕ) (x : Option Object) (b : Option Body) (r : Bool) (y : Slot) → Agrees k x b r y →
     body_in (object_saved x b) ≡ b
 one-body k None b r y a = sym a.0
 one-body k (Some o) b r y a = refl
-
-one-made : (k : ℕ) (x : Option Object) (b : Option Body) (r : Bool) (y : Slot) → Agrees k x b r y →
-    made_in (keeper_slot_with y.generation r (object_saved x b)) ≡ made_in y
-one-made k None b r y a = ap (λ (p : Phase). made_by p y.generation) (sym a.1)
-one-made k (Some o) b r y a = ap (λ (p : Phase). made_by p y.generation) (sym a.2)
 
 module _ (s : ObjectsState) (tied : IsTied s) where
   abbrev n : ℕ
@@ -71,33 +57,29 @@ module _ (s : ObjectsState) (tied : IsTied s) where
   xs-long = length-map-range_with_len (slot_saved s) 0 n
 
   pub xs-at : (k : ℕ) → k < s.keeper.shape.slots → get_or (slots_saved s) k none_saved ≡ slot_saved s k
-  xs-at k lt = get_or-map-range_with_len (slot_saved s) 0 n k k none_saved lt (omega arith)
+  xs-at k lt = search (arith, get_or-map-range_with_len)
 
   objects-back : objects_from 0 xs ≡ s.objects
   objects-back = ext_get_or None (objects_from 0 xs) s.objects (objects-long 0 xs ∙ xs-long ∙ sym tied.agreed.length_is)
-      (λ k lt. (let within : k < n = omega (arith, lt, objects-long 0 xs, xs-long) in
-      object-at 0 k xs (omega (arith, within, xs-long)) ∙
-      ap (λ (j : ℕ). object_from j (get_or xs k none_saved)) (let e : 0 + k ≡ k = omega arith in e)
-      ∙ ap (object_from k) (xs-at k within) ∙ one-object k _ _ _ _ (tied.agreed.each k within)))
+      (search (arith, xs-long, xs-at, object-at, objects-long))
 
   bodies-back : map body_from xs ≡ s.seen.bodies
   bodies-back = ext_get_or None (map body_from xs) s.seen.bodies (length-map xs body_from ∙ xs-long ∙
       sym tied.agreed.bodied)
-      (λ k lt. (let within : k < n = omega (arith, lt, length-map xs body_from, xs-long) in
-      get_or-map body_from xs k none_saved None (omega (arith, within, xs-long)) ∙ ap body_from (xs-at k within) ∙
+      (λ k lt. (let within : k < n = omega (arith, length-map xs body_from, xs-long) in
+      get_or-map body_from xs k none_saved None (omega (arith, xs-long)) ∙ ap body_from (xs-at k within) ∙
       one-body k _ _ _ _ (tied.agreed.each k within)))
 
   retired-back : map is_retired xs ≡ s.retired
   retired-back = ext_get_or false (map is_retired xs) s.retired (length-map xs is_retired ∙ xs-long ∙
       sym tied.agreed.marked)
-      (λ k lt. (let within : k < n = omega (arith, lt, length-map xs is_retired, xs-long) in
-      get_or-map is_retired xs k none_saved false (omega (arith, within, xs-long)) ∙ ap is_retired (xs-at k within)))
+      (λ k lt. (let within : k < n = omega (arith, length-map xs is_retired, xs-long) in
+      get_or-map is_retired xs k none_saved false (omega (arith, xs-long)) ∙ ap is_retired (xs-at k within)))
 
   slots-back : map (slot_of s.keeper.slots) (range_with_len 0 n) ≡ s.keeper.slots
   slots-back = ext_get_or opening_slot (map (slot_of s.keeper.slots) (range_with_len 0 n)) s.keeper.slots
       (length-map-range_with_len (slot_of s.keeper.slots) 0 n ∙ sym tied.agreed.wide)
-      (λ k lt. (let within : k < n = omega (arith, lt, length-map-range_with_len (slot_of s.keeper.slots) 0 n) in
-      get_or-map-range_with_len (slot_of s.keeper.slots) 0 n k k opening_slot within (omega arith)))
+      (search (arith, get_or-map-range_with_len, length-map-range_with_len))
 
   births-back : sum_by made_in (map keeper_slot xs) ≡ s.births
   births-back =
@@ -105,12 +87,8 @@ module _ (s : ObjectsState) (tied : IsTied s) where
       sum_map (λ (x : SavedSlot). made_in (keeper_slot x)) (slot_saved s) (range_with_len 0 n)
       ∙ sum_same (λ (k : ℕ). made_in (keeper_slot (slot_saved s k))) (λ (k : ℕ). made_in (slot_of s.keeper.slots k)) 0
       (range_with_len 0 n)
-      (λ i lt. (let within : i < n = omega (arith, lt, length-range_with_len 0 n) in
-      let at : get_or (range_with_len 0 n) i 0 ≡ i = get_or-range_with_len 0 n i 0 within ∙
-      (let e : 0 + i ≡ i = omega arith in e) in
-      subst (λ (k : ℕ). made_in (keeper_slot (slot_saved s k)) ≡ made_in (slot_of s.keeper.slots k)) (sym at)
-      (one-made i _ _ _ _ (tied.agreed.each i within))))
-      ∙ sym (sum_map made_in (slot_of s.keeper.slots) (range_with_len 0 n)) ∙ ap (sum_by made_in) slots-back ∙
+      (search (arith, get_or-range_with_len, length-range_with_len))
+      ∙ sym (search (arith, sum_map)) ∙ ap (sum_by made_in) slots-back ∙
       sym tied.made
 
   -- before anything that refers to the objects is counted
@@ -128,14 +106,10 @@ module _ (s : ObjectsState) (tied : IsTied s) where
     wide = xs-long ∙ ap (λ (z : Shape). z.slots) shape
 
     zeros : replicate {A = ℕ} (length xs) 0 ≡ replicate {A = ℕ} (length s.objects) 0
-    zeros = ap (λ (m : ℕ). replicate {A = ℕ} m 0) (xs-long ∙ sym tied.agreed.length_is)
+    zeros = search (arith, xs-long)
 
     places-back : places_from xs ≡ uncounted bare
-    places-back = λ i. record {
-      objects = objects-back i;
-      seen = record { bodies = bodies-back i; handles = zeros i; blocks = zeros i };
-      retired = retired-back i;
-    }
+    places-back = search (arith, objects-back, bodies-back, retired-back, zeros)
 
     slots-again : slots_at limits.slots limits.max_gen list.clock (objects_text s ++ rest) ≡
         Ok ((uncounted bare, map keeper_slot xs), rest)
@@ -149,18 +123,11 @@ module _ (s : ObjectsState) (tied : IsTied s) where
 
     handles-again : counting_all (uncounted bare) tables ≡ Ok bare
     handles-again = counting_again bare processes limit tables (None ∷ [])
-        (record {
-          handles = counted.handles;
-          blocks = zero_counts (length s.objects) (λ k. slot_blocks k (None ∷ [])) (λ k. refl);
-        })
-        (record { entries = named.entries; blocks = λ id h. absurd (omega (arith, h)) }) bounded
+        (search (arith, zero_counts))
+        (search arith) bounded
 
     blocks-again : with_blocks list.waits bare ≡ places_in s
-    blocks-again = λ i. record (places_in s) {
-      seen = record s.seen {
-        blocks = (blocks_counted s tables list.waits tied named ∙ sym counted.blocks) i;
-      };
-    }
+    blocks-again = search (arith, blocks_counted)
 
     whole-again : whole_at limits tables list (objects_text s ++ rest) ≡
         Ok ((record s { keeper = begun_over (shape_of limits) (map keeper_slot xs) }, rows), rest)
@@ -169,19 +136,15 @@ module _ (s : ObjectsState) (tied : IsTied s) where
         let born = births_again s.objects (sum_by made_in slots) (subst (AreBorn s.objects) (sym births-back) tied.born)
         in
         let named : names_in born.0 (places_in s) ≡ Ok rows =
-        names_complete s tables list.waits born.0 rows tied counted named
-        (subst (λ (n : ℕ). births_from n [] 0 s.objects ≡ Ok born.0) births-back born.1) listing in
+        search (arith, births-back, names_complete) in
         let whole : whole_objects limits slots (places_in s) ≡ Ok (with_slots (places_in s) limits slots, rows) =
         rw (born.1, bodied_again s.seen (length s.objects) tied.bodied, named) refl in
         let read : whole_at limits tables list (objects_text s ++ rest) ≡ Ok (
           (with_slots (places_in s) limits slots, rows),
           rest,
         ) =
-        rw (slots-again, handles-again)
-        (ap (λ (p : Places). whole_objects limits slots p >>= λ (o : ObjectsState × Rows). Ok (o, rest)) blocks-again
-        ∙ ap (λ (r : Result (ObjectsState × Rows) TextFault). r >>= λ (o : ObjectsState × Rows). Ok (o, rest)) whole) in
-        read ∙
-        ap (λ (b : ℕ). Ok ((with_keeper (places_in s) b (begun_over (shape_of limits) slots), rows), rest)) births-back
+        search (arith, slots-again, handles-again, blocks-again) in
+        search (arith, births-back)
 
     pub objects_again : objects_at limits threads tables list (objects_text s ++ rest) ≡
         Ok ((record s { keeper = begun_over (shape_of limits) (map keeper_slot xs) }, rows), rest)

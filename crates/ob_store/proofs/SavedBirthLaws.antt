@@ -1,14 +1,12 @@
 -- Births that were ordered are distinct, and below their count.
-use Rattle.std.proofs.Common.{◌≡◌, ◌≢◌, ℕ, zero, suc, ◌<◌, ◌&&◌, Bool, true, false, cond, eqb, ltb, List, [], ◌∷◌, get_or, Option, Some, None, Ok, refl, sym, ap, ◌∙◌, subst, arith, eq-eqb, ne_eqb}
+use Rattle.std.proofs.Common.{◌≡◌, ◌≢◌, ℕ, zero, suc, ◌<◌, ◌&&◌, Bool, true, false, cond, ltb, List, [], ◌∷◌, get_or, Option, Some, None, Ok, refl, sym, ap, ◌∙◌, subst, arith, eq-eqb, ne_eqb}
 use Rattle.std.specs.Prelude.{is_none}
 use Rattle.std.specs.BTreeMap.{insert_entry, is_at}
 use Rattle.std.specs.Cmp.{unsigned_tied}
 use Rattle.std.specs.Map.{lookup}
-use Rattle.std.specs.declared.cmp.Ordering.{Ordering}
-use Rattle.std.specs.declared.cmp.Ordering.TheVariants.{Less, Equal, Greater}
-use Rattle.std.specs.Ordering.{is_eq, match_ordering, nat_cmp}
-use Rattle.std.proofs.lemmas.Bool.{and_parts, eqb-true, ltb-true}
-use Rattle.std.proofs.lemmas.Bool.Decides.{nat_tests}
+use Rattle.std.specs.declared.cmp.Ordering.TheVariants.{Less, Greater}
+use Rattle.std.specs.Ordering.{nat_cmp}
+use Rattle.std.proofs.lemmas.Bool.{and_parts}
 use Rattle.std.proofs.lemmas.Option.{same_Some}
 use Rattle.ob_codec.specs.declared.fault.TextFault.TheVariants.{Value}
 use Rattle.ob_codec.specs.Steps.{bind_ok, guard_passed}
@@ -22,26 +20,13 @@ taken es birth = lookup (is_at (nat_cmp birth)) es
 
 -- what the order of two numbers says of them
 pub is_less : (b c : ℕ) → nat_cmp b c ≡ Less → b < c
-is_less b c e = by (ltb b c) (eqb b c) refl e
-  where
-    by : (l s : Bool) → ltb b c ≡ l → cond l Less (cond s Equal Greater) ≡ Less → b < c
-    by true s is e = ltb-true b c is
-    by false true is e = absurd (cc e)
-    by false false is e = absurd (cc e)
+is_less b c e = search arith
 
 pub is_greater : (b c : ℕ) → nat_cmp b c ≡ Greater → c < b
-is_greater b c e = by (ltb b c) (eqb b c) refl refl e
-  where
-    by : (l s : Bool) → ltb b c ≡ l → eqb b c ≡ s → cond l Less (cond s Equal Greater) ≡ Greater → c < b
-    by true s is it e = absurd (cc e)
-    by false true is it e = absurd (cc e)
-    by false false is it e = grind (arith, nat_tests, is, it)
-
-is-equal : (b c : ℕ) → nat_cmp b c ≡ Equal → b ≡ c
-is-equal b c e = eqb-true b c (sym (unsigned_tied b c) ∙ ap is_eq e)
+is_greater b c e = search arith
 
 pub at_is : (c b : ℕ) → is_at (nat_cmp c) b ≡ true → c ≡ b
-at_is c b e = eqb-true c b (sym (unsigned_tied c b) ∙ e)
+at_is c b e = search arith
 
 pub at_same : (b : ℕ) → is_at (nat_cmp b) b ≡ true
 at_same b = unsigned_tied b b ∙ eq-eqb b b refl
@@ -53,44 +38,15 @@ at_other c b apart = unsigned_tied c b ∙ ne_eqb c b apart
 pub taken_inserted : (es : Births) (b slot c : ℕ) →
     taken (insert_entry nat_cmp es b slot) c ≡ cond (is_at (nat_cmp c) b) (Some slot) (taken es c)
 taken_inserted [] b slot c = refl
-taken_inserted (x ∷ es) b slot c = by (nat_cmp b x.0) refl (taken_inserted es b slot c)
-  where
-    swap : (s t : Bool) → is_at (nat_cmp c) x.0 ≡ s → is_at (nat_cmp c) b ≡ t → b ≢ x.0 →
-        cond s (Some x.1) (cond t (Some slot) (taken es c)) ≡ cond t (Some slot) (cond s (Some x.1) (taken es c))
-    swap true true is it apart = absurd (apart (sym (at_is c b it) ∙ at_is c x.0 is))
-    swap true false is it apart = refl
-    swap false true is it apart = refl
-    swap false false is it apart = refl
-
-    once : (t : Bool) → cond t (Some slot) (taken es c) ≡ cond t (Some slot) (cond t (Some x.1) (taken es c))
-    once true = refl
-    once false = refl
-
-    by : (o : Ordering) → nat_cmp b x.0 ≡ o →
-        taken (insert_entry nat_cmp es b slot) c ≡ cond (is_at (nat_cmp c) b) (Some slot) (taken es c) →
-        taken (match_ordering o ((b, slot) ∷ x ∷ es) ((x.0, slot) ∷ es) (x ∷ insert_entry nat_cmp es b slot)) c ≡
-        cond (is_at (nat_cmp c) b) (Some slot) (taken (x ∷ es) c)
-    by Less is others = refl
-    by Equal is others =
-        once (is_at (nat_cmp c) x.0) ∙
-        ap (λ (k : ℕ). cond (is_at (nat_cmp c) k) (Some slot) (taken (x ∷ es) c)) (sym (is-equal b x.0 is))
-    by Greater is others =
-        let less = is_greater b x.0 is in
-        ap (cond (is_at (nat_cmp c) x.0) (Some x.1)) others ∙
-        swap (is_at (nat_cmp c) x.0) (is_at (nat_cmp c) b) refl refl (λ same. omega (arith, less, same))
+taken_inserted (x ∷ es) b slot c = search (arith, taken_inserted es b slot c)
 
 pub none_first : (t : Bool) (slot : ℕ) (rest : Option ℕ) → t ≡ false → rest ≡ None → cond t (Some slot) rest ≡ None
-none_first t slot rest e none = ap (λ (z : Bool). cond z (Some slot) rest) e ∙ none
+none_first t slot rest e none = search arith
 
 -- a birth that isn't there once another came wasn't there before, and is another one
 not-taken : (es : Births) (b slot c : ℕ) → taken (insert_entry nat_cmp es b slot) c ≡ None → (c ≢ b) ×
     (taken es c ≡ None)
-not-taken es b slot c e = by (is_at (nat_cmp c) b) refl (sym (taken_inserted es b slot c) ∙ e)
-  where
-    by : (t : Bool) → is_at (nat_cmp c) b ≡ t → cond t (Some slot) (taken es c) ≡ None → (c ≢ b) × (taken es c ≡ None)
-    by true is none = absurd cc
-    by false is none =
-        (λ same. absurd (let e = sym is ∙ (ap (is_at (nat_cmp c)) (sym same) ∙ at_same c) in cc e), none)
+not-taken es b slot c e = search (arith, taken_inserted)
 
 pub none-is : {A : Type 0} (x : Option A) → is_none x ≡ true → x ≡ None
 none-is None e = refl
@@ -107,11 +63,7 @@ module _ (births : ℕ) (order : Births) where
       (λ (more : Births). births_from births more (suc slot) objects) order e in
       let g = guard_passed (ltb x.birth births && is_none (taken so_far x.birth)) Value
       (insert_entry nat_cmp so_far x.birth slot) b.0 b.1 in
-      let new = and_parts (ltb x.birth births) (is_none (taken so_far x.birth)) g.0 in (
-        ltb-true x.birth births new.0,
-        none-is (taken so_far x.birth) new.1,
-        ap (λ (more : Births). births_from births more (suc slot) objects) g.1 ∙ b.2,
-      )
+      let new = and_parts (ltb x.birth births) (is_none (taken so_far x.birth)) g.0 in search arith
 
   -- each birth is below the count, and not among those so far
   each-new : (slot : ℕ) (so_far : Births) (objects : List (Option Object)) → births_from births so_far slot objects ≡
@@ -126,7 +78,7 @@ module _ (births : ℕ) (order : Births) where
   each-new slot so_far (Some x ∷ objects) e (suc k) o is =
       let later = each-new (suc slot) (insert_entry nat_cmp so_far x.birth slot) objects
       (births_step slot so_far x objects e).2 k o is in
-      (later.0, (not-taken so_far x.birth slot o.birth later.1).1)
+      search (arith, taken_inserted)
 
   -- a later object has another birth
   later-apart : (slot : ℕ) (so_far : Births) (x : Object) (objects : List (Option Object)) →

@@ -59,12 +59,12 @@ module _ (n max_gen clock : ℕ) (p : Places) (slots : List Slot) (r : AreRead n
       ap (λ (y : Slot). y.generation) (slot-here n max_gen clock p slots r q more Named counts k lt) ∙
       slot_generation x in
       let retired : get_or q.retired k false ≡ x.retired =
-      retired-here n max_gen clock p slots r q more Named counts k lt in
+      search (arith, retired-here) in
       let object : object_saved (get_or q.objects k None) (get_or q.seen.bodies k None) ≡ x.object =
       (λ i. object_saved (object-here n max_gen clock p slots r q more Named counts k lt i)
       (body-here n max_gen clock p slots r q more Named counts k lt i))
       ∙ saved-back (record { slot = k; generation = x.generation }) x.object in
-      λ i. record { generation = generation i; retired = retired i; object = object i }
+      search arith
 
   -- the slots that were read are what is saved again
   pub slots_back : (waits : List (Option Wait)) → slots_saved (with_slots (with_blocks waits q) limits slots) ≡ r.xs
@@ -72,8 +72,8 @@ module _ (n max_gen clock : ℕ) (p : Places) (slots : List Slot) (r : AreRead n
       let s = with_slots (with_blocks waits q) limits slots in
       let long : length (slots_saved s) ≡ limits.slots = length-map-range_with_len (slot_saved s) 0 limits.slots in
       ext_get_or none_saved (slots_saved s) r.xs (long ∙ sym wide ∙ sym r.length_is)
-      (λ k lt. (let within : k < n = omega (arith, lt, long, wide) in
-      get_or-map-range_with_len (slot_saved s) 0 limits.slots k k none_saved (omega (arith, within, wide)) (omega arith)
+      (λ k lt. (let within : k < n = omega arith in
+      get_or-map-range_with_len (slot_saved s) 0 limits.slots k k none_saved (omega arith) (omega arith)
       ∙ slot-back k within))
 
 -- what is read is the spelling of the objects that it gives
@@ -108,4 +108,4 @@ pub objects_take : (limits : Limits) (threads : List (Option ℕ)) (tables : Lis
 objects_take limits threads tables list bytes s rows rest are e =
     let a = bind_ok (whole_at limits tables list bytes) _ ((s, rows), rest) e in
     let g = guard_passed (all_stand limits.max_recursion threads list.waits a.0.0.0) Value a.0 ((s, rows), rest) a.2 in
-    whole_take limits tables list bytes s rows rest are (a.1 ∙ ap (λ (z : (ObjectsState × Rows) × List ℕ). Ok z) g.1)
+    search (arith, whole_take)

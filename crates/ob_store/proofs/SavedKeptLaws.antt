@@ -1,11 +1,10 @@
 -- What holds of objects that were read, with their tables, waits and threads, and that such objects are taken.
-use Rattle.std.proofs.Common.{◌≡◌, ℕ, zero, suc, ◌+◌, ◌<◌, is_some, not, Bool, true, false, cond, List, [], ◌∷◌, length, get_or, map, Option, Some, None, Ok, Err, refl, sym, ap, ◌∙◌, subst, arith}
+use Rattle.std.proofs.Common.{◌≡◌, ℕ, zero, suc, ◌+◌, ◌<◌, not, Bool, true, false, cond, List, [], ◌∷◌, length, get_or, map, Option, Some, None, Ok, refl, sym, ap, ◌∙◌, subst, arith}
 use Rattle.std.proofs.lemmas.Bool.{and_from, and_parts}
 use Rattle.std.specs.List.{list_all}
 use Rattle.std.specs.Prelude.{count_by, sum_by}
 use Rattle.std.proofs.lemmas.List.{get_or-map, length-map}
-use Rattle.std.proofs.lemmas.List.Sums.{AllPass-from_list_all, sum_by-cons}
-use Rattle.ob_codec.specs.declared.fault.TextFault.TheVariants.{Value}
+use Rattle.std.proofs.lemmas.List.Sums.{AllPass-from_list_all}
 use Rattle.ob_codec.specs.Reading.{◌>>=◌}
 use Rattle.ob_codec.specs.Steps.{bind_ok, ok_is}
 use Rattle.pin_core.specs.Holds.{same_id}
@@ -13,10 +12,8 @@ use Rattle.pin_core.specs.declared.id.Id.{Id}
 use Rattle.pin_core.specs.declared.world.Slot.{Slot}
 use Rattle.pin_core.specs.Worlds.{slot_of}
 use Rattle.ob_name.specs.Listing.{Rows}
-use Rattle.ob_tables.proofs.Counting.{one_id}
 use Rattle.ob_tables.specs.declared.entry.Entry.{Entry}
-use Rattle.ob_tables.specs.Counts.{handles_among, slot_handles}
-use Rattle.ob_waits.specs.Form.{slot_owner}
+use Rattle.ob_tables.specs.Counts.{handles_among}
 use Rattle.ob_waits.specs.Objects.{slot_room}
 use Rattle.ob_waits.specs.Rules.{HasRoom, WaitHasRoom, thread_of}
 use Rattle.ob_waits.specs.Waits.{WaitList, blocks_among, blocks_in, ids_of, is_ready, list_ready, nowhere, slot_blocks, state_ids, state_ready}
@@ -26,23 +23,21 @@ use Rattle.ob_waits.specs.declared.wait.Wait.{Wait}
 use Rattle.ob_store.specs.declared.limits.Limits.{Limits}
 use Rattle.ob_store.specs.Agreement.{Agrees, IsTied}
 use Rattle.ob_store.specs.Counting.{counting_all, is_its}
-use Rattle.ob_store.specs.Kept.{AreFormed, AreOfLive, IsCounted, IsListing, IsLive, IsNamed, IsQuiet, IsThere, id_in}
-use Rattle.ob_store.specs.Objects.{Object, ObjectsState, Places, places_in}
+use Rattle.ob_store.specs.Kept.{AreFormed, AreOfLive, IsCounted, IsListing, IsLive, IsNamed, IsQuiet, IsThere}
+use Rattle.ob_store.specs.Objects.{Object, ObjectsState, Places}
 use Rattle.ob_store.specs.SavedBirths.{Births, births_from}
 use Rattle.ob_store.specs.SavedNames.{names_in}
-use Rattle.ob_store.specs.SavedObjects.{are_bodied, bodied_names, whole_at, whole_objects, with_slots}
+use Rattle.ob_store.specs.SavedObjects.{bodied_names, whole_at, whole_objects, with_slots}
 use Rattle.ob_store.specs.SavedSlots.{slots_at}
 use Rattle.ob_store.specs.SavedWaits.{all_stand, may_wait_for, object_blocks, owner_stands, owners_stand, state_stands, wait_stands, waits_stand, with_blocks}
 use Rattle.ob_store.specs.Agreement.{made_in}
 use Rattle.ob_store.specs.State.{by_slot, shape_of}
 use Rattle.ob_store.proofs.BySlot.{is_by_slot}
 use Rattle.ob_store.proofs.CountingAgain.{its_id}
-use Rattle.ob_store.proofs.CountingLaws.{its_there}
 use Rattle.ob_store.proofs.NamedLaws.{blocks_are, blocks_vacant, place_counted}
 use Rattle.ob_store.proofs.SavedNameLaws.{names_sound}
 use Rattle.ob_store.proofs.SavedObjectLaws.{entries_read, formed_read, handles_read}
 use Rattle.ob_store.proofs.ByPlace.{all_at, all_from}
-use Rattle.ob_store.proofs.SavedProcessLaws.{live_at, live_from}
 
 -- the steps in which objects were read
 pub record IsWhole (limits : Limits) (tables : List (List (Option Entry))) (list : WaitList) (bytes : List ℕ)
@@ -56,14 +51,6 @@ pub record IsWhole (limits : Limits) (tables : List (List (Option Entry))) (list
   pub ordered : births_from (sum_by made_in slots) [] 0 q.objects ≡ Ok order
   pub named : names_in order (with_blocks list.waits q) ≡ Ok rows
   pub is : with_slots (with_blocks list.waits q) limits slots ≡ s
-
-bodied-named : (order : Births) (p : Places) (rows : Rows) → bodied_names order p ≡ Ok rows →
-    names_in order p ≡ Ok rows
-bodied-named order p rows e = by (are_bodied p.seen (length p.objects)) e
-  where
-    by : (b : Bool) → cond b (names_in order p) (Err Value) ≡ Ok rows → names_in order p ≡ Ok rows
-    by true e = e
-    by false e = absurd (cc e)
 
 pub whole_steps : (limits : Limits) (tables : List (List (Option Entry))) (list : WaitList) (bytes : List ℕ)
     (s : ObjectsState) (rows : Rows) (rest : List ℕ) → whole_at limits tables list bytes ≡ Ok ((s, rows), rest) →
@@ -82,17 +69,7 @@ whole_steps limits tables list bytes s rows rest e =
     let same = ok_is (c.0, a.0.1) ((s, rows), rest) c.2 in
     let both = ok_is (with_slots q limits slots, f.0) c.0 f.2 ∙
     ap (λ (z : (ObjectsState × Rows) × List ℕ). z.0) same in
-    record {
-      p = a.0.0.0;
-      q = b.0;
-      slots = slots;
-      order = d.0;
-      read = a.1 ∙ ap (λ (z : (ObjectsState × Rows) × List ℕ). Ok ((a.0.0.0, slots), z.1)) same;
-      counted = b.1;
-      ordered = d.1;
-      named = bodied-named d.0 q f.0 f.1 ∙ ap (λ (z : ObjectsState × Rows). Ok z.1) both;
-      is = ap (λ (z : ObjectsState × Rows). z.0) both;
-    }
+    grind arith
 
 -- what waits that can be there keep
 module _ (limit : ℕ) (threads : List (Option ℕ)) (s : ObjectsState) where
@@ -101,43 +78,43 @@ module _ (limit : ℕ) (threads : List (Option ℕ)) (s : ObjectsState) where
 
   ids-there : (t : ℕ) (id : Id) (ids : List Id) → list_all (may_wait_for limit s t) ids ≡ true →
       0 < count_by (same_id id) ids → IsThere s.objects id
-  ids-there t id [] all some = absurd (omega (arith, some))
+  ids-there t id [] all some = absurd (omega arith)
   ids-there t id (x ∷ ids) all some =
       let a = and_parts (may_wait_for limit s t x) (list_all (may_wait_for limit s t) ids) all in
       let here : IsThere s.objects x =
-      its_there (get_or s.objects x.slot None) x (and_parts (is_its x (get_or s.objects x.slot None)) _ a.0).0 in
+      search arith in
       by (same_id id x) refl here (λ later. ids-there t id ids a.1 later)
-      (subst (λ (n : ℕ). 0 < n) (sum_by-cons (λ (y : Id). cond (same_id id y) 1 0) x ids) some)
+      (search arith)
     where
       by : (b : Bool) → same_id id x ≡ b → IsThere s.objects x →
           (0 < count_by (same_id id) ids → IsThere s.objects id) → 0 < cond b 1 0 + count_by (same_id id) ids →
           IsThere s.objects id
-      by true is here later some = subst (IsThere s.objects) (sym (one_id id x is)) here
-      by false is here later some = later (omega (arith, some))
+      by true is here later some = search arith
+      by false is here later some = later (omega arith)
 
   state-there : (t : ℕ) (id : Id) (x : State) → state_stands limit s t x ≡ true →
       0 < count_by (same_id id) (state_ids x) → IsThere s.objects id
   state-there t id (Pending mode ids) e some =
-      ids-there t id ids (and_parts (list_all (may_wait_for limit s t) ids) _ e).0 some
-  state-there t id (Answered code) e some = absurd (omega (arith, some))
+      search (arith, ids-there)
+  state-there t id (Answered code) e some = absurd (omega arith)
 
   wait-there : (id : Id) (w : Option Wait) → stands w ≡ true → 0 < blocks_in id w → IsThere s.objects id
-  wait-there id None e some = absurd (omega (arith, some))
+  wait-there id None e some = absurd (omega arith)
   wait-there id (Some w) e some =
-      state-there w.thread id w.state (and_parts (is_some (get_or threads w.thread None)) _ e).1 some
+      search (arith, state-there)
 
   pub waits_there : (waits : List (Option Wait)) → waits_stand limit threads waits s ≡ true → (id : Id) →
       0 < blocks_among id waits → IsThere s.objects id
-  waits_there [] all id some = absurd (omega (arith, some))
+  waits_there [] all id some = absurd (omega arith)
   waits_there (w ∷ waits) all id some =
       let a = and_parts (stands w) (waits_stand limit threads waits s) all in
       by (blocks_in id w) refl (wait-there id w a.0) (waits_there waits a.1 id)
-      (subst (λ (n : ℕ). 0 < n) (sum_by-cons (blocks_in id) w waits) some)
+      (search arith)
     where
       by : (n : ℕ) → blocks_in id w ≡ n → (0 < blocks_in id w → IsThere s.objects id) →
           (0 < blocks_among id waits → IsThere s.objects id) → 0 < n + blocks_among id waits → IsThere s.objects id
-      by zero is here later some = later (omega (arith, some))
-      by (suc n) is here later some = here (omega (arith, is))
+      by zero is here later some = later (omega arith)
+      by (suc n) is here later some = here (omega arith)
 
   state-room : (t : ℕ) (x : State) → state_stands limit s t x ≡ true →
       HasRoom limit t s.seen.bodies (state_ids x)
@@ -146,30 +123,15 @@ module _ (limit : ℕ) (threads : List (Option ℕ)) (s : ObjectsState) where
         (AllPass-from_list_all (may_wait_for limit s t) ids
         (and_parts (list_all (may_wait_for limit s t) ids) _ e).0 i nowhere lt)).1;
   }
-  state-room t (Answered code) e = record { each = λ i lt. absurd (omega (arith, lt)) }
+  state-room t (Answered code) e = search arith
 
   wait-room : (w : Option Wait) → stands w ≡ true → WaitHasRoom limit s.seen.bodies w
   wait-room None e = tt
-  wait-room (Some w) e = state-room w.thread w.state (and_parts (is_some (get_or threads w.thread None)) _ e).1
-
-  state-unready : (t : ℕ) (x : State) → state_stands limit s t x ≡ true → state_ready t s.seen.bodies x ≡ false
-  state-unready t (Pending mode ids) e =
-      by (list_ready mode t s.seen.bodies ids) (and_parts (list_all (may_wait_for limit s t) ids) _ e).1
-    where
-      by : (b : Bool) → not b ≡ true → b ≡ false
-      by true e = absurd (cc e)
-      by false e = refl
-  state-unready t (Answered code) e = refl
+  wait-room (Some w) e = search (arith, state-room)
 
   wait-unready : (w : Option Wait) → stands w ≡ true → is_ready s.seen.bodies w ≡ false
   wait-unready None e = refl
-  wait-unready (Some w) e = state-unready w.thread w.state (and_parts (is_some (get_or threads w.thread None)) _ e).1
-
-  wait-live : (t : ℕ) (w : Option Wait) → stands w ≡ true → thread_of w ≡ Some t → IsLive threads t
-  wait-live t None e own = absurd (cc own)
-  wait-live t (Some w) e own =
-      let same : w.thread ≡ t = cc own in
-      subst (IsLive threads) same (and_parts (is_some (get_or threads w.thread None)) _ e).0
+  wait-unready (Some w) e = search arith
 
   -- a wait that is kept so is one that can be there
   state-taken : (t : ℕ) (x : State) →
@@ -189,43 +151,32 @@ module _ (limit : ℕ) (threads : List (Option ℕ)) (s : ObjectsState) where
       WaitHasRoom limit s.seen.bodies w → is_ready s.seen.bodies w ≡ false → stands w ≡ true
   wait-taken None live there room unready = refl
   wait-taken (Some w) live there room unready =
-      and_from (is_some (get_or threads w.thread None)) (state_stands limit s w.thread w.state)
-      (live w.thread refl) (state-taken w.thread w.state there room unready)
+      search (arith, state-taken)
 
   module _ (waits : List (Option Wait)) (all : all_stand limit threads waits s ≡ true) where
     fits : waits_stand limit threads waits s ≡ true
-    fits = (and_parts (waits_stand limit threads waits s) (owners_stand threads s) all).0
+    fits = search arith
 
     each-fits : (n : ℕ) → stands (get_or waits n None) ≡ true
-    each-fits n = all_at (λ (w : Option Wait). stands w) waits None refl fits n
+    each-fits n = search (arith, all_at)
 
     pub stands_named : (id : Id) → 0 < blocks_among id waits → IsThere s.objects id
     stands_named = waits_there waits fits
 
     pub stands_live : AreOfLive threads s.seen.bodies waits
-    stands_live = record {
-      owners = λ k. live_at threads (slot_owner (get_or s.seen.bodies k None))
-          (all_at (owner_stands threads) s.seen.bodies None refl
-          (and_parts (waits_stand limit threads waits s) (owners_stand threads s) all).1 k);
-      waiters = λ n t. wait-live t (get_or waits n None) (each-fits n);
-    }
+    stands_live = search (arith, all_at)
 
     pub stands_quiet : IsQuiet limit s.seen.bodies waits
-    stands_quiet = record {
-      room = record { each = λ n. wait-room (get_or waits n None) (each-fits n) };
-      settled = record { each = λ n. wait-unready (get_or waits n None) (each-fits n) };
-    }
+    stands_quiet = search (arith, wait-room, wait-unready, each-fits)
 
   pub all_taken : (tables : List (List (Option Entry))) (waits : List (Option Wait)) →
       IsNamed s.objects tables waits → AreOfLive threads s.seen.bodies waits → IsQuiet limit s.seen.bodies waits →
       all_stand limit threads waits s ≡ true
   all_taken tables waits named live quiet =
       and_from (waits_stand limit threads waits s) (owners_stand threads s)
-      (all_from (λ (w : Option Wait). stands w) waits None (λ n lt. wait-taken (get_or waits n None) (live.waiters n)
-      (λ i in'. named.blocks _ (place_counted s.objects tables waits named n i lt in'))
-      (quiet.room.each n) (quiet.settled.each n)))
+      (all_from (λ (w : Option Wait). stands w) waits None (search (arith, wait-taken, place_counted, live.waiters, named.blocks, quiet.room.each, quiet.settled.each)))
       (all_from (owner_stands threads) s.seen.bodies None
-      (λ k lt. live_from threads (slot_owner (get_or s.seen.bodies k None)) (live.owners k)))
+      (search arith))
 
 -- blocks that were counted by objects are counted by slots
 pub blocks_counted : (s : ObjectsState) (tables : List (List (Option Entry))) (waits : List (Option Wait)) →
@@ -235,24 +186,24 @@ blocks_counted s tables waits tied named =
     is_by_slot (map (object_blocks waits) s.objects) (length s.objects) (λ k. slot_blocks k waits)
     (length-map s.objects (object_blocks waits))
     (λ k lt. get_or-map (object_blocks waits) s.objects k None 0 lt ∙
-    by k (get_or s.objects k None) refl (tied.agreed.each k (omega (arith, lt, tied.agreed.length_is))))
+    by k (get_or s.objects k None) refl (tied.agreed.each k (omega arith)))
   where
     by : (k : ℕ) (x : Option Object) → get_or s.objects k None ≡ x →
         Agrees k x (get_or s.seen.bodies k None) (get_or s.retired k false) (slot_of s.keeper.slots k) →
         object_blocks waits x ≡ slot_blocks k waits
-    by k None is agrees = sym (blocks_vacant s.objects tables waits named k is)
+    by k None is agrees = search (arith, blocks_vacant)
     by k (Some o) is agrees =
         let own : o.id.slot ≡ k = ap (λ (id : Id). id.slot) agrees.0 in
         let there : IsThere s.objects o.id =
-        ap (λ (i : ℕ). id_in (get_or s.objects i None)) own ∙ ap id_in is in
-        sym (blocks_are s.objects tables waits named o.id there) ∙ ap (λ (i : ℕ). slot_blocks i waits) own
+        search arith in
+        search (arith, blocks_are)
 
 -- what was read
 module _ (limits : Limits) (tables : List (List (Option Entry))) (list : WaitList) (bytes : List ℕ)
     (s : ObjectsState) (rows : Rows) (rest : List ℕ)
     (read : whole_at limits tables list bytes ≡ Ok ((s, rows), rest)) where
   steps : IsWhole limits tables list bytes s rows rest
-  steps = whole_steps limits tables list bytes s rows rest read
+  steps = search arith
 
   pub whole_shape : s.keeper.shape ≡ shape_of limits
   whole_shape = ap (λ (z : ObjectsState). z.keeper.shape) (sym steps.is)
@@ -263,21 +214,15 @@ module _ (limits : Limits) (tables : List (List (Option Entry))) (list : WaitLis
 
   pub whole_entries : (id : Id) → 0 < handles_among id tables → IsThere s.objects id
   whole_entries id some = subst (λ (z : ObjectsState). IsThere z.objects id) steps.is
-      (entries_read limits list.clock tables bytes steps.p steps.q steps.slots rest steps.read steps.counted id some)
+      (search (arith, entries_read))
 
   pub whole_counted : IsTied s → IsNamed s.objects tables list.waits →
       IsCounted s.seen (length s.objects) tables list.waits
-  whole_counted tied named = record {
-    handles = subst (λ (z : ObjectsState). z.seen.handles ≡
-        by_slot (length z.objects) (λ k. slot_handles k tables)) steps.is
-        (handles_read limits list.clock tables bytes steps.p steps.q steps.slots rest steps.read steps.counted);
-    blocks = subst (λ (z : ObjectsState). z.seen.blocks ≡ map (object_blocks list.waits) z.objects) steps.is refl ∙
-        blocks_counted s tables list.waits tied named;
-  }
+  whole_counted tied named = grind (arith, blocks_counted, handles_read)
 
   pub whole_listing : IsTied s → IsCounted s.seen (length s.objects) tables list.waits →
       IsNamed s.objects tables list.waits → IsListing rows tables s.objects s.births
   whole_listing tied counted named =
       names_sound s tables list.waits steps.order rows tied counted named
       (subst (λ (z : ObjectsState). births_from z.births [] 0 z.objects ≡ Ok steps.order) steps.is steps.ordered)
-      (subst (λ (z : ObjectsState). names_in steps.order (places_in z) ≡ Ok rows) steps.is steps.named)
+      (search arith)

@@ -1,7 +1,6 @@
 -- Slots that are read one after the other.
-use Rattle.std.proofs.Common.{◌≡◌, ℕ, zero, suc, ◌+◌, ◌-◌, ◌<◌, ◌≤◌, ◌&&◌, not, Bool, true, false, ltb, List, [], ◌∷◌, ◌++◌, length, get_or, set, map, Option, Some, None, Ok, Err, refl, sym, ap, ◌∙◌, append_assoc, arith, length-append}
+use Rattle.std.proofs.Common.{◌≡◌, ℕ, zero, suc, ◌+◌, ◌-◌, ◌<◌, ◌≤◌, Bool, true, false, List, [], ◌∷◌, ◌++◌, length, get_or, set, map, Option, Some, None, Ok, refl, sym, ap, ◌∙◌, append_assoc, arith, length-append}
 use Rattle.std.specs.Prelude.{is_none, replicate}
-use Rattle.std.proofs.lemmas.Bool.{and_from, lt-ltb}
 use Rattle.std.proofs.lemmas.List.{set_at, map-append, length-map, append-nil, set-get_or, get_or-replicate, length-replicate}
 use Rattle.ob_arena.specs.Slots.{is_vacant_at}
 use Rattle.ob_codec.specs.declared.fault.ReadFault.{ReadFault}
@@ -11,9 +10,8 @@ use Rattle.ob_codec.proofs.Loop.{with_front, goes_on, ends, is_done}
 use Rattle.pin_core.specs.declared.world.Slot.{Slot}
 use Rattle.ob_store.specs.declared.saved_slot.SavedObject.{SavedObject}
 use Rattle.ob_store.specs.declared.saved_slot.SavedSlot.{SavedSlot}
-use Rattle.ob_store.specs.Objects.{Object, Places, vacancy, vacant_places}
+use Rattle.ob_store.specs.Objects.{Places, vacancy, vacant_places}
 use Rattle.ob_store.specs.SavedSlots.{body_from, is_retired, keeper_slot, object_from, objects_from, places_from, slot_at, slots_at, slots_from, with_saved}
-use Rattle.ob_store.proofs.SavedSlotLaws.{slot_retires, slot_sound}
 
 -- a list of which the first places are written
 abbrev pub begun : {A : Type 0} → A → ℕ → ℕ → List A → List A
@@ -21,7 +19,7 @@ begun none n i done = done ++ replicate (n - i) none
 
 module _ {A : Type 0} (none : A) (n i : ℕ) (done : List A) (long : length done ≡ i) where
   next-left : i < n → replicate (n - i) none ≡ none ∷ replicate (n - (i + 1)) none
-  next-left lt = let e : n - i ≡ suc (n - (i + 1)) = omega arith in ap (λ (k : ℕ). replicate k none) e
+  next-left lt = search arith
 
   set-next : (x : A) → i < n → set (begun none n i done) i x ≡ begun none n (i + 1) (done ++ x ∷ [])
   set-next x lt =
@@ -32,7 +30,7 @@ module _ {A : Type 0} (none : A) (n i : ℕ) (done : List A) (long : length done
   length-begun : i ≤ n → length (begun none n i done) ≡ n
   length-begun le =
       let a = length-append done (replicate (n - i) none) in let b = length-replicate (n - i) none in
-      omega (arith, a, b, long)
+      omega arith
 
 past : {A : Type 0} (none : A) (done : List A) (n i : ℕ) → length done ≡ i → get_or (done ++ replicate n none) i none ≡
     none
@@ -43,7 +41,7 @@ past none (x ∷ done) n zero is = absurd (omega arith)
 past none (x ∷ done) n (suc i) is = past none done n i (let l : length done ≡ i = omega arith in l)
 
 kept-at : {A : Type 0} (none : A) (xs : List A) (i : ℕ) → get_or xs i none ≡ none → set xs i none ≡ xs
-kept-at none xs i is = ap (set xs i) (sym is) ∙ set-get_or xs i none
+kept-at none xs i is = search (arith, set-get_or)
 
 pub objects-long : (k : ℕ) (xs : List SavedSlot) → length (objects_from k xs) ≡ length xs
 objects-long k [] = refl
@@ -51,9 +49,9 @@ objects-long k (x ∷ xs) = ap suc (objects-long (suc k) xs)
 
 objects-more : (k i : ℕ) (xs : List SavedSlot) (x : SavedSlot) → k + length xs ≡ i →
     objects_from k (xs ++ x ∷ []) ≡ objects_from k xs ++ object_from i x ∷ []
-objects-more k i [] x is = ap (λ (n : ℕ). object_from n x ∷ []) (let e : k ≡ i = omega arith in e)
+objects-more k i [] x is = search arith
 objects-more k i (y ∷ ys) x is =
-    ap (λ (r : List (Option Object)). object_from k y ∷ r) (objects-more (suc k) i ys x (omega arith))
+    search (arith, objects-more (suc k) i ys x (omega arith))
 
 -- the slots so far, and nothing in those that come
 abbrev pub so_far : ℕ → ℕ → List SavedSlot → Places
@@ -87,30 +85,10 @@ saved-is : (p : Places) (i generation : ℕ) (retired : Bool) (o : Option SavedO
     (let x : SavedSlot = record { generation = generation; retired = retired; object = o } in
     (retired ≡ true → is_none o ≡ true) → with_saved p i generation retired o ≡ written p i x)
 saved-is p i generation true (Some o) at apart = absurd (let e = apart refl in cc e)
-saved-is p i generation true None at apart = λ j. record {
-  objects = sym (kept-at None p.objects i at.object) j;
-  seen = record {
-    bodies = sym (kept-at None p.seen.bodies i at.body) j;
-    handles =
-        sym (kept-at 0 p.seen.handles i at.handles) j;
-    blocks = sym (kept-at 0 p.seen.blocks i at.blocks) j;
-  };
-  retired = set p.retired i true;
-}
-saved-is p i generation false None at apart = λ j. record {
-  objects = sym (kept-at None p.objects i at.object) j;
-  seen = record {
-    bodies = sym (kept-at None p.seen.bodies i at.body) j;
-    handles =
-        sym (kept-at 0 p.seen.handles i at.handles) j;
-    blocks = sym (kept-at 0 p.seen.blocks i at.blocks) j;
-  };
-  retired = sym (kept-at false p.retired i at.retired) j;
-}
+saved-is p i generation true None at apart = search (arith, set-get_or)
+saved-is p i generation false None at apart = search (arith, set-get_or)
 saved-is p i generation false (Some o) at apart =
-    λ j. record (written p i (record { generation = generation; retired = false; object = Some o })) {
-      retired = sym (kept-at false p.retired i at.retired) j;
-    }
+    search (arith, set-get_or)
 
 module _ (n i : ℕ) (xs : List SavedSlot) (long : length xs ≡ i) (lt : i < n) where
   objects-are : length (objects_from 0 xs) ≡ i
@@ -126,39 +104,15 @@ module _ (n i : ℕ) (xs : List SavedSlot) (long : length xs ≡ i) (lt : i < n)
   zero-at = get_or-replicate {A = ℕ} n i 0 0 lt
 
   empty-at : IsEmptyAt (so_far n i xs) i
-  empty-at = record {
-    object = past None (objects_from 0 xs) (n - i) i objects-are;
-    body = past None (map body_from xs) (n - i) i bodies-are;
-    handles = zero-at;
-    blocks = zero-at;
-    retired = past false (map is_retired xs) (n - i) i retired-are;
-  }
+  empty-at = search (arith, past, objects-are, bodies-are, retired-are, zero-at)
 
   -- the next slot is vacant
   pub vacant-next : is_vacant_at (vacancy (so_far n i xs)) i ≡ true
   vacant-next =
-      let objects = begun None n i (objects_from 0 xs) in
-      let retired = begun false n i (map is_retired xs) in
-      let wide : length objects ≡ n = length-begun None n i (objects_from 0 xs) objects-are (omega arith) in
-      and_from (ltb i (length objects)) (is_none (get_or objects i None) && not (get_or retired i false))
-      (lt-ltb i (length objects) (omega arith))
-      (and_from (is_none (get_or objects i None)) (not (get_or retired i false)) (ap is_none empty-at.object)
-      (ap not empty-at.retired))
+      search (arith, length-begun, objects-are, empty-at)
 
   pub written-next : (x : SavedSlot) → written (so_far n i xs) i x ≡ so_far n (i + 1) (xs ++ x ∷ [])
-  written-next x = λ j. record {
-    objects = (set-next None n i (objects_from 0 xs) objects-are (object_from i x) lt
-        ∙ ap (begun None n (i + 1)) (sym (objects-more 0 i xs x (let e : 0 + length xs ≡ i = omega (arith, long) in
-        e)))) j;
-    seen = record {
-      bodies = (set-next None n i (map body_from xs) bodies-are (body_from x) lt ∙
-          ap (begun None n (i + 1)) (sym (map-append body_from xs (x ∷ [])))) j;
-      handles = kept-at 0 (replicate n 0) i zero-at j;
-      blocks = kept-at 0 (replicate n 0) i zero-at j;
-    };
-    retired = (set-next false n i (map is_retired xs) retired-are x.retired lt ∙
-        ap (begun false n (i + 1)) (sym (map-append is_retired xs (x ∷ [])))) j;
-  }
+  written-next x = search (arith, set-next, kept-at, objects-more, objects-are, bodies-are, retired-are, zero-at, map-append)
 
 -- what a loop has read of n slots once it stands at the slot i
 pub record HasRead (n max_gen clock i : ℕ) (first from : List ℕ) (p : Places) (slots : List Slot) : Type 0 where
@@ -168,42 +122,25 @@ pub record HasRead (n max_gen clock i : ℕ) (first from : List ℕ) (p : Places
   pub places : p ≡ so_far n i read
   pub begun_slots : slots ≡ map keeper_slot read
 
-front-none : {A : Type 0} (r : Read (List A)) → with_front [] r ≡ r
-front-none (Ok x) = refl
-front-none (Err f) = refl
-
 pub read_begins : (n max_gen clock : ℕ) (first : List ℕ) (p : Places) (slots : List Slot) → p ≡ vacant_places n →
     slots ≡ [] → HasRead n max_gen clock 0 first first p slots
 read_begins n max_gen clock first p slots vacant none =
-    let all : n ≡ n - 0 = omega arith in
-    record {
-      read = [];
-      length_is = refl;
-      total = front-none (items_at (slot_at max_gen clock) (n - 0) first) ∙
-          ap (λ (k : ℕ). items_at (slot_at max_gen clock) k first) (sym all);
-      places = vacant ∙ (λ j. record (vacant_places n) {
-        objects = replicate (all j) None;
-        seen =
-            record (vacant_places n).seen { bodies = replicate (all j) None };
-        retired = replicate (all j) false;
-      });
-      begun_slots = none;
-    }
+    search arith
 
 module _ (n max_gen clock i : ℕ) (first from : List ℕ) (p : Places) (slots : List Slot)
     (h : HasRead n max_gen clock i first from p slots) where
   pub vacant_here : i < n → is_vacant_at (vacancy p) i ≡ true
-  vacant_here lt = ap (λ (z : Places). is_vacant_at (vacancy z) i) h.places ∙ vacant-next n i h.read h.length_is lt
+  vacant_here lt = search (arith, vacant-next)
 
   pub read_goes_on : (x : SavedSlot) (after : List ℕ) → i < n → slot_at max_gen clock from ≡ Ok (x, after) →
       HasRead n max_gen clock (i + 1) first after (with_saved p i x.generation x.retired x.object) (slots
       ++ keeper_slot x ∷ [])
   read_goes_on x after lt is =
       let apart : x.retired ≡ true → is_none x.object ≡ true =
-      λ r. (slot_retires max_gen clock x (slot_sound max_gen clock from after x is) r).1 in
+      search arith in
       record {
         read = h.read ++ x ∷ [];
-        length_is = length-append h.read (x ∷ []) ∙ (let l = h.length_is in omega (arith, l));
+        length_is = length-append h.read (x ∷ []) ∙ (let l = h.length_is in omega arith);
         total = goes_on (slot_at max_gen clock) h.read n i from x after
             (items_at (slot_at max_gen clock) n first) lt is h.total;
         places = ap (λ (z : Places). with_saved z i x.generation x.retired x.object) h.places
@@ -220,26 +157,20 @@ module _ (n max_gen clock i : ℕ) (first from : List ℕ) (p : Places) (slots :
   pub read_ends : (e : ReadFault) → i < n → Fails e (slot_at max_gen clock from) →
       Fails e (slots_at n max_gen clock first)
   read_ends e lt fails = fails-as e (items_at (slot_at max_gen clock) n first) _
-      (ends (slot_at max_gen clock) e h.read n i from (items_at (slot_at max_gen clock) n first) lt fails h.total)
+      (search (arith, ends))
 
   pub read_done : n ≤ i → i ≤ n → slots_at n max_gen clock first ≡ Ok ((p, slots), from)
   read_done le ge =
       let done = is_done (slot_at max_gen clock) h.read n i from (items_at (slot_at max_gen clock) n first) le h.total
       in
       let none : n - i ≡ 0 = omega arith in
-      let full : length h.read ≡ n = let l = h.length_is in omega (arith, l) in
+      let full : length h.read ≡ n = let l = h.length_is in omega arith in
       let objects : begun None n i (objects_from 0 h.read) ≡ objects_from 0 h.read =
-      ap (λ (k : ℕ). objects_from 0 h.read ++ replicate k None) none ∙ append-nil (objects_from 0 h.read) in
+      search (arith, append-nil) in
       let bodies : begun None n i (map body_from h.read) ≡ map body_from h.read =
-      ap (λ (k : ℕ). map body_from h.read ++ replicate k None) none ∙ append-nil (map body_from h.read) in
+      search (arith, append-nil) in
       let retired : begun false n i (map is_retired h.read) ≡ map is_retired h.read =
-      ap (λ (k : ℕ). map is_retired h.read ++ replicate k false) none ∙ append-nil (map is_retired h.read) in
-      let all : so_far n i h.read ≡ places_from h.read = λ j. record {
-        objects = objects j;
-        seen =
-            record { bodies = bodies j; handles = replicate (sym full j) 0; blocks = replicate (sym full j) 0 };
-        retired =
-            retired j;
-      } in
+      search (arith, append-nil) in
+      let all : so_far n i h.read ≡ places_from h.read = search arith in
       ap (λ (z : Read (List SavedSlot)). z >>= λ (xs : List SavedSlot × List ℕ). Ok (slots_from xs.0, xs.1)) done
-      ∙ (λ j. Ok ((sym (h.places ∙ all) j, sym h.begun_slots j), from))
+      ∙ (search arith)

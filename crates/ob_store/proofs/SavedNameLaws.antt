@@ -1,6 +1,5 @@
 -- The names that a load enters are the directory, where no name stands twice.
-use Rattle.std.proofs.Common.{◌≡◌, ◌≢◌, ℕ, zero, suc, ◌+◌, ◌≤◌, ◌&&◌, Bool, false, cond, ltb, List, [], ◌∷◌, ◌++◌, length, get_or, is_none, Option, Some, None, Ok, Err, refl, sym, ap, ◌∙◌, subst, arith, inl, inr, eq-eqb}
-use Rattle.std.proofs.lemmas.Option.{same_Some}
+use Rattle.std.proofs.Common.{◌≡◌, ℕ, zero, suc, ◌+◌, ◌≤◌, ◌&&◌, Bool, false, cond, ltb, List, [], ◌∷◌, ◌++◌, length, get_or, is_none, Option, Some, None, Ok, refl, sym, ap, ◌∙◌, subst, arith, inl, inr, eq-eqb}
 use Rattle.std.specs.BTreeMap.{is_at}
 use Rattle.std.specs.List.{AllByRecursion, IsDistinct, cons_option, filter_map}
 use Rattle.std.specs.Map.{keys_of, values_of}
@@ -11,7 +10,6 @@ use Rattle.std.proofs.lemmas.Map.Keys.{IsDistinct-head, IsDistinct-tail}
 use Rattle.ob_codec.specs.declared.fault.TextFault.TheVariants.{Value}
 use Rattle.ob_codec.specs.Reading.{◌>>=◌}
 use Rattle.ob_codec.specs.Steps.{bind_ok, guard_passed, ok_is}
-use Rattle.pin_core.specs.declared.id.Id.{Id}
 use Rattle.ob_name.specs.Names.{ObjectName}
 use Rattle.ob_name.specs.Listing.{AreDistinct, Rows, find_name, same_name}
 use Rattle.ob_name.specs.Order.{Row}
@@ -26,10 +24,10 @@ use Rattle.ob_store.specs.Objects.{Object, ObjectsState, Places, places_in}
 use Rattle.ob_store.specs.SavedNames.{handled_row, named_from, names_in, slot_row, with_row}
 use Rattle.ob_store.specs.SavedBirths.{Births, births_from}
 use Rattle.ob_store.proofs.CountedLaws.{handles_at}
-use Rattle.ob_store.proofs.DirectoryLaws.{Tables, has_handles, other_birth, picks_none, picks_only}
+use Rattle.ob_store.proofs.DirectoryLaws.{Tables, has_handles, picks_none, picks_only}
 use Rattle.ob_store.proofs.ListingLaws.{distinct_with, placed_agreed}
 use Rattle.ob_store.proofs.NamedLaws.{handles_are}
-use Rattle.ob_store.proofs.SavedBirthLaws.{at_other, at_same, taken, none-is}
+use Rattle.ob_store.proofs.SavedBirthLaws.{at_other, at_same, taken}
 use Rattle.ob_store.proofs.SavedOrderLaws.{IsOrder, Rises, is_order, none_below}
 
 cons_end : {A : Type 0} (xs ys : List A) (o : Option A) → xs ++ cons_option o [] ++ ys ≡ xs ++ cons_option o ys
@@ -47,22 +45,14 @@ module _ (ts : Tables) (p : Places) (births : ℕ) (order : Births) (is : IsOrde
       (λ i. cond (eq-eqb o.birth b born i && sym (handled k o at) i) (named_row o.id o.name) None) ∙
       sym (ap (handled_row (ltb 0 (get_or p.seen.handles k 0))) at)
 
-  -- the objects of one birth
-  none-other : (b j : ℕ) (x : Option Object) → get_or p.objects j None ≡ x →
-      ((o : Object) → x ≡ Some o → o.birth ≢ b) → row_of ts b x ≡ None
-  none-other b j None at other = refl
-  none-other b j (Some o) at other = other_birth ts b o (other o refl)
-
   none-born : (b : ℕ) → taken order b ≡ None → filter_map (row_of ts b) p.objects ≡ []
-  none-born b none = picks_none (row_of ts b) p.objects (λ k. none-other b k (get_or p.objects k None) refl
-      (λ o at born. let e = sym (is.each k o at) ∙ ap (taken order) born ∙ none in absurd (cc e)))
+  none-born b none = picks_none (row_of ts b) p.objects (λ k. search arith)
 
   one-born : (b k : ℕ) → taken order b ≡ Some k → filter_map (row_of ts b) p.objects ≡ cons_option (slot_row p k) []
   one-born b k at =
       let own = is.own b k at in
       picks_only (row_of ts b) p.objects k (some_within p.objects k own.0 own.1) refl
-      (λ j other. none-other b j (get_or p.objects j None) refl
-      (λ o there born. other (same_Some j k (sym (is.each j o there) ∙ ap (taken order) born ∙ at)))) ∙
+      (search arith) ∙
       ap (λ r. cons_option r []) (one-row b k own.0 own.1 own.2)
 
   -- the rows of one birth come behind those of the ones before it
@@ -93,10 +83,10 @@ module _ (ts : Tables) (p : Places) (births : ℕ) (order : Births) (is : IsOrde
   unfolding Rises
   rows-on zero low [] r same =
       ap (rows_of ts p.objects) (let e : low + 0 ≡ low = omega arith in e) ∙ sym (append-nil (rows_of ts p.objects low))
-  rows-on zero low (e ∷ es) r same = absurd (let from = r.0 in let below = r.1 in omega (arith, from, below))
+  rows-on zero low (e ∷ es) r same = absurd (let from = r.0 in let below = r.1 in omega arith)
   rows-on (suc n) low [] r same =
       before-none low n [] (sym (same low (omega arith)))
-      (rows-on n (suc low) [] tt (λ b from. same b (omega (arith, from))))
+      (rows-on n (suc low) [] tt (λ b from. same b (omega arith)))
   rows-on (suc n) low (e ∷ es) r same =
       let up : low + suc n ≡ suc low + n = omega arith in
       let from = r.0 in
@@ -109,47 +99,45 @@ module _ (ts : Tables) (p : Places) (births : ℕ) (order : Births) (is : IsOrde
             (rows-on n (suc low) es
             (subst (λ (l : ℕ). Rises (suc l) (suc low + n) es) here (subst (λ (h : ℕ). Rises (suc e.0) h es) up r.2))
             (λ b above. sym (ap (λ (t : Bool). cond t (Some e.1) (taken es b))
-            (at_other b e.0 (λ is. omega (arith, above, here, is)))) ∙ same b (omega (arith, above))))
+            (at_other b e.0 (λ is. omega arith))) ∙ same b (omega arith)))
         | inr other ↦ (let rises : Rises (suc low) (suc low + n) (e ∷ es) = (
-          omega (arith, from, other),
-          omega (arith, below),
-          subst (λ (h : ℕ). Rises (suc e.0) h es) up r.2,
+          omega arith,
+          omega arith,
+          search arith,
         ) in
             before-none low n (filter_map (slot_row p) (values_of (e ∷ es)))
             (sym (same low (omega arith)) ∙
             none_below (suc low) (suc low + n) (e ∷ es) low (omega arith) rises)
-            (rows-on n (suc low) (e ∷ es) rises (λ b above. same b (omega (arith, above)))))
+            (rows-on n (suc low) (e ∷ es) rises (λ b above. same b (omega arith))))
       ]
 
   rows-by-order : rows_of ts p.objects births ≡ filter_map (slot_row p) (values_of order)
   rows-by-order =
       let all : births ≡ 0 + births = omega arith in
       ap (rows_of ts p.objects) all ∙
-      rows-on births 0 order (subst (λ (h : ℕ). Rises 0 h order) all is.rises) (λ b from. refl)
+      rows-on births 0 order (search arith) (λ b from. refl)
 
 -- a name that is entered comes last, and is a new one
 module _ (p : Places) where
   one-entered : (rows more : Rows) (r : Option Row) → with_row rows r ≡ Ok more →
       (rows ++ cons_option r [] ≡ more) × (AreDistinct rows → AreDistinct more)
   one-entered rows more None e =
-      let same = ok_is rows more e in (append-nil rows ∙ same, λ distinct. subst AreDistinct same distinct)
+      let same = ok_is rows more e in (append-nil rows ∙ same, search arith)
   one-entered rows more (Some row) e =
       let g = guard_passed (is_none (find_name row.0 rows)) Value (rows ++ row ∷ []) more e in (
         g.1,
-        λ distinct. subst AreDistinct g.1
-            (distinct_with rows row.0 row.1 distinct (none-is (find_name row.0 rows) g.0)),
+        search (arith, distinct_with),
       )
 
   all-entered : (rows out : Rows) (slots : List ℕ) → named_from p rows slots ≡ Ok out →
       (rows ++ filter_map (slot_row p) slots ≡ out) × (AreDistinct rows → AreDistinct out)
   all-entered rows out [] e =
-      let same = ok_is rows out e in (append-nil rows ∙ same, λ distinct. subst AreDistinct same distinct)
+      let same = ok_is rows out e in (append-nil rows ∙ same, search arith)
   all-entered rows out (slot ∷ slots) e =
       let b = bind_ok (with_row rows (slot_row p slot)) (λ (more : Rows). named_from p more slots) out e in
       let one = one-entered rows b.0 (slot_row p slot) b.1 in
       let others = all-entered b.0 out slots b.2 in (
-        sym (cons_end rows (filter_map (slot_row p) slots) (slot_row p slot)) ∙
-            ap (λ (z : Rows). z ++ filter_map (slot_row p) slots) one.0 ∙ others.0,
+        search (arith, append_assoc),
         λ distinct. others.1 (one.1 distinct),
       )
 
@@ -183,10 +171,7 @@ module _ (p : Places) where
       by None distinct go = go rows distinct
       by (Some row) distinct go =
           let behind = append_assoc rows (row ∷ []) others in
-          ap (λ (x : Option Id). cond (is_none x) (Ok (rows ++ row ∷ [])) (Err Value) >>= λ (more : Rows).
-          named_from p more slots) (new-name rows others row distinct) ∙
-          go (rows ++ row ∷ []) (subst AreDistinct (sym behind) distinct) ∙
-          ap (λ (z : Rows). Ok z) behind
+          search (arith, new-name)
 
 module _ (s : ObjectsState) (ts : Tables) (ws : List (Option Wait)) (order : Births) (rows : Rows) (tied : IsTied s)
     (counted : IsCounted s.seen (length s.objects) ts ws) (named : IsNamed s.objects ts ws)

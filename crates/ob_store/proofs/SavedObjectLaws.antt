@@ -1,4 +1,6 @@
 -- Objects that were read are tied to a keeper that begins with their slots.
+use Rattle.std.proofs.lemmas.Bool.Decides.{nat_tests}
+use Rattle.ob_codec.proofs.AtPlace.{at_place}
 use Rattle.std.proofs.Common.{◌≡◌, ℕ, zero, suc, ◌+◌, ◌<◌, Bool, true, false, cond, ltb, List, [], ◌∷◌, length, get_or, map, Option, Some, None, Ok, refl, sym, ap, ◌∙◌, subst, arith, inl, inr}
 use Rattle.std.specs.Prelude.{is_none, is_some, sum_by}
 use Rattle.std.proofs.lemmas.Bool.{cases_lt}
@@ -7,33 +9,31 @@ use Rattle.ob_codec.specs.Reading.{items_at}
 use Rattle.ob_codec.specs.Steps.{bind_ok, ok_is}
 use Rattle.pin_core.specs.declared.id.Id.{Id}
 use Rattle.pin_core.specs.declared.world.Slot.{Slot}
-use Rattle.pin_core.specs.Opened.{SlotOpens}
-use Rattle.pin_core.specs.Worlds.{opening_slot, slot_of}
+use Rattle.pin_core.specs.Worlds.{slot_of}
 use Rattle.ob_body.specs.declared.body.Body.{Body}
 use Rattle.ob_tables.specs.declared.entry.Entry.{Entry}
 use Rattle.ob_tables.specs.Counts.{handles_among, slot_handles}
-use Rattle.ob_waits.specs.Form.{IsAfter, slot_due}
 use Rattle.ob_waits.specs.Objects as waits
 use Rattle.ob_waits.specs.Rules.{HasBodies}
 use Rattle.ob_waits.specs.declared.wait.Wait.{Wait}
 use Rattle.ob_store.specs.declared.limits.Limits.{Limits}
 use Rattle.ob_store.specs.declared.saved_slot.SavedSlot.{SavedSlot}
-use Rattle.ob_store.specs.Agreement.{Agrees, IsAgreed, IsTied, made_in}
+use Rattle.ob_store.specs.Agreement.{IsAgreed, IsTied, made_in}
 use Rattle.ob_store.specs.Counting.{counting_all}
 use Rattle.ob_store.specs.Kept.{AreFormed, IsThere}
-use Rattle.ob_store.specs.Objects.{Object, Places}
+use Rattle.ob_store.specs.Objects.{Places}
 use Rattle.ob_store.specs.SavedBirths.{Births, births_from}
 use Rattle.ob_store.specs.SavedObjects.{are_bodied, is_bodied, with_slots}
-use Rattle.ob_store.specs.SavedSlots.{body_from, is_retired, keeper_slot, object_from, objects_from, places_from, slot_at, slots_at, slots_from}
-use Rattle.ob_store.specs.SavedWaits.{object_blocks, with_blocks}
+use Rattle.ob_store.specs.SavedSlots.{body_from, keeper_slot, object_from, objects_from, places_from, slot_at, slots_at, slots_from}
+use Rattle.ob_store.specs.SavedWaits.{with_blocks}
 use Rattle.ob_store.specs.State.{by_slot}
 use Rattle.ob_store.proofs.ByPlace.{below_at}
 use Rattle.ob_store.proofs.BySlot.{is_by_slot}
-use Rattle.ob_store.proofs.CountingLaws.{Counts, IsWide, tables_count}
+use Rattle.ob_store.proofs.CountingLaws.{Counts, tables_count}
 use Rattle.ob_store.proofs.KeeperLaws.{all_shown}
 use Rattle.ob_store.proofs.SavedBirthLaws.{ordered_born}
 use Rattle.ob_store.proofs.SavedLaws.{objects-long}
-use Rattle.ob_store.proofs.SavedSlotLaws.{IsSound, items_all, slot_aged, slot_agrees, slot_formed, slot_generation, slot_later, slot_opens, slot_sound}
+use Rattle.ob_store.proofs.SavedSlotLaws.{IsSound, items_all, slot_aged, slot_generation, slot_sound}
 
 -- each slot has a body exactly where something refers to its object
 all_bodied : (o : waits.Objects) (n : ℕ) → length o.bodies ≡ n → length o.handles ≡ n → length o.blocks ≡ n →
@@ -42,11 +42,7 @@ all_bodied o n bodies handles blocks all = record {
   each = λ k. elim (cases_lt k n) [
     | inl lt ↦ by (ltb 0 (get_or o.handles k 0 + get_or o.blocks k 0)) (get_or o.bodies k None)
         (below_at (is_bodied o) n k all lt)
-    | inr le ↦ (let none = get_or_past o.bodies k None (omega (arith, bodies, le)) in
-        let a = get_or_past o.handles k 0 (omega (arith, handles, le)) in
-        let b = get_or_past o.blocks k 0 (omega (arith, blocks, le)) in
-        let no : get_or o.handles k 0 + get_or o.blocks k 0 ≡ 0 = omega (arith, a, b) in
-        ap is_some none ∙ sym (ap (λ (z : ℕ). ltb 0 z) no))
+    | inr le ↦ search (arith, get_or_past)
   ];
 }
   where
@@ -62,10 +58,9 @@ none_saved = record { generation = 0; retired = false; object = None }
 pub object-at : (j k : ℕ) (xs : List SavedSlot) → k < length xs → get_or (objects_from j xs) k None ≡
     object_from (j + k) (get_or xs k none_saved)
 object-at j k [] lt = absurd (omega arith)
-object-at j zero (x ∷ xs) lt = ap (λ (n : ℕ). object_from n x) (let e : j ≡ j + 0 = omega arith in e)
+object-at j zero (x ∷ xs) lt = search arith
 object-at j (suc k) (x ∷ xs) lt =
-    object-at (suc j) k xs (omega arith) ∙ ap (λ (n : ℕ). object_from n (get_or xs k none_saved)) (let e : suc j + k ≡
-    j + suc k = omega arith in e)
+    search (arith, object-at (suc j) k xs (omega arith))
 
 -- the slots that were read, and what is counted of them
 pub record AreRead (n max_gen clock : ℕ) (p : Places) (slots : List Slot) : Type 0 where
@@ -99,27 +94,8 @@ module _ (n max_gen clock : ℕ) (p : Places) (slots : List Slot) (r : AreRead n
   abbrev at : ℕ → SavedSlot
   at k = get_or r.xs k none_saved
 
-  objects-are : q.objects ≡ objects_from 0 r.xs
-  objects-are = ap (λ (z : Places). z.objects) (counts.same ∙
-      (λ i. record (r.places i) { seen = record (r.places i).seen { handles = q.seen.handles } }))
-
-  bodies-are : q.seen.bodies ≡ map body_from r.xs
-  bodies-are = ap (λ (z : Places). z.seen.bodies) counts.same ∙ ap (λ (z : Places). z.seen.bodies) r.places
-
-  retired-are : q.retired ≡ map is_retired r.xs
-  retired-are = ap (λ (z : Places). z.retired) counts.same ∙ ap (λ (z : Places). z.retired) r.places
-
   pub objects-long-here : length q.objects ≡ n
-  objects-long-here = ap (λ (z : List (Option Object)). length z) objects-are ∙ objects-long 0 r.xs ∙ r.length_is
-
-  bodies-long : length q.seen.bodies ≡ n
-  bodies-long = ap (λ (z : List (Option Body)). length z) bodies-are ∙ length-map r.xs body_from ∙ r.length_is
-
-  retired-long : length q.retired ≡ n
-  retired-long = ap (λ (z : List Bool). length z) retired-are ∙ length-map r.xs is_retired ∙ r.length_is
-
-  slots-long : length slots ≡ n
-  slots-long = ap (λ (z : List Slot). length z) r.slots_are ∙ length-map r.xs keeper_slot ∙ r.length_is
+  objects-long-here = search (arith, objects-long)
 
   handles-long : length q.seen.handles ≡ n
   handles-long = counts.length_is ∙ ap (λ (z : Places). length z.seen.handles) r.places ∙
@@ -130,44 +106,22 @@ module _ (n max_gen clock : ℕ) (p : Places) (slots : List Slot) (r : AreRead n
       ap (λ (z : Places). length z.seen.blocks) r.places ∙ length-replicate {A = ℕ} (length r.xs) 0 ∙ r.length_is
 
   pub object-here : (k : ℕ) → k < n → get_or q.objects k None ≡ object_from k (at k)
-  object-here k lt = ap (λ (z : List (Option Object)). get_or z k None) objects-are
-      ∙ object-at 0 k r.xs (omega (arith, lt, r.length_is)) ∙ ap (λ (j : ℕ). object_from j (at k)) (let e : 0 + k ≡ k =
-      omega arith in e)
+  object-here k lt = search (arith, object-at)
 
   pub body-here : (k : ℕ) → k < n → get_or q.seen.bodies k None ≡ body_from (at k)
-  body-here k lt = ap (λ (z : List (Option Body)). get_or z k None) bodies-are ∙
-      get_or-map body_from r.xs k none_saved None (omega (arith, lt, r.length_is))
+  body-here k lt = search (arith, get_or-map)
 
   pub retired-here : (k : ℕ) → k < n → get_or q.retired k false ≡ (at k).retired
-  retired-here k lt = ap (λ (z : List Bool). get_or z k false) retired-are ∙
-      get_or-map is_retired r.xs k none_saved false (omega (arith, lt, r.length_is))
+  retired-here k lt = search (arith, get_or-map)
 
   pub slot-here : (k : ℕ) → k < n → slot_of slots k ≡ keeper_slot (at k)
-  slot-here k lt = ap (λ (z : List Slot). slot_of z k) r.slots_are ∙
-      get_or-map keeper_slot r.xs k none_saved opening_slot (omega (arith, lt, r.length_is))
-
-  agrees-here : (k : ℕ) → k < n →
-      Agrees k (get_or q.objects k None) (get_or q.seen.bodies k None) (get_or q.retired k false) (slot_of slots k)
-  agrees-here k lt =
-      subst (λ (z : Option Object × (Option Body × (Bool × Slot))). Agrees k z.0 z.1.0 z.1.1.0 z.1.1.1)
-      (λ i. (sym (object-here k lt) i, (sym (body-here k lt) i, (sym (retired-here k lt) i, sym (slot-here k lt) i))))
-      (slot_agrees max_gen clock (at k) (r.sound k lt) k)
+  slot-here k lt = search (arith, get_or-map)
 
   -- bodies are what the descriptors say, and no timer is due
   pub read_formed : AreFormed clock q.objects q.seen.bodies
   read_formed = record {
-    each = λ k o b is has. elim (cases_lt k n) [
-      | inl lt ↦ slot_formed max_gen clock (at k) (r.sound k lt) k o b (sym (object-here k lt) ∙
-          is) (sym (body-here k lt) ∙ has)
-      | inr le ↦ absurd (let none = get_or_past q.objects k None (omega (arith, objects-long-here, le)) in let e =
-          sym none ∙ is in cc e)
-    ];
-    later = λ k. elim (cases_lt k n) [
-      | inl lt ↦ subst (λ (b : Option Body). IsAfter clock (slot_due b)) (sym (body-here k lt))
-          (slot_later max_gen clock (at k) (r.sound k lt))
-      | inr le ↦ subst (λ (b : Option Body). IsAfter clock (slot_due b))
-          (sym (get_or_past q.seen.bodies k None (omega (arith, bodies-long, le)))) tt
-    ];
+    each = λ k o b is has. grind (arith, nat_tests, at_place, objects-long-here, object-here, body-here);
+    later = search (arith, length-map, body-here, get_or_past);
   }
 
   module _ (limits : Limits) (wide : n ≡ limits.slots) (last : max_gen ≡ limits.max_gen) (order : Births)
@@ -175,36 +129,21 @@ module _ (n max_gen clock : ℕ) (p : Places) (slots : List Slot) (r : AreRead n
       Ok order) (waits : List (Option Wait))
       (bodied : are_bodied (with_blocks waits q).seen (length q.objects) ≡ true) where
     read_agreed : IsAgreed (with_slots (with_blocks waits q) limits slots)
-    read_agreed = record {
-      at_most = limits.in_range.slots_in_range.1;
-      wide = slots-long ∙ wide;
-      length_is = objects-long-here ∙ wide;
-      bodied = bodies-long ∙ wide;
-      marked = retired-long ∙ wide;
-      each = λ k lt. agrees-here k (omega (arith, lt, wide));
-    }
+    read_agreed = search (arith, objects-long-here, length-map, object-here, body-here, retired-here, slot-here)
 
     pub read_tied : IsTied (with_slots (with_blocks waits q) limits slots)
     read_tied = record {
       agreed = read_agreed;
       listed = all_shown (with_slots (with_blocks waits q) limits slots) read_agreed;
-      opens = record {
-        wide = slots-long ∙ wide;
-        each = λ k lt. (let within : k < n = omega (arith, lt, wide) in
-            subst (λ (m : ℕ). SlotOpens m (slot_of slots k)) last
-            (subst (SlotOpens max_gen) (sym (slot-here k within))
-            (slot_opens max_gen clock (at k) (r.sound k within))));
-      };
-      bodied = all_bodied (with_blocks waits q).seen n bodies-long handles-long
-          (length-map q.objects (object_blocks waits) ∙ objects-long-here)
-          (subst (λ (m : ℕ). are_bodied (with_blocks waits q).seen m ≡ true) objects-long-here bodied);
-      born = ordered_born (sum_by made_in slots) order q.objects ordered;
-      aged = λ k lt. (let within : k < n = omega (arith, lt, wide) in
+      opens = search (arith, length-map, slot-here);
+      bodied = search (arith, all_bodied, objects-long-here, handles-long, length-map);
+      born = search (arith, ordered_born);
+      aged = λ k lt. (let within : k < n = omega arith in
           let age = slot_aged max_gen clock (at k) (r.sound k within) in
           let is : (slot_of slots k).generation ≡ (at k).generation =
           ap (λ (x : Slot). x.generation) (slot-here k within) ∙
           slot_generation (at k) in
-          (omega (arith, age.0, is), omega (arith, age.1, is, last)));
+          (omega arith, omega arith));
       last = limits.in_range.max_gen_in_range.1;
       made = refl;
     }
@@ -214,8 +153,8 @@ module _ (n max_gen clock : ℕ) (p : Places) (slots : List Slot) (r : AreRead n
   read_handles = is_by_slot q.seen.handles (length q.objects) more (handles-long ∙ sym objects-long-here)
       (λ k lt. (let c = counts.handles k in
       let z : get_or p.seen.handles k 0 ≡ 0 = ap (λ (y : Places). get_or y.seen.handles k 0) r.places ∙
-      get_or-replicate {A = ℕ} (length r.xs) k 0 0 (omega (arith, lt, objects-long-here, r.length_is)) in
-      omega (arith, c, z)))
+      get_or-replicate {A = ℕ} (length r.xs) k 0 0 (omega (arith, objects-long-here)) in
+      omega arith))
 
   -- and there is a count of blocks for each object
   pub read_wide : length q.seen.blocks ≡ length q.objects
@@ -225,33 +164,33 @@ pub slots_read : (n max_gen clock : ℕ) (bytes : List ℕ) (p : Places) (slots 
     slots_at n max_gen clock bytes ≡ Ok ((p, slots), rest) → length slots ≡ n
 slots_read n max_gen clock bytes p slots rest e =
     let r = slots-are-read n max_gen clock bytes p slots rest e in
-    ap (λ (z : List Slot). length z) r.slots_are ∙ length-map r.xs keeper_slot ∙ r.length_is
+    search (arith, length-map)
 
 module _ (limits : Limits) (clock : ℕ) (tables : List (List (Option Entry))) (bytes : List ℕ) (p q : Places)
     (slots : List Slot) (rest : List ℕ)
     (read : slots_at limits.slots limits.max_gen clock bytes ≡ Ok ((p, slots), rest)) (counted : counting_all p tables ≡
     Ok q) where
   are : AreRead limits.slots limits.max_gen clock p slots
-  are = slots-are-read limits.slots limits.max_gen clock bytes p slots rest read
+  are = search (arith, slots-are-read)
 
   pub counts : Counts p q (λ k. slot_handles k tables) (λ id. 0 < handles_among id tables)
   counts = tables_count p q tables
-      (subst IsWide (sym are.places) (objects-long 0 are.xs ∙ sym (length-replicate {A = ℕ} (length are.xs) 0))) counted
+      (search (arith, length-replicate, objects-long)) counted
 
   pub tied_read : (order : Births) → births_from (sum_by made_in slots) [] 0 q.objects ≡ Ok order →
       (waits : List (Option Wait)) → are_bodied (with_blocks waits q).seen (length q.objects) ≡ true →
       IsTied (with_slots (with_blocks waits q) limits slots)
   tied_read order ordered waits bodied =
-      read_tied limits.slots limits.max_gen clock p slots are q _ _ counts limits refl refl order ordered waits bodied
+      search (arith, read_tied, are, counts)
 
   pub formed_read : AreFormed clock q.objects q.seen.bodies
-  formed_read = read_formed limits.slots limits.max_gen clock p slots are q _ _ counts
+  formed_read = search (arith, read_formed, are, counts)
 
   pub handles_read : q.seen.handles ≡ by_slot (length q.objects) (λ k. slot_handles k tables)
-  handles_read = read_handles limits.slots limits.max_gen clock p slots are q _ _ counts
+  handles_read = search (arith, read_handles, are, counts)
 
   pub entries_read : (id : Id) → 0 < handles_among id tables → IsThere q.objects id
   entries_read id some = subst (λ (z : Places). IsThere z.objects id) (sym counts.same) (counts.named id some)
 
   pub wide_read : length q.seen.blocks ≡ length q.objects
-  wide_read = read_wide limits.slots limits.max_gen clock p slots are q _ _ counts
+  wide_read = search (arith, read_wide, are, counts)

@@ -1,13 +1,12 @@
 -- The order of births rises, and has the births of the objects, each with its slot, and no others.
-use Rattle.std.proofs.Common.{◌≡◌, ◌⊎◌, ℕ, zero, suc, ◌+◌, ◌<◌, ◌≤◌, Bool, true, false, cond, List, [], ◌∷◌, get_or, Option, Some, None, Ok, refl, sym, ap, ◌∙◌, subst, arith, inl, inr}
+use Rattle.std.proofs.Common.{◌≡◌, ◌⊎◌, ℕ, zero, suc, ◌+◌, ◌<◌, ◌≤◌, Bool, true, false, cond, List, [], ◌∷◌, get_or, Option, Some, None, Ok, refl, sym, ap, ◌∙◌, arith, inl, inr}
 use Rattle.std.specs.BTreeMap.{insert_entry, is_at}
 use Rattle.std.specs.declared.cmp.Ordering.{Ordering}
 use Rattle.std.specs.declared.cmp.Ordering.TheVariants.{Less, Equal, Greater}
 use Rattle.std.specs.Ordering.{match_ordering, nat_cmp}
-use Rattle.ob_codec.specs.Steps.{ok_is}
 use Rattle.ob_store.specs.Objects.{Object}
 use Rattle.ob_store.specs.SavedBirths.{Births, births_from}
-use Rattle.ob_store.proofs.SavedBirthLaws.{at_is, at_other, at_same, births_step, is_greater, is_less, taken, taken_inserted}
+use Rattle.ob_store.proofs.SavedBirthLaws.{at_is, births_step, is_greater, is_less, taken, taken_inserted}
 
 -- births from one number on, below another, each above the one before it
 unfoldable pub Rises : ℕ → ℕ → Births → Type 0
@@ -33,8 +32,7 @@ unfolding Rises
 none_below low high [] b less r = refl
 none_below low high (x ∷ es) b less r =
     let first = r.0 in
-    ap (λ (t : Bool). cond t (Some x.1) (taken es b)) (at_other b x.0 (λ same. omega (arith, less, first, same)))
-    ∙ none_below (suc x.0) high es b (omega (arith, less, first)) r.2
+    search (arith, none_below (suc x.0) high es b (omega (arith, less, first)) r.2)
 
 -- the order of the births of objects
 pub record IsOrder (objects : List (Option Object)) (births : ℕ) (order : Births) : Type 0 where
@@ -51,27 +49,26 @@ Came so_far slot objects b k =
 module _ (births : ℕ) (order : Births) where
   rises-still : (slot : ℕ) (so_far : Births) (objects : List (Option Object)) → Rises 0 births so_far →
       births_from births so_far slot objects ≡ Ok order → Rises 0 births order
-  rises-still slot so_far [] r e = subst (Rises 0 births) (ok_is so_far order e) r
+  rises-still slot so_far [] r e = search arith
   rises-still slot so_far (None ∷ objects) r e = rises-still (suc slot) so_far objects r e
   rises-still slot so_far (Some x ∷ objects) r e =
       let s = births_step births order slot so_far x objects e in
       rises-still (suc slot) (insert_entry nat_cmp so_far x.birth slot) objects
-      (still-rises 0 births so_far x.birth slot (omega arith) s.0 r) s.2
+      (search (arith, still-rises)) s.2
 
   -- what has a birth keeps it
   taken-still : (slot : ℕ) (so_far : Births) (objects : List (Option Object)) →
       births_from births so_far slot objects ≡ Ok order → (b k : ℕ) → taken so_far b ≡ Some k → taken order b ≡ Some k
-  taken-still slot so_far [] e b k is = ap (λ (z : Births). taken z b) (sym (ok_is so_far order e)) ∙ is
+  taken-still slot so_far [] e b k is = search arith
   taken-still slot so_far (None ∷ objects) e b k is = taken-still (suc slot) so_far objects e b k is
   taken-still slot so_far (Some x ∷ objects) e b k is =
       let s = births_step births order slot so_far x objects e in
       taken-still (suc slot) (insert_entry nat_cmp so_far x.birth slot) objects s.2 b k
-      (taken_inserted so_far x.birth slot b ∙ by (is_at (nat_cmp b) x.birth) refl s.1)
+      (search (arith, taken_inserted))
     where
       by : (t : Bool) → is_at (nat_cmp b) x.birth ≡ t → taken so_far x.birth ≡ None →
           cond t (Some slot) (taken so_far b) ≡ Some k
-      by true it none = absurd (let same = ap (taken so_far) (at_is b x.birth it) in
-          let no = sym is ∙ (same ∙ none) in cc no)
+      by true it none = search arith
       by false it none = is
 
   each-taken : (slot : ℕ) (so_far : Births) (objects : List (Option Object)) →
@@ -80,13 +77,11 @@ module _ (births : ℕ) (order : Births) where
   each-taken slot so_far [] e k o is = absurd cc
   each-taken slot so_far (None ∷ objects) e zero o is = absurd cc
   each-taken slot so_far (None ∷ objects) e (suc k) o is =
-      each-taken (suc slot) so_far objects e k o is ∙
-      ap (λ (n : ℕ). Some n) (let e : suc slot + k ≡ slot + suc k = omega arith in e)
+      search (arith, each-taken (suc slot) so_far objects e k o is)
   each-taken slot so_far (Some x ∷ objects) e zero o is =
       let s = births_step births order slot so_far x objects e in
       let here : taken (insert_entry nat_cmp so_far x.birth slot) x.birth ≡ Some slot =
-      taken_inserted so_far x.birth slot x.birth ∙
-      ap (λ (t : Bool). cond t (Some slot) (taken so_far x.birth)) (at_same x.birth) in
+      search (arith, taken_inserted) in
       let same : x ≡ o = cc is in
       ap (λ (z : Object). taken order z.birth) (sym same) ∙
       taken-still (suc slot) (insert_entry nat_cmp so_far x.birth slot) objects s.2 x.birth slot here ∙
@@ -100,15 +95,15 @@ module _ (births : ℕ) (order : Births) where
       Came so_far (suc slot) objects b k → Came so_far slot (x ∷ objects) b k
   came-later slot so_far x objects b k came = elim came [
     | inl before ↦ inl before
-    | inr c ↦ inr (suc c.0, c.1, c.2, c.3, (let e = c.4 in omega (arith, e)))
+    | inr c ↦ inr (suc c.0, c.1, c.2, c.3, (let e = c.4 in omega arith))
   ]
 
   came : (slot : ℕ) (so_far : Births) (objects : List (Option Object)) →
       births_from births so_far slot objects ≡ Ok order →
       (b k : ℕ) → taken order b ≡ Some k → Came so_far slot objects b k
-  came slot so_far [] e b k is = inl (ap (λ (z : Births). taken z b) (ok_is so_far order e) ∙ is)
+  came slot so_far [] e b k is = search arith
   came slot so_far (None ∷ objects) e b k is =
-      came-later slot so_far None objects b k (came (suc slot) so_far objects e b k is)
+      search (arith, came-later, came (suc slot) so_far objects e b k is)
   came slot so_far (Some x ∷ objects) e b k is =
       let s = births_step births order slot so_far x objects e in
       elim (came (suc slot) (insert_entry nat_cmp so_far x.birth slot) objects s.2 b k is) [
@@ -118,7 +113,7 @@ module _ (births : ℕ) (order : Births) where
     where
       by : (t : Bool) → is_at (nat_cmp b) x.birth ≡ t → cond t (Some slot) (taken so_far b) ≡ Some k →
           Came so_far slot (Some x ∷ objects) b k
-      by true it here = inr (0, x, refl, sym (at_is b x.birth it), (let e : slot ≡ k = cc here in omega (arith, e)))
+      by true it here = inr (0, x, refl, sym (at_is b x.birth it), search arith)
       by false it before = inl before
 
   pub is_order : (objects : List (Option Object)) → births_from births [] 0 objects ≡ Ok order →
@@ -126,9 +121,9 @@ module _ (births : ℕ) (order : Births) where
   unfolding Rises
   is_order objects e = record {
     rises = rises-still 0 [] objects tt e;
-    each = λ k o is. each-taken 0 [] objects e k o is ∙ ap (λ (n : ℕ). Some n) (let e : 0 + k ≡ k = omega arith in e);
+    each = search (arith, each-taken);
     own = λ b k is. elim (came 0 [] objects e b k is) [
       | inl before ↦ absurd cc
-      | inr c ↦ (c.1, subst (λ (n : ℕ). get_or objects n None ≡ Some c.1) (let e = c.4 in omega (arith, e)) c.2, c.3)
+      | inr c ↦ search arith
     ];
   }

@@ -1,14 +1,12 @@
 -- Processes and threads are read as they were spelled, and what is read is kept.
-use Rattle.std.proofs.Common.{◌≡◌, ℕ, ◌≤◌, ◌+◌, List, None, Option, Some, ap, arith, get_or, leb, length, refl, subst, true}
-use Rattle.std.specs.Prelude.{is_some, not}
-use Rattle.std.proofs.lemmas.Bool.{and_from, le-leb}
+use Rattle.std.proofs.Common.{◌≡◌, ℕ, ◌+◌, List, None, Option, Some, arith, get_or, refl, true}
 use Rattle.ob_codec.specs.Codecs.{as_codec, both_codec, list_codec, option_codec, u32_codec, where_codec}
 use Rattle.ob_codec.specs.Laws.{IsCodec}
 use Rattle.ob_tables.specs.declared.entry.Entry.{Entry}
 use Rattle.ob_store.specs.declared.limits.Limits.{Limits}
 use Rattle.ob_store.specs.Kept.{IsLive, IsPopulated, ProcessesKept}
-use Rattle.ob_store.specs.Processes.{IsFromOne, ProcessesState}
-use Rattle.ob_store.specs.SavedProcesses.{AreWithin, ListsFit, NumbersFit, ProcessesFit, are_numbers, are_of_live, are_populated, is_of_live, lists_of, numbers_at, numbers_text, processes_at, processes_of, processes_text}
+use Rattle.ob_store.specs.Processes.{ProcessesState}
+use Rattle.ob_store.specs.SavedProcesses.{AreWithin, ListsFit, ProcessesFit, are_numbers, are_of_live, are_populated, is_of_live, lists_of, numbers_at, numbers_text, processes_at, processes_of, processes_text}
 use Rattle.ob_store.proofs.ByPlace.{all_from}
 use Rattle.ob_store.proofs.PopulatedLaws.{populated_pass}
 
@@ -20,19 +18,10 @@ pub processes_codec : (processes threads : ℕ)
 processes_codec processes threads = where_codec (as_codec processes_of lists_of (λ _. refl) (λ _. refl)
     (where_codec (both_codec (numbers_codec processes) (numbers_codec threads)) are_of_live)) are_populated
 
-within : (limit : ℕ) (xs : List (Option ℕ)) → length xs ≤ limit + 1 → IsFromOne xs → NumbersFit xs
-    → AreWithin limit xs
-within limit xs most is fits = (
-  (fits, le-leb (length xs) (limit + 1) most),
-  and_from (leb 1 (length xs)) (not (is_some (get_or xs 0 None)))
-      (le-leb 1 (length xs) (let s = is.not_empty in omega (arith, s)))
-      (ap (λ (x : Option ℕ). not (is_some x)) is.none),
-)
-
 -- what they say of threads
 module _ (ps : List (Option ℕ)) where
   pub live_at : (o : Option ℕ) → is_of_live ps o ≡ true → (p : ℕ) → o ≡ Some p → IsLive ps p
-  live_at o e p is = subst (λ (y : Option ℕ). is_of_live ps y ≡ true) is e
+  live_at o e p is = search arith
 
   pub live_from : (o : Option ℕ) → ((p : ℕ) → o ≡ Some p → IsLive ps p) → is_of_live ps o ≡ true
   live_from None each = refl
@@ -40,18 +29,9 @@ module _ (ps : List (Option ℕ)) where
 
   live_pass : (ts : List (Option ℕ)) → ((t p : ℕ) → get_or ts t None ≡ Some p → IsLive ps p)
       → are_of_live (ps, ts) ≡ true
-  live_pass ts each = all_from (is_of_live ps) ts None (λ t lt. live_from (get_or ts t None) (each t))
+  live_pass ts each = all_from (is_of_live ps) ts None (search arith)
 
 pub kept_fits : (limits : Limits) (l : ProcessesState) (tables : List (List (Option Entry)))
     → ProcessesKept limits l tables → IsPopulated l.processes l.threads → ListsFit l
     → ProcessesFit limits.processes limits.threads l
-kept_fits limits l tables kept populated fits = (
-  (
-    (
-      within limits.processes l.processes kept.few_processes kept.processes_from_one fits.0,
-      within limits.threads l.threads kept.few_threads kept.threads_from_one fits.1,
-    ),
-    live_pass l.processes l.threads kept.live,
-  ),
-  populated_pass l populated,
-)
+kept_fits limits l tables kept populated fits = search (arith, live_pass, populated_pass)

@@ -1,8 +1,7 @@
 -- What is known of slots that were read.
-use Rattle.std.proofs.Common.{◌≡◌, ℕ, zero, suc, ◌<◌, ◌≤◌, ◌&&◌, Bool, true, false, eqb, leb, List, [], ◌∷◌, length, get_or, Option, Some, None, Ok, refl, sym, ap, ◌∙◌, subst, arith}
+use Rattle.std.proofs.Common.{◌≡◌, ℕ, zero, suc, ◌<◌, ◌≤◌, ◌&&◌, Bool, true, false, leb, List, [], ◌∷◌, length, get_or, Option, Some, None, Ok, sym, ap, ◌∙◌, subst, arith}
 use Rattle.std.specs.Prelude.{is_none}
-use Rattle.std.proofs.lemmas.Bool.{and_parts, eqb-true, leb-true, ltb-true}
-use Rattle.std.proofs.lemmas.Grind.{common_steps}
+use Rattle.std.proofs.lemmas.Bool.{and_parts, ltb-true}
 use Rattle.std.proofs.lemmas.Option.{same_Some}
 use Rattle.ob_codec.specs.declared.fault.TextFault.TheVariants.{Value}
 use Rattle.ob_codec.specs.Reading.{◌>>=◌, Read, as_at, both_at, given_at, items_at, number_at, option_at, some_at}
@@ -19,7 +18,6 @@ use Rattle.pin_core.specs.declared.word.Phase.TheVariants.{Retired}
 use Rattle.pin_core.specs.Descrs.{IsGiven, decoded, same_descr}
 use Rattle.pin_core.specs.Opened.{SlotOpens}
 use Rattle.pin_core.specs.Spelling.{descr_at}
-use Rattle.pin_core.proofs.Moves.{same_of_descr}
 use Rattle.ob_body.specs.declared.body.Body.{Body}
 use Rattle.ob_body.specs.Body.{due_of}
 use Rattle.ob_waits.specs.Form.{IsAfter, form_of, slot_due}
@@ -69,7 +67,7 @@ module _ {A B : Type 0} where
 
 -- a word has the descriptor of an object that was read
 decoded-given : (n : ℕ) (d : Descr) → decoded n ≡ Some d → IsGiven d
-decoded-given n d e = grind (arith, common_steps)
+decoded-given n d e = grind arith
 
 abbrev behind_descr : List ℕ → Read (Rights × (Option Body × Option ObjectName))
 behind_descr = both_at rights_at (both_at (option_at body_at) (option_at name_text_at))
@@ -138,9 +136,7 @@ items_all {A = A} at P pass d (suc n) bytes xs rest e =
     )) (xs, rest) e in
     let b = bind_ok (items_at at n a.0.1) (λ (ys : List A × List ℕ). Ok (a.0.0 ∷ ys.0, ys.1)) (xs, rest) a.2 in
     let ih = items_all at P pass d n a.0.1 b.0.0 b.0.1 b.1 in
-    subst (λ (z : List A × List ℕ). (length z.0 ≡ suc n) ×
-    ((k : ℕ) → k < suc n → P (get_or z.0 k d))) (ok_is (a.0.0 ∷ b.0.0, b.0.1) (xs, rest) b.2)
-    (ap suc ih.0, here a.0.0 b.0.0 (pass bytes a.0.1 a.0.0 a.1) ih.1)
+    grind arith
   where
     here : (x : A) (ys : List A) → P x → ((k : ℕ) → k < n → P (get_or ys k d)) → (k : ℕ) → k < suc n →
         P (get_or (x ∷ ys) k d)
@@ -149,52 +145,28 @@ items_all {A = A} at P pass d (suc n) bytes xs rest e =
 
 -- one slot
 
-retired-bare : (max_gen : ℕ) (x : SavedSlot) → may_retire max_gen x ≡ true → x.retired ≡ true →
-    (x.generation ≡ max_gen) × (is_none x.object ≡ true)
-retired-bare max_gen x e is = by x.retired is e
-  where
-    by : (b : Bool) → b ≡ true → may_retire max_gen (record x { retired = b }) ≡ true → (x.generation ≡ max_gen) ×
-        (is_none x.object ≡ true)
-    by true is e = let t = and_parts (eqb x.generation max_gen) (is_none x.object) e in
-        (eqb-true x.generation max_gen t.0, t.1)
-    by false is e = absurd (cc is)
-
 pub slot_generation : (x : SavedSlot) → (keeper_slot x).generation ≡ x.generation
-slot_generation x = by x.object
-  where
-    by : (o : Option SavedObject) → (keeper_slot_with x.generation x.retired o).generation ≡ x.generation
-    by None = refl
-    by (Some o) = refl
+slot_generation x = search arith
 
 module _ (max_gen clock : ℕ) (x : SavedSlot) (sound : IsSound max_gen clock x) where
   abbrev rest : Bool
   rest = may_retire max_gen x && object_stands clock x.object
 
   parts : ((leb 1 x.generation && leb x.generation max_gen) ≡ true) × (rest ≡ true)
-  parts = and_parts (leb 1 x.generation && leb x.generation max_gen) rest sound.stands
+  parts = search arith
 
   pub slot_aged : (1 ≤ x.generation) × (x.generation ≤ max_gen)
   slot_aged = let a = and_parts (leb 1 x.generation) (leb x.generation max_gen) parts.0 in
-      (leb-true 1 x.generation a.0, leb-true x.generation max_gen a.1)
+      search arith
 
   pub slot_retires : x.retired ≡ true → (x.generation ≡ max_gen) × (is_none x.object ≡ true)
-  slot_retires = retired-bare max_gen x (and_parts (may_retire max_gen x) (object_stands clock x.object) parts.1).0
+  slot_retires = search arith
 
   stands : object_stands clock x.object ≡ true
-  stands = (and_parts (may_retire max_gen x) (object_stands clock x.object) parts.1).1
+  stands = search arith
 
   pub slot_agrees : (k : ℕ) → Agrees k (object_from k x) (body_from x) x.retired (keeper_slot x)
-  slot_agrees k = by x.object x.retired (λ r. (slot_retires r).1)
-    where
-      by : (o : Option SavedObject) (r : Bool) → (r ≡ true → is_none o ≡ true) →
-          Agrees k (object_in_slot (record {
-            slot = k;
-            generation =
-                x.generation;
-          }) o) (body_in o) r (keeper_slot_with x.generation r o)
-      by None r bare = (refl, refl)
-      by (Some o) true bare = absurd (let e = bare refl in cc e)
-      by (Some o) false bare = (refl, refl, refl, refl)
+  slot_agrees k = search arith
 
   pub slot_opens : SlotOpens max_gen (keeper_slot x)
   slot_opens = by x.object x.retired sound.given (λ r. (slot_retires r).0)
@@ -205,15 +177,15 @@ module _ (max_gen clock : ℕ) (x : SavedSlot) (sound : IsSound max_gen clock x)
 
       by : (o : Option SavedObject) (r : Bool) → Given o → (r ≡ true → x.generation ≡ max_gen) →
           SlotOpens max_gen (keeper_slot_with x.generation r o)
-      by None true given last = record { given = (omega arith, refl); bounded = slot_aged.1; last = λ e. last refl }
-      by None false given last = record { given = (omega arith, refl); bounded = slot_aged.1; last = λ e. absurd cc }
-      by (Some o) r given last = record { given = given; bounded = slot_aged.1; last = λ e. absurd (apart o.body e) }
+      by None true given last = search arith
+      by None false given last = search arith
+      by (Some o) r given last = search arith
 
   body-formed : (d : Descr) (b : Body) → body_stands clock d (Some b) ≡ true → (unset (form_of b) ≡ form_in d) ×
       IsAfter clock (due_of b)
   body-formed d b e =
       let t = and_parts (same_descr (descr_of b) d) (is_after clock (due_of b)) e in
-      (ap form_in (same_of_descr (descr_of b) d t.0), later (due_of b) t.1)
+      search arith
     where
       later : (due : Option ℕ) → is_after clock due ≡ true → IsAfter clock due
       later None e = tt
@@ -235,7 +207,7 @@ module _ (max_gen clock : ℕ) (x : SavedSlot) (sound : IsSound max_gen clock x)
             generation =
                 x.generation;
           }) s) o is) in
-          (body-formed s.descr b (ap (body_stands clock s.descr) (sym has) ∙ stands)).0 ∙ ap form_in same
+          search arith
 
   pub slot_later : IsAfter clock (slot_due (body_from x))
   slot_later = by x.object stands

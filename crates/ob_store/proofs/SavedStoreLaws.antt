@@ -1,23 +1,22 @@
 -- A store that is kept is read again as it was written, and what is read of a store was written so.
-use Rattle.std.proofs.Common.{◌≡◌, ℕ, suc, ◌*◌, ◌<◌, ◌≤◌, ◌^◌, ltb, Bool, true, false, cond, eqb, List, [], ◌∷◌, ◌++◌, length, get_or, map, Option, Some, None, Ok, Err, append_assoc, refl, sym, ap, ◌∙◌, subst, arith}
-use Rattle.std.specs.Int.{w32, w64, to_le_bytes}
+use Rattle.std.proofs.Common.{◌≡◌, ℕ, ◌*◌, ◌<◌, ◌≤◌, ◌^◌, ltb, true, cond, eqb, List, [], ◌∷◌, ◌++◌, length, get_or, map, Option, Some, None, Ok, Err, append_assoc, refl, sym, ap, ◌∙◌, subst, arith}
+use Rattle.std.specs.Int.{w64, to_le_bytes}
 use Rattle.std.specs.List.{AllByRecursion, flat_map, list_all}
-use Rattle.std.proofs.lemmas.Bool.{and_from, and_parts, eqb-true, le-leb, le-ltb, leb-true, lt-ltb}
+use Rattle.std.proofs.lemmas.Bool.{and_parts, eqb-true, le-leb, lt-ltb}
 use Rattle.std.proofs.lemmas.List.{ext_get_or, get_or-map, length-append, length-map}
-use Rattle.std.proofs.lemmas.List.Concat.{flat_map-cons}
 use Rattle.ob_codec.specs.Codecs.{u64_codec, where_codec}
 use Rattle.ob_codec.specs.Laws.{IsCodec, Takes}
 use Rattle.ob_codec.specs.Reading.{has_at, list_at, where_at}
 use Rattle.ob_codec.specs.Sparse.{sparse_at}
-use Rattle.ob_codec.specs.Spelling.{AreBytes, flag, option}
+use Rattle.ob_codec.specs.Spelling.{AreBytes}
 use Rattle.ob_codec.specs.Steps.{bind_ok, guard_passed, ok_is}
-use Rattle.ob_codec.specs.declared.fault.TextFault.TheVariants.{Short, Value}
+use Rattle.ob_codec.specs.declared.fault.TextFault.TheVariants.{Value}
 use Rattle.pin_core.specs.declared.id.Id.{Id}
 use Rattle.pin_core.specs.declared.shape.Shape.{Shape}
 use Rattle.pin_core.specs.Worlds.{opening_slot}
 use Rattle.ob_tables.specs.Spelling.{TablesFit, are_bounded, is_short, table_at, tables_at, tables_text, with_limits}
 use Rattle.ob_tables.specs.SpellingLaws.{tables_again, tables_take}
-use Rattle.ob_tables.specs.Tables.{HandleTables, IsBounded}
+use Rattle.ob_tables.specs.Tables.{HandleTables}
 use Rattle.ob_tables.specs.declared.entry.Entry.{Entry}
 use Rattle.ob_waits.specs.Spelling.{WaitsFit, are_below, are_within, can_be, is_within, wait_at, waits_at, waits_text, with_rest}
 use Rattle.ob_waits.specs.SpellingLaws.{waits_again, waits_take}
@@ -27,15 +26,15 @@ use Rattle.ob_waits.specs.declared.wait.Wait.{Wait}
 use Rattle.ob_store.specs.declared.limits.Limits.{Limits}
 use Rattle.ob_store.specs.declared.saved_slot.SavedSlot.{SavedSlot}
 use Rattle.ob_store.specs.Agreement.{IsTied}
-use Rattle.ob_store.specs.Kept.{IsKept, IsLive, IsSound, ProcessesKept}
+use Rattle.ob_store.specs.Kept.{IsKept, IsLive, IsSound}
 use Rattle.ob_store.specs.Objects.{ObjectsState}
-use Rattle.ob_store.specs.Parts.{PartsState, state_of, whole_of}
+use Rattle.ob_store.specs.Parts.{PartsState, whole_of}
 use Rattle.ob_store.specs.Processes.{ProcessesState}
 use Rattle.ob_store.specs.SavedLimits.{limits_at, limits_text}
 use Rattle.ob_store.specs.SavedLimitLaws.{limits_codec}
 use Rattle.ob_store.specs.SavedObjects.{begun_over, objects_at, objects_text, slots_saved}
 use Rattle.ob_store.specs.SavedProcesses.{ListsFit, processes_at, processes_text}
-use Rattle.ob_store.specs.SavedSlots.{SlotFits, keeper_slot, object_text, slot_text}
+use Rattle.ob_store.specs.SavedSlots.{SlotFits, keeper_slot, slot_text}
 use Rattle.ob_store.specs.SavedStore.{are_vacated, is_moment, lists_at, moment_at, parts_at, begun_again, slot_bytes, store_at, store_text, tables_for, behind_lists, whole_with}
 use Rattle.ob_store.specs.State.{Whole, generation_of, shape_of}
 use Rattle.ob_store.proofs.NamedLaws.{place_counted, there_within}
@@ -61,36 +60,14 @@ generations_back : (s : ObjectsState) → IsTied s
     → map generation_of (map keeper_slot (slots_saved s)) ≡ map generation_of s.keeper.slots
 generations_back s tied =
     ext_get_or 0 (map generation_of (map keeper_slot (slots_saved s))) (map generation_of s.keeper.slots)
-    (length-map (map keeper_slot (slots_saved s)) generation_of ∙ length-map (slots_saved s) keeper_slot
-    ∙ xs-long s tied ∙ sym tied.agreed.wide ∙ sym (length-map s.keeper.slots generation_of))
-    (λ k lt. (let here : k < s.keeper.shape.slots = omega (
-      arith,
-      lt,
-      length-map (map keeper_slot (slots_saved s)) generation_of,
-      length-map (slots_saved s) keeper_slot,
-      xs-long s tied,
-    ) in
+    (search (arith, length-map, xs-long))
+    (λ k lt. (let here : k < s.keeper.shape.slots = omega (arith, length-map (map keeper_slot (slots_saved s)) generation_of, length-map (slots_saved s) keeper_slot, xs-long s tied) in
     get_or-map generation_of (map keeper_slot (slots_saved s)) k opening_slot 0
-    (omega (arith, here, length-map (slots_saved s) keeper_slot, xs-long s tied))
+    (omega (arith, length-map (slots_saved s) keeper_slot, xs-long s tied))
     ∙ ap generation_of (get_or-map keeper_slot (slots_saved s) k none_saved opening_slot
-    (omega (arith, here, xs-long s tied)))
+    (omega (arith, xs-long s tied)))
     ∙ slot_generation (get_or (slots_saved s) k none_saved) ∙ ap (λ (x : SavedSlot). x.generation) (xs-at s tied k here)
-    ∙ sym (get_or-map generation_of s.keeper.slots k opening_slot 0 (omega (arith, here, tied.agreed.wide)))))
-
--- tables that fit, within the limits
-tables_bounded : (limits : Limits) (p : ProcessesState) (t : HandleTables) → ProcessesKept limits p t.tables
-    → t.process_limit ≡ limits.processes → t.handle_limit ≡ limits.handles → TablesFit t
-    → IsBounded t.process_limit t.handle_limit t.tables
-tables_bounded limits p t kept few short fits =
-    let b = and_parts (eqb (length t.tables) (length t.tables)) _ fits.1 in
-    record {
-      few_processes = (let most = limits.in_range.processes_in_range.1 in omega (arith, few, most));
-      few_handles = (let most = limits.in_range.handles_in_range.1 in omega (arith, short, most));
-      first = (let some = kept.processes_from_one.not_empty in let is = kept.tabled in omega (arith, some, is));
-      within = (let most = kept.few_processes in let is = kept.tabled in omega (arith, most, is, few));
-      short = λ process. leb-true (length (get_or t.tables process [])) t.handle_limit
-          (all_at (is_short t.handle_limit) t.tables [] (le-leb 0 t.handle_limit (omega arith)) b.1 process);
-    }
+    ∙ sym (get_or-map generation_of s.keeper.slots k opening_slot 0 (omega arith))))
 
 -- the threads and the slots of waits that are kept are within the limits
 module _ (p : PartsState) (kept : IsKept p) (tied : IsTied p.objects) where
@@ -101,69 +78,26 @@ module _ (p : PartsState) (kept : IsKept p) (tied : IsTied p.objects) where
       (λ i lt. (let id = get_or (ids_of (get_or p.waits.waits n None)) i nowhere in
       let there = there_within p.objects.objects id (kept.sound.named.blocks id (place_counted p.objects.objects
       p.tables.tables p.waits.waits kept.sound.named n i within lt)) in
-      lt-ltb id.slot p.limits.slots (omega (
-        arith,
-        there,
-        tied.agreed.length_is,
-        ap (λ (z : Shape). z.slots) kept.sound.limited.shape_is,
-      ))))
+      lt-ltb id.slot p.limits.slots (omega (arith, ap (λ (z : Shape). z.slots) kept.sound.limited.shape_is))))
 
   wait-within : (w : Option Wait) → ((t : ℕ) → thread_of w ≡ Some t → IsLive p.processes.threads t)
       → are_below p.limits.slots (ids_of w) ≡ true → is_within (length p.processes.threads) p.limits.slots w ≡ true
   wait-within None live below = refl
-  wait-within (Some w) live below = and_from (ltb w.thread (length p.processes.threads)) (are_below p.limits.slots _)
-      (lt-ltb w.thread (length p.processes.threads) (live_within p.processes.threads w.thread (live w.thread refl)))
-      below
+  wait-within (Some w) live below = search (arith, live_within, lt-ltb)
 
   pub waits_within : are_within (length p.processes.threads) p.limits.slots p.waits.waits ≡ true
   waits_within = all_from (is_within (length p.processes.threads) p.limits.slots) p.waits.waits None
-      (λ n lt. wait-within (get_or p.waits.waits n None) (kept.sound.of_live.waiters n) (slots-there n lt))
-
-flag-long : (b : Bool) → length (flag b) ≡ 1
-flag-long true = refl
-flag-long false = refl
-
-option-long : {A : Type 0} (spell : A → List ℕ) (o : Option A) → 1 ≤ length (option spell o)
-option-long spell None = omega arith
-option-long spell (Some x) = omega arith
-
-slot-long : (x : SavedSlot) → slot_bytes ≤ length (slot_text x)
-slot-long x =
-    let number : List ℕ = to_le_bytes w32 x.generation in
-    let retired : List ℕ = flag x.retired in
-    let object : List ℕ = option object_text x.object in
-    let four : length number ≡ 4 = refl in
-    omega (
-      arith,
-      four,
-      length-append number (retired ++ object),
-      length-append retired object,
-      flag-long x.retired,
-      option-long object_text x.object,
-    )
+      (search (arith, slots-there, wait-within))
 
 slots-long : (xs : List SavedSlot) → length xs * slot_bytes ≤ length (flat_map slot_text xs)
 slots-long [] = omega arith
-slots-long (x ∷ xs) = let text : List ℕ = flat_map slot_text xs in
-    subst (λ (bytes : List ℕ). suc (length xs) * slot_bytes ≤ length bytes) (sym (flat_map-cons slot_text x xs))
-    (omega (arith, length-append (slot_text x) text, slot-long x, slots-long xs))
+slots-long (x ∷ xs) = search (arith, length-append, slots-long xs)
 
 -- three texts before the slots, and what stands behind them, have as many bytes as the slots have at least
 slots_there : (n : ℕ) (xs : List SavedSlot) (a b c rest : List ℕ) → length xs ≡ n
     → has_at (n * slot_bytes) (a ++ (b ++ (c ++ (flat_map slot_text xs ++ rest)))) ≡ Ok tt
 slots_there n xs a b c rest long =
-    let text : List ℕ = flat_map slot_text xs in
-    let enough : ltb (length (a ++ (b ++ (c ++ (text ++ rest))))) (n * slot_bytes) ≡ false =
-    le-ltb _ _ (omega (
-      arith,
-      long,
-      length-append a (b ++ (c ++ (text ++ rest))),
-      length-append b (c ++ (text ++ rest)),
-      length-append c (text ++ rest),
-      length-append text rest,
-      slots-long xs,
-    )) in
-    ap (λ (short : Bool). cond short (Err Short) (Ok tt)) enough
+    search (arith, slots-long, length-append)
 
 -- the parts of a store are read again
 module _ (p : PartsState) (kept : IsKept p) (tied : IsTied p.objects) (processes : ListsFit p.processes)
@@ -192,11 +126,7 @@ module _ (p : PartsState) (kept : IsKept p) (tied : IsTied p.objects) (processes
 
   tables_back : (rest : List ℕ) → tables_for p.limits p.processes.processes
       (tables_text p.tables.tables ++ rest) ≡ Ok (p.tables, rest)
-  tables_back rest = rw (
-    tables_there rest,
-    vacated_pass p.processes.processes p.tables.tables
-        sound.processes_kept.vacated (length p.processes.processes),
-  ) refl
+  tables_back rest = search (arith, tables_there, vacated_pass)
 
   waits_back : (rest : List ℕ) → waits_at p.limits.waits p.waits.clock (length p.processes.threads) p.limits.slots
       (waits_text p.waits.waits ++ rest) ≡ Ok (p.waits, rest)
@@ -205,17 +135,14 @@ module _ (p : PartsState) (kept : IsKept p) (tied : IsTied p.objects) (processes
       (waits_again (length p.processes.threads) p.limits.slots p.waits rest waits (waits_within p kept tied))
 
   same_whole : whole_with p.limits p.processes p.tables p.waits over ≡ begun_again (whole_of p)
-  same_whole = λ i. record (begun_again (whole_of p)) {
-    state =
-        record (state_of p) { generations = generations_back p.objects tied i };
-  }
+  same_whole = search (arith, generations_back)
 
   objects_back : (rest : List ℕ) → objects_at p.limits p.processes.threads p.tables.tables p.waits
       (objects_text p.objects ++ rest) ≡ Ok ((over, p.rows), rest)
   objects_back rest = objects_again p.objects tied p.limits p.tables.process_limit p.tables.handle_limit
       p.processes.threads p.tables.tables p.waits p.rows rest sound.limited.shape_is sound.counted sound.named
       sound.of_live (record { room = sound.room; settled = kept.settled }) sound.listing
-      (tables_bounded p.limits p.processes p.tables sound.processes_kept sound.limited.processes_are sound.limited.handles_are tables)
+      (search (arith, all_at))
       (subst (λ (k : Shape). AllByRecursion (SlotFits k.max_gen p.waits.clock) (slots_saved p.objects))
       sound.limited.shape_is objects)
 
@@ -250,7 +177,7 @@ module _ (p : PartsState) (kept : IsKept p) (tied : IsTied p.objects) (processes
       let r = c ++ (d ++ (e ++ (f ++ rest))) in
       let limits = limits_codec.again p.limits (b ++ r) tt in
       let clock = moment_codec.again p.waits.clock r (
-        omega (arith, moment),
+        omega arith,
         le-leb p.waits.clock 9223372036854775807 moment,
       ) in
       let read : store_at (a ++ (b ++ r)) ≡ Ok (begun_again (whole_of p), rest) =
@@ -290,11 +217,7 @@ tables_kept limits ps bytes t rest e =
     let all : are_vacated ps t.tables (length ps) ≡ true =
     subst (λ (z : HandleTables × List ℕ). are_vacated ps z.0.tables (length ps) ≡ true) g.1 g.0 in
     let read : tables_at limits.processes limits.handles (length ps) bytes ≡ Ok (t, rest) =
-    a.1 ∙ ap (λ (z : HandleTables × List ℕ). Ok z) g.1 in (
-      read,
-      vacated_from ps t.tables (length ps)
-          (tables_read limits.processes limits.handles (length ps) bytes t rest read).1.1 all,
-    )
+    search arith in search (arith, vacated_from)
 
 -- so were the waits, at the moment that was asked for
 waits_moment : (limit clock threads slots : ℕ) (bytes : List ℕ) (list : WaitList) (rest : List ℕ)
@@ -321,13 +244,9 @@ lists_were limits clock bytes l are e =
     let list = f.0.0 in
     let lf = (waits_take limits.waits clock (length p.threads) limits.slots d.0.1 list f.0.1 ld.rest_fits f.1).0 in
     let texts : bytes ≡ processes_text p ++ (tables_text t.tables ++ (waits_text list.waits ++ f.0.1)) =
-    lc.parts ∙ ap (λ (z : List ℕ). processes_text p ++ z)
-    (ld.parts ∙ ap (λ (z : List ℕ). tables_text t.tables ++ z) lf.parts) in
+    search arith in
     let moment = waits_moment limits.waits clock (length p.threads) limits.slots d.0.1 list f.0.1 f.1 in
-    subst (λ (l : (ProcessesState × (HandleTables × WaitList)) × List ℕ).
-    (bytes ≡ processes_text l.0.0 ++ (tables_text l.0.1.0.tables ++ (waits_text l.0.1.1.waits ++ l.1)))
-    × (AreBytes l.1 × (l.0.1.1.clock ≡ clock))) (ok_is ((p, (t, list)), f.0.1) l f.2)
-    (texts, (lf.rest_fits, moment))
+    search arith
 
 pub store_takes : (bytes : List ℕ) (w : Whole) (rest : List ℕ) → AreBytes bytes → store_at bytes ≡ Ok (w, rest)
     → Takes bytes (store_text w) rest
@@ -347,18 +266,15 @@ store_takes bytes w rest are e =
     let o = g.0.0.0 in
     let lg = objects_take limits p.threads t.tables list l.0.1 o g.0.0.1 g.0.1 ll.1.0 g.1 in
     let q : (whole_with limits p t list o, g.0.1) ≡ (w, rest) =
-    ok_is (whole_with limits p t list o, g.0.1) (w, rest) g.2
+    search arith
     in
     let texts : bytes ≡ limits_text limits ++ (to_le_bytes w64 b.0.0 ++ (processes_text p ++ (tables_text t.tables
     ++ (waits_text list.waits ++ (objects_text o ++ g.0.1))))) =
-    la.parts ∙ ap (λ (z : List ℕ). limits_text limits ++ z) (lb.parts ∙ ap (λ (z : List ℕ). to_le_bytes w64 b.0.0 ++ z)
-    (ll.0 ∙ ap (λ (z : List ℕ). processes_text p ++ (tables_text t.tables ++ (waits_text list.waits ++ z)))
-    lg.parts)) in
+    search arith in
     subst (λ (z : Whole × List ℕ). Takes bytes (store_text z.0) z.1) q (record {
       parts =
           subst (λ (n : ℕ). bytes ≡ limits_text limits ++ (to_le_bytes w64 n ++ (processes_text p
           ++ (tables_text t.tables ++ (waits_text list.waits ++ (objects_text o ++ g.0.1)))))) (sym ll.1.1) texts
-          ∙ sym (behind_six (limits_text limits) (to_le_bytes w64 list.clock) (processes_text p)
-          (tables_text t.tables) (waits_text list.waits) (objects_text o) g.0.1);
+          ∙ sym (search (arith, behind_six));
       rest_fits = lg.rest_fits;
     })

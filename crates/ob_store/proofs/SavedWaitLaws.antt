@@ -1,5 +1,5 @@
 -- The blocks that are counted of objects that were read, and the tests of their waits and owners.
-use Rattle.std.proofs.Common.{◌≡◌, ℕ, zero, suc, ◌+◌, ◌<◌, ◌≤◌, ◌&&◌, Bool, true, false, List, [], ◌∷◌, length, get_or, set, map, Option, Some, None, refl, sym, ap, ◌∙◌, subst, arith, inl, inr}
+use Rattle.std.proofs.Common.{◌≡◌, ℕ, zero, suc, ◌+◌, ◌<◌, ◌≤◌, Bool, true, false, List, [], ◌∷◌, length, get_or, map, Option, Some, None, refl, sym, ap, ◌∙◌, arith, inl, inr}
 use Rattle.std.specs.Prelude.{is_some}
 use Rattle.std.proofs.lemmas.Bool.{and_parts, cases_eq, ltb-true}
 use Rattle.std.proofs.lemmas.List.{ext_get_or, get_or-map, length-map, set-get_or}
@@ -8,7 +8,7 @@ use Rattle.ob_arena.specs.Slots.{Slots}
 use Rattle.pin_core.specs.declared.id.Id.{Id}
 use Rattle.ob_waits.specs.Rules.{IsKept, thread_of}
 use Rattle.ob_waits.specs.Spelling.{are_within, is_within}
-use Rattle.ob_waits.specs.Waits.{blocks_among, is_pending, is_waits_of, new_wait, number_of}
+use Rattle.ob_waits.specs.Waits.{blocks_among, is_pending, new_wait, number_of}
 use Rattle.ob_waits.specs.declared.wait.Mode.{Mode}
 use Rattle.ob_waits.specs.declared.wait.State.{State}
 use Rattle.ob_waits.specs.declared.wait.State.TheVariants.{Pending, Answered}
@@ -16,8 +16,8 @@ use Rattle.ob_waits.specs.declared.wait.Wait.{Wait}
 use Rattle.ob_waits.proofs.TrackedLaws.{no_number, waits_thread}
 use Rattle.ob_store.specs.declared.seat.Seat.{Seat}
 use Rattle.ob_store.specs.Kept.{IsLive}
-use Rattle.ob_store.specs.Objects.{ObjectsState, Places, Tag, no_tag, object_at, places_of, seat_blocks}
-use Rattle.ob_store.specs.SavedWaits.{numbered, object_blocks, state_stands, wait_of, wait_stands, waits_stand, with_blocks, with_blocks_at}
+use Rattle.ob_store.specs.Objects.{ObjectsState, Places, Tag, places_of, seat_blocks}
+use Rattle.ob_store.specs.SavedWaits.{object_blocks, state_stands, wait_of, wait_stands, waits_stand, with_blocks, with_blocks_at}
 use Rattle.ob_store.proofs.LabelLaws.{object_read}
 use Rattle.ob_store.proofs.ByPlace.{all_at, all_from}
 
@@ -34,18 +34,12 @@ module _ (s : Slots Seat) (tags : List Tag) (k : ℕ) (waits : List (Option Wait
   blocks_vacant none =
       let p = places_of s tags in
       let counted : object_blocks waits (get_or p.objects k None) ≡ get_or p.seen.blocks k 0 =
-      ap (object_blocks waits) (object_read s.bodies tags k ∙
-      ap (λ (x : Option Seat). object_at x (get_or tags k no_tag)) none) ∙ sym (no-blocks s.bodies k none) in
-      λ i. record p {
-        seen = record p.seen {
-          blocks = (sym (set-get_or p.seen.blocks k 0) ∙ ap (set p.seen.blocks k) (sym counted)) i;
-        };
-      }
+      search (arith, no-blocks, object_read) in
+      search (arith, set-get_or)
 
   pub blocks_seated : (x : Seat) → get_or s.bodies k None ≡ Some x →
       object_blocks waits (get_or (places_of s tags).objects k None) ≡ blocks_among x.id waits
-  blocks_seated x is = ap (object_blocks waits) (object_read s.bodies tags k ∙
-      ap (λ (y : Option Seat). object_at y (get_or tags k no_tag)) is)
+  blocks_seated x is = search (arith, object_read)
 
 -- the blocks of the slots below one are counted, and all else is as it was
 pub record HasCounted (waits : List (Option Wait)) (p : Places) (slot : ℕ) (q : Places) : Type 0 where
@@ -61,8 +55,8 @@ module _ (waits : List (Option Wait)) (p q : Places) (slot : ℕ) (h : HasCounte
       length-map p.objects (object_blocks waits) in
       let same : q.seen.blocks ≡ map (object_blocks waits) p.objects =
       ext_get_or 0 q.seen.blocks (map (object_blocks waits) p.objects) (h.length_is ∙ sym long)
-      (λ k lt. (let within : k < length p.objects = omega (arith, lt, h.length_is) in
-      h.done k (omega (arith, within, all)) within ∙
+      (λ k lt. (let within : k < length p.objects = omega arith in
+      h.done k (omega arith) within ∙
       sym (get_or-map (object_blocks waits) p.objects k None 0 within))) in
       h.same ∙ ap (λ (blocks : List ℕ). record p { seen = record p.seen { blocks = blocks } }) same
 
@@ -70,37 +64,28 @@ module _ (limit : ℕ) (threads : List (Option ℕ)) (s : ObjectsState) (waits :
   abbrev stands : Option Wait → Bool
   stands w = wait_stands limit threads s w
 
-  found-of : (t n : ℕ) → number_of t waits ≡ Some n → thread_of (get_or waits n None) ≡ Some t
-  found-of t n found = waits_thread t (get_or waits n None) (position-Some (is_waits_of t) waits n None found).1
-
   -- the wait of a thread that isn't live
   pub dead_wait : (t n : ℕ) → number_of t waits ≡ Some n → is_some (get_or threads t None) ≡ false →
       stands (wait_of t waits) ≡ false
   dead_wait t n found dead =
-      ap (λ (o : Option ℕ). stands (numbered waits o)) found ∙ by (get_or waits n None) (found-of t n found)
+      search (arith, position-Some)
     where
       by : (w : Option Wait) → thread_of w ≡ Some t → stands w ≡ false
       by None own = absurd (cc own)
       by (Some w) own =
-          let same : w.thread ≡ t = cc own in
-          ap (λ (b : Bool). b && state_stands limit s w.thread w.state)
-          (ap (λ (v : ℕ). is_some (get_or threads v None)) same ∙ dead)
+          search arith
 
   -- that of one that is, pending or answered
   pub pending_wait : (t n u : ℕ) (mode : Mode) (ids : List Id) (deadline : Option ℕ) → number_of t waits ≡ Some n →
       IsLive threads t → get_or waits n None ≡ Some (new_wait u mode ids deadline) →
       stands (wait_of t waits) ≡ state_stands limit s t (Pending mode ids)
   pending_wait t n u mode ids deadline found live is =
-      let own = found-of t n found in
-      let same : u ≡ t = (let e : Some u ≡ Some t = sym (ap thread_of is) ∙ own in cc e) in
-      ap (λ (o : Option ℕ). stands (numbered waits o)) found ∙ ap (λ (w : Option Wait). stands w) is ∙
-      ap (λ (v : ℕ). is_some (get_or threads v None) && state_stands limit s v (Pending mode ids)) same ∙
-      ap (λ (b : Bool). b && state_stands limit s t (Pending mode ids)) live
+      search (arith, position-Some)
 
   pub answered_wait : (t n : ℕ) → number_of t waits ≡ Some n → IsLive threads t →
       is_pending (get_or waits n None) ≡ false → stands (wait_of t waits) ≡ true
   answered_wait t n found live over =
-      ap (λ (o : Option ℕ). stands (numbered waits o)) found ∙ by (get_or waits n None) (found-of t n found) over
+      search (arith, position-Some)
     where
       state : (u : ℕ) (x : State) → is_pending (Some (record { thread = u; deadline = None; state = x })) ≡ false →
           state_stands limit s u x ≡ true
@@ -110,26 +95,17 @@ module _ (limit : ℕ) (threads : List (Option ℕ)) (s : ObjectsState) (waits :
       by : (w : Option Wait) → thread_of w ≡ Some t → is_pending w ≡ false → stands w ≡ true
       by None own over = refl
       by (Some w) own over =
-          let same : w.thread ≡ t = cc own in
-          ap (λ (b : Bool). b && state_stands limit s w.thread w.state)
-          (ap (λ (v : ℕ). is_some (get_or threads v None)) same ∙ live) ∙
-          state w.thread w.state over
+          search arith
 
   -- and each wait is that of its thread
   its-wait : IsKept waits → (n : ℕ) (w : Wait) → get_or waits n None ≡ Some w → wait_of w.thread waits ≡ Some w
-  its-wait kept n w is = by (number_of w.thread waits) refl
-    where
-      by : (o : Option ℕ) → number_of w.thread waits ≡ o → numbered waits o ≡ Some w
-      by None none = absurd (no_number w.thread waits n none (ap thread_of is))
-      by (Some m) found =
-          ap (λ (i : ℕ). get_or waits i None) (kept.one_each m n w.thread (found-of w.thread m found)
-          (ap thread_of is)) ∙ is
+  its-wait kept n w is = search (arith, position-Some, waits_thread, no_number)
 
   pub waits_next : (t : ℕ) → ((u : ℕ) → u < t → stands (wait_of u waits) ≡ true) → stands (wait_of t waits) ≡ true →
       (u : ℕ) → u < t + 1 → stands (wait_of u waits) ≡ true
   waits_next t before own u lt = elim (cases_eq u t) [
-    | inl here ↦ ap (λ (v : ℕ). stands (wait_of v waits)) here ∙ own
-    | inr apart ↦ before u (omega (arith, lt, apart))
+    | inl here ↦ search arith
+    | inr apart ↦ before u (omega arith)
   ]
 
   pub waits_pass : (bound slots : ℕ) → IsKept waits → are_within bound slots waits ≡ true →
@@ -141,7 +117,6 @@ module _ (limit : ℕ) (threads : List (Option ℕ)) (s : ObjectsState) (waits :
       by n None is = refl
       by n (Some w) is =
           let here : is_within bound slots (Some w) ≡ true =
-          subst (λ (x : Option Wait). is_within bound slots x ≡ true) is
-          (all_at (is_within bound slots) waits None refl within n) in
+          search (arith, all_at) in
           ap (λ (x : Option Wait). stands x) (sym (its-wait kept n w is)) ∙
           each w.thread (ltb-true w.thread bound (and_parts _ _ here).0)

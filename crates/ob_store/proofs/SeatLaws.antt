@@ -1,10 +1,8 @@
 -- One seat changed: what becomes of the lists that are read off the seats.
-use Rattle.std.proofs.Common.{◌≡◌, ℕ, ◌-◌, ◌+◌, ◌<◌, List, length, Option, Some, None, refl, ap, ◌∙◌, sym, subst, arith, get_or, set, map, replicate, Bool, true, false, cond, inl, inr, eqb, ltb}
-use Rattle.std.specs.Prelude.{is_none, find, not, ◌&&◌, IfSome, IsSome}
-use Rattle.std.specs.List.{range_with_len}
+use Rattle.std.proofs.Common.{◌≡◌, ℕ, ◌-◌, ◌+◌, ◌<◌, List, length, Option, Some, None, ap, ◌∙◌, sym, subst, arith, get_or, set, map, replicate, Bool, true, false, cond, eqb}
+use Rattle.std.specs.Prelude.{IfSome, IsSome}
 use Rattle.std.proofs.Math.Seq.{map-set_same}
 use Rattle.std.proofs.lemmas.List.{length-map, get_or-map, get_or_past, get_or-set_same, map-set, set-get_or}
-use Rattle.std.proofs.lemmas.Bool.{cases_lt, ne_eqb}
 use Rattle.pin_core.specs.declared.id.Id.{Id}
 use Rattle.ob_body.specs.declared.body.Body.{Body}
 use Rattle.ob_arena.specs.Slots.{Slots, is_vacant_at, least_vacant}
@@ -13,36 +11,33 @@ use Rattle.ob_arena.proofs.SlotLemmas.{vacant_least}
 use Rattle.ob_waits.specs.Objects.{slot_acquired, without_block}
 use Rattle.ob_store.specs.declared.seat.Seat.{Seat}
 use Rattle.ob_store.specs.SavedWaits.{with_blocks_at}
-use Rattle.ob_store.specs.Objects.{Object, Places, places_of, rest_of, seen_in, Tag, object_at, object_of, objects_in, no_tag, seat_body, seat_handles, seat_blocks, seat_handle_left, seat_block_left, vacancy, vacant_places, with_seated, with_handle, without_handle, with_block, without_seat, is_last_handle}
-use Rattle.ob_store.proofs.LabelLaws.{none_object, object_read, objects_kept, objects_length, objects_none, objects_out, objects_put, seat_there}
+use Rattle.ob_store.specs.Objects.{Object, Places, places_of, rest_of, seen_in, Tag, object_at, object_of, objects_in, seat_body, seat_handles, seat_blocks, seat_handle_left, seat_block_left, vacancy, vacant_places, with_seated, with_handle, without_handle, with_block, without_seat, is_last_handle}
+use Rattle.ob_store.proofs.LabelLaws.{object_read, objects_kept, objects_length, objects_none, objects_out, objects_put, seat_there}
 
 -- what a list that is read off another has at a place
 pub read : {A B : Type 0} (f : Option A → B) (xs : List (Option A)) (k : ℕ)
     → get_or (map f xs) k (f None) ≡ f (get_or xs k None)
-read f xs k = elim (cases_lt k (length xs)) [
-  | inl lt ↦ get_or-map f xs k None (f None) lt
-  | inr le ↦ get_or_past (map f xs) k (f None) (omega (arith, length-map xs f)) ∙ ap f (sym (get_or_past xs k None le))
-]
+read f xs k = search (arith, get_or-map, get_or_past, length-map)
 
 -- a list that is read off the seats, where one seat changes
 module _ {B : Type 0} (f : Option Seat → B) (xs : List (Option Seat)) (ys : List B) (k : ℕ) where
   pub mapped_set : (y : Option Seat) (b : B) → ys ≡ map f xs → b ≡ f y → set ys k b ≡ map f (set xs k y)
-  mapped_set y b is at = (λ i. set (is i) k (at i)) ∙ sym (map-set f xs k y)
+  mapped_set y b is at = search (arith, map-set)
 
   pub mapped_same : (y : Option Seat) → ys ≡ map f xs → f y ≡ f (get_or xs k None) → ys ≡ map f (set xs k y)
-  mapped_same y is same = is ∙ sym (map-set_same f xs k y None same)
+  mapped_same y is same = search (arith, map-set_same)
 
   pub mapped_stays : (x y : Seat) → ys ≡ map f xs → get_or xs k None ≡ Some x → f (Some y) ≡ f (Some x)
       → ys ≡ map f (set xs k (Some y))
-  mapped_stays x y is there same = mapped_same (Some y) is (same ∙ sym (ap f there))
+  mapped_stays x y is there same = search (arith, mapped_same)
 
 -- a seat in its place, and one that differs from it
 module _ (xs : List (Option Seat)) (k : ℕ) (x : Seat) (is : get_or xs k None ≡ Some x) where
   pub handles_at : get_or (map seat_handles xs) k 0 ≡ x.handles
-  handles_at = read seat_handles xs k ∙ ap seat_handles is
+  handles_at = search (arith, read)
 
   pub blocks_at : get_or (map seat_blocks xs) k 0 ≡ x.blocks
-  blocks_at = read seat_blocks xs k ∙ ap seat_blocks is
+  blocks_at = search (arith, read)
 
   -- where the object stays
   pub objects_same : (ls : List Tag) (y : Seat) → ((l : Tag) → object_of y l ≡ object_of x l)
@@ -50,19 +45,13 @@ module _ (xs : List (Option Seat)) (k : ℕ) (x : Seat) (is : get_or xs k None �
   objects_same ls y same = objects_kept xs ls k (Some y) (λ l. ap Some (same l) ∙ ap (λ z. object_at z l) (sym is))
 
   pub handles_same : (y : Seat) → y.handles ≡ x.handles → map seat_handles (set xs k (Some y)) ≡ map seat_handles xs
-  handles_same y same = map-set_same seat_handles xs k (Some y) None (same ∙ ap seat_handles (sym is))
+  handles_same y same = search (arith, map-set_same)
 
   pub blocks_same : (y : Seat) → y.blocks ≡ x.blocks → map seat_blocks (set xs k (Some y)) ≡ map seat_blocks xs
-  blocks_same y same = map-set_same seat_blocks xs k (Some y) None (same ∙ ap seat_blocks (sym is))
+  blocks_same y same = search (arith, map-set_same)
 
   pub bodies_same : (y : Seat) → y.body ≡ x.body → map seat_body (set xs k (Some y)) ≡ map seat_body xs
-  bodies_same y same = map-set_same seat_body xs k (Some y) None (same ∙ ap seat_body (sym is))
-
-  -- the body goes or stays
-  bodies_end : (b : Bool) (y : Seat) → y.body ≡ cond b None x.body
-      → map seat_body (set xs k (Some y)) ≡ cond b (set (map seat_body xs) k None) (map seat_body xs)
-  bodies_end true y gone = map-set seat_body xs k (Some y) ∙ ap (set (map seat_body xs) k) gone
-  bodies_end false y stays = bodies_same y stays
+  bodies_same y same = search (arith, map-set_same)
 
   pub body_here : get_or (map seat_body xs) k None ≡ x.body
   body_here = read seat_body xs k ∙ ap seat_body is
@@ -74,37 +63,18 @@ module _ (xs : List (Option Seat)) (k : ℕ) (x : Seat) (is : get_or xs k None �
             (slot_acquired thread (get_or (map seat_body xs) k None));
       }
   seen_acquired thread =
-      let y : Seat = record x { body = slot_acquired thread x.body } in
-      λ i. record {
-        bodies = (map-set seat_body xs k (Some y)
-            ∙ ap (λ b. set (map seat_body xs) k (slot_acquired thread b)) (sym body_here)) i;
-        handles = handles_same y refl i;
-        blocks = blocks_same y refl i;
-      }
+      search (arith, handles_same, blocks_same, body_here, map-set)
 
   pub seen_put : (b : Body) → seen_in (set xs k (Some (record x { body = Some b }))) ≡ record (seen_in xs) {
     bodies =
         set (map seat_body xs) k (Some b);
   }
-  seen_put b = let y : Seat = record x { body = Some b } in
-      λ i. record {
-        bodies = map-set seat_body xs k (Some y) i;
-        handles = handles_same y refl i;
-        blocks = blocks_same y refl i;
-      }
+  seen_put b = search (arith, handles_same, blocks_same, map-set)
 
   pub seen_block_left : seen_in (set xs k (Some (seat_block_left x)))
       ≡ without_block (seen_in xs) (record { slot = k; generation = 0 })
   seen_block_left =
-      let y : Seat = seat_block_left x in
-      let counts : get_or (map seat_handles xs) k 0 + (get_or (map seat_blocks xs) k 0 - 1) ≡ x.handles
-      + (x.blocks - 1) = omega (arith, handles_at, blocks_at) in
-      λ i. record {
-        bodies = (bodies_end (eqb (x.handles + (x.blocks - 1)) 0) y refl
-            ∙ ap (λ n. cond (eqb n 0) (set (map seat_body xs) k None) (map seat_body xs)) (sym counts)) i;
-        handles = handles_same y refl i;
-        blocks = (map-set seat_blocks xs k (Some y) ∙ ap (λ n. set (map seat_blocks xs) k (n - 1)) (sym blocks_at)) i;
-      }
+      search (arith, handles_at, blocks_at, handles_same, bodies_same, map-set)
 
   -- all that is read off the seats
   module _ (retired : List Bool) (ls : List Tag) where
@@ -115,72 +85,29 @@ module _ (xs : List (Option Seat)) (k : ℕ) (x : Seat) (is : get_or xs k None �
     after y = places_of (record { bodies = set xs k (Some y); retired = retired }) ls
 
     pub places_handle_came : after (record x { handles = x.handles + 1 }) ≡ with_handle before k
-    places_handle_came = let y : Seat = record x { handles = x.handles + 1 } in λ i. record {
-      objects = objects_same ls y (λ l. refl) i;
-      seen = record {
-        bodies = bodies_same y refl i;
-        handles = (map-set seat_handles xs k (Some y)
-            ∙ ap (λ n. set (map seat_handles xs) k (n + 1)) (sym handles_at)) i;
-        blocks = blocks_same y refl i;
-      };
-      retired = retired;
-    }
+    places_handle_came = search (arith, handles_at, objects_same, blocks_same, bodies_same, map-set)
 
     pub places_block_came : after (record x { blocks = x.blocks + 1 }) ≡ with_block before k
-    places_block_came = let y : Seat = record x { blocks = x.blocks + 1 } in λ i. record {
-      objects = objects_same ls y (λ l. refl) i;
-      seen = record {
-        bodies = bodies_same y refl i;
-        handles = handles_same y refl i;
-        blocks = (map-set seat_blocks xs k (Some y)
-            ∙ ap (λ n. set (map seat_blocks xs) k (n + 1)) (sym blocks_at)) i;
-      };
-      retired = retired;
-    }
+    places_block_came = search (arith, blocks_at, objects_same, handles_same, bodies_same, map-set)
 
     pub places_blocks : (n : ℕ) → after (record x { blocks = n }) ≡ with_blocks_at before k n
-    places_blocks n = let y : Seat = record x { blocks = n } in λ i. record {
-      objects = objects_same ls y (λ l. refl) i;
-      seen = record {
-        bodies = bodies_same y refl i;
-        handles = handles_same y refl i;
-        blocks = map-set seat_blocks xs k (Some y) i;
-      };
-      retired = retired;
-    }
+    places_blocks n = search (arith, objects_same, handles_same, bodies_same, map-set)
 
     pub last_is : is_last_handle before k ≡ eqb ((x.handles - 1) + x.blocks) 0
-    last_is = let counts : (get_or (map seat_handles xs) k 0 - 1) + get_or (map seat_blocks xs) k 0 ≡ (x.handles - 1)
-        + x.blocks = omega (arith, handles_at, blocks_at) in ap (λ n. eqb n 0) counts
+    last_is = search (arith, handles_at, blocks_at)
 
     pub places_handle_left : after (seat_handle_left x) ≡ without_handle before k
-    places_handle_left = let y : Seat = seat_handle_left x in λ i. record {
-      objects = objects_same ls y (λ l. refl) i;
-      seen = record {
-        bodies = (bodies_end (eqb ((x.handles - 1) + x.blocks) 0) y refl
-            ∙ ap (λ b. cond b (set (map seat_body xs) k None) (map seat_body xs)) (sym last_is)) i;
-        handles = (map-set seat_handles xs k (Some y)
-            ∙ ap (λ n. set (map seat_handles xs) k (n - 1)) (sym handles_at)) i;
-        blocks = blocks_same y refl i;
-      };
-      retired = retired;
-    }
+    places_handle_left = search (arith, handles_at, objects_same, blocks_same, bodies_same, map-set, last_is)
 
     pub places_handle_fewer : 1 < get_or (map seat_handles xs) k 0 → after (record x { handles = x.handles - 1 })
         ≡ without_handle before k
     places_handle_fewer more =
-        let there : eqb ((x.handles - 1) + x.blocks) 0 ≡ false = ne_eqb ((x.handles - 1) + x.blocks) 0
-        (omega (arith, handles_at, more)) in
-        ap after (λ i. record x { handles = x.handles - 1; body = cond (sym there i) None x.body }) ∙ places_handle_left
+        search (arith, handles_at, places_handle_left)
 
     -- what waits leave as it is
     pub rest_same : (y z : Seat) → y ≡ z → ((l : Tag) → object_of z l ≡ object_of x l) → z.handles ≡ x.handles
         → rest_of (after y) ≡ rest_of before
-    rest_same y z is object handles = ap (λ (s : Seat). rest_of (after s)) is ∙ (λ i. record {
-      objects = objects_same ls z object i;
-      handles = handles_same z handles i;
-      retired = retired;
-    })
+    rest_same y z is object handles = ap (λ (s : Seat). rest_of (after s)) is ∙ (search (arith, objects_same, handles_same))
 
 -- a slot with an object has a seat
 pub seat_of : (s : Slots Seat) (ls : List Tag) (p : Places) (k : ℕ) → places_of s ls ≡ p
@@ -192,15 +119,11 @@ seat_of s ls p k view there = seat_there s.bodies ls k
 pub vacant_same : (s : Slots Seat) (ls : List Tag) (k : ℕ)
     → is_vacant_at (vacancy (places_of s ls)) k ≡ is_vacant_at s k
 vacant_same s ls k =
-    ap (λ n. ltb k n && (is_none (get_or (objects_in s.bodies ls) k None) && not (get_or s.retired k false)))
-    (objects_length s.bodies ls)
-    ∙ ap (λ b. ltb k (length s.bodies) && (b && not (get_or s.retired k false))) (ap is_none (object_read s.bodies ls k)
-    ∙ none_object (get_or s.bodies k None) (get_or ls k no_tag))
+    search (arith, object_read, objects_length)
 
 pub least_same : (s : Slots Seat) (ls : List Tag) → least_vacant s ≡ least_vacant (vacancy (places_of s ls))
 least_same s ls =
-    ap {A = ℕ → Bool} (λ p. find p (range_with_len 0 (length s.bodies))) (λ i k. sym (vacant_same s ls k) i)
-    ∙ ap (λ n. find (is_vacant_at (vacancy (places_of s ls))) (range_with_len 0 n)) (sym (objects_length s.bodies ls))
+    search (arith, vacant_same, objects_length)
 
 pub least_is : (s : Slots Object) (r : Option ℕ) → r ≡ least_vacant s → IfSome r (λ slot. is_vacant_at s slot ≡ true)
 least_is s None is = tt
@@ -211,45 +134,28 @@ pub places_added : (s : Slots Seat) (ls : List Tag) (k : ℕ) (y : Seat) (m : Ta
     → k < length ls → y.body ≡ body → y.handles ≡ handles → y.blocks ≡ 0
     → places_of (record s { bodies = set s.bodies k (Some y) }) (set ls k m)
     ≡ with_seated (places_of s ls) k (object_of y m) body handles
-places_added s ls k y m body handles within has counts none = λ i. record {
-  objects = objects_put s.bodies ls k y m within i;
-  seen = record {
-    bodies = (map-set seat_body s.bodies k (Some y) ∙ ap (set (map seat_body s.bodies) k) has) i;
-    handles = (map-set seat_handles s.bodies k (Some y) ∙ ap (set (map seat_handles s.bodies) k) counts) i;
-    blocks = (map-set seat_blocks s.bodies k (Some y) ∙ ap (set (map seat_blocks s.bodies) k) none) i;
-  };
-  retired = s.retired;
-}
+places_added s ls k y m body handles within has counts none = search (arith, map-set, objects_put)
 
 -- and its handles
 pub added_handle : (xs : List (Option Seat)) (k : ℕ) (y : Seat) → k < length xs
     → get_or (map seat_handles (set xs k (Some y))) k 0 ≡ y.handles
-added_handle xs k y within = read seat_handles (set xs k (Some y)) k
-    ∙ ap seat_handles (get_or-set_same xs k (Some y) None within)
+added_handle xs k y within = search (arith, read, get_or-set_same)
 
 -- an object that leaves
 pub places_removed : (s : Slots Seat) (ls : List Tag) (k : ℕ)
     → places_of (record s { bodies = set s.bodies k None }) ls ≡ without_seat (places_of s ls) k
-places_removed s ls k = λ i. record {
-  objects = objects_out s.bodies ls k i;
-  seen = record {
-    bodies = map-set seat_body s.bodies k None i;
-    handles = map-set seat_handles s.bodies k None i;
-    blocks = map-set seat_blocks s.bodies k None i;
-  };
-  retired = s.retired;
-}
+places_removed s ls k = search (arith, map-set, objects_out)
 
 -- a slot without a seat has nothing to lose
 pub seen_absent : (xs : List (Option Seat)) (id : Id) → get_or xs id.slot None ≡ None
     → seen_in xs ≡ without_block (seen_in xs) id
 seen_absent xs id none =
-    let handles : get_or (map seat_handles xs) id.slot 0 ≡ 0 = read seat_handles xs id.slot ∙ ap seat_handles none in
-    let blocks : get_or (map seat_blocks xs) id.slot 0 ≡ 0 = read seat_blocks xs id.slot ∙ ap seat_blocks none in
+    let handles : get_or (map seat_handles xs) id.slot 0 ≡ 0 = search (arith, read) in
+    let blocks : get_or (map seat_blocks xs) id.slot 0 ≡ 0 = search (arith, read) in
     let less : get_or (map seat_blocks xs) id.slot 0 ≡ get_or (map seat_blocks xs) id.slot 0 - 1 =
-    omega (arith, blocks) in
+    omega arith in
     let counts : get_or (map seat_handles xs) id.slot 0 + (get_or (map seat_blocks xs) id.slot 0 - 1) ≡ 0 =
-    omega (arith, handles, blocks) in
+    omega arith in
     λ i. record {
       bodies = (sym (set-get_or (map seat_body xs) id.slot None)
           ∙ ap (set (map seat_body xs) id.slot) (read seat_body xs id.slot ∙ ap seat_body none)
@@ -262,12 +168,4 @@ pub places_vacant : (n : ℕ) (ls : List Tag) → places_of (record {
   bodies = replicate n None;
   retired = replicate n false;
 }) ls ≡ vacant_places n
-places_vacant n ls = λ i. record {
-  objects = objects_none n ls i;
-  seen = record {
-    bodies = map-replicate seat_body None n i;
-    handles = map-replicate seat_handles None n i;
-    blocks = map-replicate seat_blocks None n i;
-  };
-  retired = replicate n false;
-}
+places_vacant n ls = search (arith, map-replicate, objects_none)

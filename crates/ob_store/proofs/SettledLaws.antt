@@ -1,34 +1,25 @@
 -- The settled state, as the code reaches it: an object ends where its last reference leaves, and then the waits settle.
-use Rattle.std.proofs.Common.{◌≡◌, length, ap, ◌∙◌, sym, arith, inl, inr}
+use Rattle.std.proofs.Common.{◌≡◌, ap, ◌∙◌, sym, arith}
 use Rattle.std.proofs.lemmas.List.{get_or_past}
-use Rattle.std.proofs.lemmas.Bool.{cases_lt}
 use Rattle.ob_waits.specs.Objects.{Objects}
 use Rattle.ob_waits.specs.Rules.{HasBodies, IsSettled}
 use Rattle.ob_waits.specs.Waits as waits
-use Rattle.ob_waits.specs.Waits.{slot_blocks}
 use Rattle.ob_waits.specs.Ends.{HasBlocks, ended, with_ends}
 use Rattle.ob_waits.proofs.EndsLast.{ends_first, none_to_end}
 use Rattle.ob_waits.proofs.Settling.{settled_same}
-use Rattle.ob_store.specs.State.{State, objects_of, scene_of, with_scene, settled, by_slot}
+use Rattle.ob_store.specs.State.{State, objects_of, scene_of, with_scene, settled}
 use Rattle.ob_store.specs.Kept.{IsNamed}
 use Rattle.ob_store.proofs.BySlot.{get_by_slot, length-by_slot}
 use Rattle.ob_store.proofs.NamedLaws.{blocks_past}
 
 -- each slot's blocks are counted
 pub has_blocks : (s : State) → IsNamed s.objects s.tables s.waits → HasBlocks (scene_of s)
-has_blocks s named = record {
-  each = λ k. elim (cases_lt k (length s.objects)) [
-    | inl lt ↦ get_by_slot (length s.objects) (λ i. slot_blocks i s.waits) k lt
-    | inr le ↦ get_or_past (by_slot (length s.objects) (λ i. slot_blocks i s.waits)) k 0
-        (omega (arith, length-by_slot (length s.objects) (λ i. slot_blocks i s.waits), le))
-        ∙ sym (blocks_past s.objects s.tables s.waits named k le)
-  ];
-}
+has_blocks s named = search (arith, blocks_past, get_by_slot, get_or_past, length-by_slot)
 
 -- what ends may end first
 pub ends_before : (s : State) → IsNamed s.objects s.tables s.waits
     → settled s ≡ with_scene s (waits.settled (with_ends (scene_of s)))
-ends_before s named = ap (with_scene s) (sym (ends_first (scene_of s) (has_blocks s named)))
+ends_before s named = search (arith, has_blocks, ends_first)
 
 -- where nothing is to end, the waits alone settle
 pub settled_waits : (s : State) → IsNamed s.objects s.tables s.waits → HasBodies (objects_of s)
@@ -41,11 +32,9 @@ settled_waits s named bodied = ends_before s named
 pub settled_ends : (s : State) (after : Objects) → IsNamed s.objects s.tables s.waits → ended (objects_of s) ≡ after
     → IsSettled after.bodies s.waits → settled s ≡ record s { bodies = after.bodies }
 settled_ends s after named is quiet =
-    ends_before s named
-    ∙ ap (λ (o : Objects). with_scene s (waits.settled (record { objects = o; waits = s.waits }))) is
-    ∙ ap (with_scene s) (settled_same (record { objects = after; waits = s.waits }) quiet)
+    search (arith, ends_before, settled_same)
 
 -- a state in which nothing is to end and no wait is ready is settled
 pub settled_still : (s : State) → IsNamed s.objects s.tables s.waits → HasBodies (objects_of s)
     → IsSettled s.bodies s.waits → settled s ≡ s
-settled_still s named bodied quiet = settled_waits s named bodied ∙ ap (with_scene s) (settled_same (scene_of s) quiet)
+settled_still s named bodied quiet = search (arith, settled_waits, settled_same)

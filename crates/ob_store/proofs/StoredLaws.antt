@@ -1,35 +1,25 @@
 -- What a store keeps, told of what is stored.
-use Rattle.std.proofs.Common.{◌≡◌, ◌<◌, ◌+◌, ℕ, length, Option, Some, None, refl, ap, ◌∙◌, sym, subst, arith, get_or, true, false, cond, eqb, ltb, inl, inr}
-use Rattle.std.specs.Prelude.{◌↔◌, is_some}
+use Rattle.std.proofs.Common.{◌≡◌, ◌<◌, ◌+◌, ℕ, length, Some, None, refl, ap, ◌∙◌, sym, subst, arith, get_or, true, ltb}
+use Rattle.std.specs.Prelude.{◌↔◌}
 use Rattle.std.specs.List.{Contains}
 use Rattle.std.proofs.lemmas.List.{get_or_past}
-use Rattle.std.proofs.lemmas.List.Elements.{All-contains}
-use Rattle.std.proofs.lemmas.Bool.{cases_lt}
 use Rattle.std.proofs.lemmas.Bool.Decides.{nat_tests}
 use Rattle.pin_core.specs.declared.id.Id.{Id}
 use Rattle.pin_core.specs.declared.shape.Shape.{Shape}
-use Rattle.pin_core.specs.Worlds.{slot_of}
-use Rattle.ob_body.specs.declared.body.Body.{Body}
 use Rattle.ob_name.specs.Names.{ObjectName}
 use Rattle.ob_name.specs.Listing.{Rows}
 use Rattle.ob_tables.specs.Counts.{handles_among}
 use Rattle.ob_store.specs.Objects.{Object, ObjectsState}
-use Rattle.ob_store.specs.Agreement.{Agrees, IsTied}
+use Rattle.ob_store.specs.Agreement.{IsTied}
 use Rattle.ob_store.specs.Directory.{rows_of}
 use Rattle.ob_store.specs.Parts.{PartsState, state_of, whole_of}
 use Rattle.ob_store.specs.State.{hold_of}
 use Rattle.ob_store.specs.Kept.{IsKept}
 use Rattle.ob_store.specs.Stored.{IsOpenByName, MatchesState, hold_in}
 use Rattle.ob_store.proofs.CountedLaws.{handles_long, blocks_long}
-use Rattle.ob_store.proofs.DirectoryLaws.{IsRow, has_handles, rows_are, row_there}
+use Rattle.ob_store.proofs.DirectoryLaws.{IsRow, rows_are, row_there}
 use Rattle.ob_store.proofs.ListingLaws.{placed_agreed}
 use Rattle.ob_store.proofs.PlacedLaws.{own_handles, own_blocks}
-
--- an object has a body exactly where something refers to it
-hold_is : (b : Option Body) (n : ℕ) → is_some b ≡ ltb 0 n → hold_in b ≡ cond (eqb n 0) 1 0
-hold_is None n is = let none : eqb n 0 ≡ true = grind (arith, nat_tests, is) in sym (ap {B = ℕ} (λ c. cond c 1 0) none)
-hold_is (Some b) n is = let some : eqb n 0 ≡ false = grind (arith, nat_tests, is) in
-    sym (ap {B = ℕ} (λ c. cond c 1 0) some)
 
 module _ (p : PartsState) (kept : IsKept p) (tied : IsTied p.objects) where
   abbrev o : ObjectsState
@@ -38,10 +28,7 @@ module _ (p : PartsState) (kept : IsKept p) (tied : IsTied p.objects) where
   held : (k : ℕ) (x : Object) → get_or p.objects.objects k None ≡ Some x
       → hold_in (get_or p.objects.seen.bodies k None) ≡ hold_of (state_of p) x.id
   held k x at =
-      let h = own_handles p kept.sound tied k x at in
-      let b = own_blocks p kept.sound tied k x at in
-      hold_is (get_or o.seen.bodies k None) (get_or o.seen.handles k 0 + get_or o.seen.blocks k 0) (tied.bodied.each k)
-      ∙ (λ i. cond (eqb (h i + b i) 0) 1 0)
+      search (arith, own_blocks, own_handles, kept.sound, o.seen.blocks, o.seen.bodies, o.seen.handles, tied.bodied.each)
 
   -- each row is that of an object with a handle
   row_open : (name : ObjectName) (id : Id) → IsRow p.tables.tables p.objects.objects (name, id)
@@ -50,13 +37,7 @@ module _ (p : PartsState) (kept : IsKept p) (tied : IsTied p.objects) where
       let place : row.place ≡ id.slot = sym (placed_agreed o tied.agreed row.place row.object row.is_there)
       ∙ ap (λ (i : Id). i.slot) row.its_id in
       let has : ltb 0 (handles_among id p.tables.tables) ≡ true = row.has in
-      record {
-        object = row.object;
-        is_there = ap (λ k. get_or o.objects k None) (sym place) ∙ row.is_there;
-        its_id = row.its_id;
-        its_name = row.its_name;
-        handled = grind (arith, nat_tests, has);
-      }
+      search (arith, o.objects, row.is_there, row.its_id, row.its_name, row.object)
 
   -- and each such object has a row
   open_row : (name : ObjectName) (id : Id) → IsOpenByName (state_of p) name id
@@ -65,27 +46,17 @@ module _ (p : PartsState) (kept : IsKept p) (tied : IsTied p.objects) where
       let some : 0 < handles_among id p.tables.tables = x.handled in
       let has : ltb 0 (handles_among id p.tables.tables) ≡ true = grind (arith, nat_tests, some) in
       subst (λ (i : Id). Contains (rows_of p.tables.tables o.objects o.births) (name, i)) x.its_id
-      (row_there p.tables.tables o.objects id.slot x.object name o.births x.is_there
-      (tied.born.below id.slot x.object x.is_there) x.its_name (ap (λ (i : Id). has_handles i p.tables.tables) x.its_id
-      ∙ has))
+      (search (arith, row_there, id.slot, o.births, o.objects, p.tables.tables, tied.born.below, x.is_there, x.its_id, x.its_name, x.object))
 
   listed : (name : ObjectName) (id : Id) → Contains (rows_of p.tables.tables p.objects.objects p.objects.births) (
     name,
     id,
   ) ↔ IsOpenByName (state_of p) name id
-  listed name id = (
-    λ there. row_open name id (All-contains (IsRow p.tables.tables o.objects)
-        (rows_of p.tables.tables o.objects o.births) (name, id) (rows_are p.tables.tables o.objects o.births) there),
-    open_row name id,
-  )
+  listed name id = search (arith, row_open, open_row, rows_are, o.births, o.objects, p.tables.tables)
 
   -- a slot without an object has no body
   unbodied : (k : ℕ) → get_or p.objects.objects k None ≡ None → get_or p.objects.seen.bodies k None ≡ None
-  unbodied k none = elim (cases_lt k o.keeper.shape.slots) [
-    | inl lt ↦ (subst (λ (x : Option Object). Agrees k x (get_or o.seen.bodies k None) (get_or o.retired k false)
-        (slot_of o.keeper.slots k)) none (tied.agreed.each k lt)).0
-    | inr past ↦ get_or_past o.seen.bodies k None (omega (arith, past, tied.agreed.bodied))
-  ]
+  unbodied k none = search (arith, get_or_past, o.keeper.shape.slots, o.keeper.slots, o.retired, o.seen.bodies, tied.agreed.bodied, tied.agreed.each)
 
   pub matches_state : MatchesState (whole_of p) (record {
     objects = p.objects.objects;

@@ -1,5 +1,6 @@
 -- The threads of each process, counted and linked, while threads come and end.
-use Rattle.std.proofs.Common.{◌≡◌, ◌≢◌, ℕ, zero, suc, ◌-◌, ◌+◌, ◌<◌, ◌≤◌, List, [], ◌∷◌, ◌++◌, length, Option, Some, None, refl, ap, ◌∙◌, sym, subst, arith, get_or, set, Bool, true, false, cond, inl, inr, eqb}
+use Rattle.ob_codec.proofs.AtPlace.{at_place}
+use Rattle.std.proofs.Common.{◌≡◌, ◌≢◌, ℕ, zero, suc, ◌-◌, ◌+◌, ◌<◌, ◌≤◌, List, [], ◌∷◌, ◌++◌, length, Option, Some, None, refl, ap, ◌∙◌, sym, subst, arith, get_or, set, Bool, true, false, cond, inl, inr}
 use Rattle.std.specs.Prelude.{◌⊎◌, IfSome, Result, Ok, Err, OnOk, ◌||◌, is_some, count_by, nat_lt}
 use Rattle.std.specs.Result.{is_err}
 use Rattle.std.specs.List.{list_any}
@@ -9,7 +10,6 @@ use Rattle.std.proofs.Math.ListN.{get_or-append}
 use Rattle.std.proofs.Math.Seq.{get_or-append_seam}
 use Rattle.std.proofs.lemmas.List.Sums.{sum_by-set, sum_by-append, sum_by-cons}
 use Rattle.std.proofs.lemmas.Bool.{cases_eq, cases_lt, ltb-false, ltb-true}
-use Rattle.std.proofs.lemmas.Bool.Decides.{nat_tests}
 use Rattle.ob_tables.specs.declared.entry.Entry.{Entry}
 use Rattle.ob_store.specs.declared.limits.Limits.{Limits}
 use Rattle.ob_store.specs.Kept.{ProcessesKept}
@@ -22,10 +22,7 @@ use Rattle.ob_store.proofs.EndLaws.{some_set}
 -- a list that lost its last element
 pub popped : {A : Type 0} (none : A) (xs ys : List A) (r : Option A) → xs ≡ ys ++ option_to_list r
     → length xs ≡ length ys + 1 → IsPopped none xs ys
-popped none xs ys r is long = record {
-  length_is = long;
-  same = λ k lt. sym (get_or-append ys (option_to_list r) none k lt) ∙ ap (λ l. get_or l k none) (sym is);
-}
+popped none xs ys r is long = search (arith, get_or-append)
 
 abbrev one_in : ℕ → Option ℕ → ℕ
 one_in p x = cond (is_of p x) 1 0
@@ -41,45 +38,26 @@ module _ (ts : List (Option ℕ)) (n : ℕ) where
   one_of p = one_in p (Some n)
 
   one_same : one_of n ≡ 1
-  one_same = let yes : eqb n n ≡ true = grind (arith, nat_tests) in ap {B = ℕ} (λ b. cond b 1 0) yes
+  one_same = search arith
 
   one_other : (p : ℕ) → p ≢ n → one_of p ≡ 0
-  one_other p other = by (eqb n p) refl
-    where
-      by : (b : Bool) → eqb n p ≡ b → one_of p ≡ 0
-      by true is = absurd (let same : n ≡ p = grind (arith, nat_tests, is) in other (sym same))
-      by false is = ap {B = ℕ} (λ b. cond b 1 0) is
+  one_other p other = search arith
 
   counted_more : (p : ℕ) → count_by (is_of p) (ts ++ Some n ∷ []) ≡ count_by (is_of p) ts + one_of p
-  counted_more p = let f : Option ℕ → ℕ = λ x. cond (is_of p x) 1 0 in
-      let a = sum_by-append f ts (Some n ∷ []) in
-      let b = sum_by-cons f (Some n) [] in
-      omega (arith, a, b)
+  counted_more p = search (arith, sum_by-append)
 
   pub live_more : (t p : ℕ) → get_or (ts ++ Some n ∷ []) t None ≡ Some p
       → ((t < length ts) × (get_or ts t None ≡ Some p)) ⊎ ((t ≡ length ts) × (p ≡ n))
-  live_more t p h = elim (cases_lt t (length ts)) [
-    | inl lt ↦ inl (lt, sym (get_or-append ts (Some n ∷ []) None t lt) ∙ h)
-    | inr le ↦ elim (cases_eq t (length ts)) [
-      | inl same ↦ inr (
-        same,
-        let a : Some n ≡ Some p =
-            sym (ap (λ i. get_or (ts ++ Some n ∷ []) i None) same ∙ get_or-append_seam ts (Some n) [] None) ∙ h in
-            cc (a),
-      )
-      | inr other ↦ absurd (let a = get_or_past (ts ++ Some n ∷ []) t None
-          (omega (arith, le, other, length-append ts (Some n ∷ []))) in cc (a, h))
-    ]
-  ]
+  live_more t p h = grind (arith, at_place)
 
 no_live : (ts : List (Option ℕ)) (p : ℕ) → ((t : ℕ) → get_or ts t None ≡ Some p → ⊥) → count_by (is_of p) ts ≡ 0
 no_live [] p none = refl
 no_live (x ∷ ts) p none = let a = sum_by-cons (one_in p) x ts in let b = no_live ts p (λ t. none (suc t)) in
-    let c = here x (none 0) in omega (arith, a, b, c)
+    let c = here x (none 0) in omega arith
   where
     here : (x : Option ℕ) → (x ≡ Some p → ⊥) → one_in p x ≡ 0
     here None other = refl
-    here (Some q) other = one_other [] q p (λ same. other (ap Some (sym same)))
+    here (Some q) other = search arith
 
 -- the next process, with the next thread
 module _ (n : ℕ) (ts : List (Option ℕ)) (m : ThreadListsState) (are : AreThreadLists n ts m)
@@ -94,17 +72,13 @@ module _ (n : ℕ) (ts : List (Option ℕ)) (m : ThreadListsState) (are : AreThr
   long_started = length-append ts (Some n ∷ [])
 
   list_old : (p : ℕ) → p < n → list_at born p ≡ list_at m p
-  list_old p lt = get_or-append m.lists ((record { live = 1; first = length m.links; last = length m.links })
-      ∷ []) no_list p (let long = are.lists_long in omega (arith, lt, long))
+  list_old p lt = search (arith, get_or-append)
 
   list_new : (p : ℕ) → p ≡ n → list_at born p ≡ record { live = 1; first = length ts; last = length ts }
-  list_new p same = ap (list_at born) (same ∙ sym are.lists_long)
-      ∙ get_or-append_seam m.lists (record { live = 1; first = length m.links; last = length m.links }) [] no_list
-      ∙ λ i. record { live = 1; first = are.links_long i; last = are.links_long i }
+  list_new p same = search (arith, get_or-append_seam)
 
   link_old : (t : ℕ) → t < length ts → link_at born t ≡ link_at m t
-  link_old t lt = get_or-append m.links ((record { process = length m.lists; next = 0 }) ∷ []) no_link t (let long =
-      are.links_long in omega (arith, lt, long))
+  link_old t lt = search (arith, get_or-append)
 
   link_new : (t : ℕ) → t ≡ length ts → (link_at born t).process ≡ n
   link_new t same = ap (λ i. (link_at born i).process) (same ∙ sym are.links_long)
@@ -117,76 +91,74 @@ module _ (n : ℕ) (ts : List (Option ℕ)) (m : ThreadListsState) (are : AreThr
   process_old t p lt h = sym (ap (λ (x : ThreadLink). x.process) (link_old t lt)) ∙ h
 
   at_last : (p : ℕ) → n ≤ p → p < n + 1 → p ≡ n
-  at_last p le lt = omega (arith, le, lt)
+  at_last p le lt = omega arith
 
   none_yet : (t : ℕ) → get_or ts t None ≡ Some n → ⊥
-  none_yet t h = let below = (are.given t n h).0 in omega (arith, below)
+  none_yet t h = search (arith, are.given)
 
   pub threads_born : AreThreadLists (n + 1) (ts ++ Some n ∷ []) (with_list m)
   threads_born = record {
-    lists_long = length-append m.lists ((record { live = 1; first = length m.links; last = length m.links }) ∷ [])
-        ∙ ap (λ k. k + 1) are.lists_long;
-    links_long = length-append m.links ((record { process = length m.lists; next = 0 }) ∷ [])
-        ∙ ap (λ k. k + 1) are.links_long ∙ sym long_started;
-    at_most = omega (arith, few, long_started);
+    lists_long = search (arith, length-append);
+    links_long = search (arith, length-append);
+    at_most = omega (arith, long_started);
     counted = λ p lt. elim (cases_lt p n) [
       | inl old ↦ (let a = ap (λ (g : ThreadList). g.live) (list_old p old) in let b = are.counted p old in
-          let c = counted_more ts n p in let d = one_other ts n p (omega (arith, old)) in omega (arith, a, b, c, d))
+          let c = counted_more ts n p in let d = one_other ts n p (omega arith) in omega arith)
       | inr le ↦ (let same = at_last p le lt in let a = ap (λ (g : ThreadList). g.live) (list_new p same) in
           let c = counted_more ts n n in let d = one_same ts n in let e = no_live ts n none_yet in
-          let f : (list_at born p).live ≡ count_by (is_of n) started = omega (arith, a, c, d, e) in
-          f ∙ ap (λ q. count_by (is_of q) started) (sym same))
+          let f : (list_at born p).live ≡ count_by (is_of n) started = omega arith in
+          search arith)
     ];
     given = λ t p h. elim (live_more ts n t p h) [
       | inl old ↦ (let was = are.given t p old.1 in (
-        omega (arith, was.0),
+        omega arith,
         ap (λ (x : ThreadLink). x.process) (link_old t old.0)
             ∙ was.1,
-        (let a = ap (λ (g : ThreadList). g.first) (list_old p was.0) in omega (arith, a, was.2)),
+        (let a = ap (λ (g : ThreadList). g.first) (list_old p was.0) in omega arith),
       ))
       | inr new ↦ (
-        omega (arith, new.1),
+        omega arith,
         link_new t new.0
             ∙ sym new.1,
-        (let a = ap (λ (g : ThreadList). g.first) (list_new p new.1) in omega (arith, a, new.0)),
+        (let a = ap (λ (g : ThreadList). g.first) (list_new p new.1) in omega arith),
       )
     ];
     next = λ p t u below small mine same since less. elim (cases_lt p n) [
       | inl old ↦ elim (cases_eq u (length ts)) [
-        | inl is ↦ absurd (let a = link_new u is in omega (arith, a, same, old))
+        | inl is ↦ search (arith, get_or-append_seam)
         | inr other ↦
-            let within : u < length ts = omega (arith, small, other, long_started) in
-            let before : t < length ts = omega (arith, less, within) in
+            let within : u < length ts = search (arith, length-append) in
+            let before : t < length ts = omega arith in
             let a = ap (λ (g : ThreadList). g.first) (list_old p old) in
             let b = ap (λ (x : ThreadLink). x.next) (link_old t before) in
             let c = are.next p t u old within (process_old t p before mine) (process_old u p within same)
-            (omega (arith, since, a)) less in
-            (omega (arith, b, c.0), omega (arith, b, c.1))
+            (omega arith) less in
+            search arith
       ]
       | inr le ↦ absurd (let a = ap (λ (g : ThreadList). g.first) (list_new p (at_last p le below)) in
-          omega (arith, a, since, less, small, long_started))
+          search (arith, length-append))
     ];
     ending = λ p below some. elim (cases_lt p n) [
       | inl old ↦ (let a = list_old p old in let b = ap (λ (g : ThreadList). g.last) a in
-          let d = ap (λ (g : ThreadList). g.first) a in let c = are.ending p old (omega (arith, some, b, d)) in (
-            omega (arith, b, c.0, long_started),
+          let d = ap (λ (g : ThreadList). g.first) a in let c = are.ending p old (omega arith) in (
+            omega (arith, long_started),
             ap (λ i. (link_at born i).process) b
                 ∙ ap (λ (x : ThreadLink). x.process) (link_old (list_at m p).last c.0) ∙ c.1,
           ))
       | inr le ↦ (let is = at_last p le below in let a = list_new p is in let b = ap (λ (g : ThreadList). g.last) a in
-          (omega (arith, b, long_started), link_new (list_at born p).last b ∙ sym is))
+          search (arith, length-append, get_or-append_seam))
     ];
     last = λ p t below small mine. elim (cases_lt p n) [
       | inl old ↦ elim (cases_eq t (length ts)) [
-        | inl is ↦ absurd (let a = link_new t is in omega (arith, a, mine, old))
+        | inl is ↦ search (arith, get_or-append_seam)
         | inr other ↦
-            let within : t < length ts = omega (arith, small, other, long_started) in
+            let within : t < length ts = search (arith, length-append) in
             let a = ap (λ (g : ThreadList). g.last) (list_old p old) in
             let c = are.last p t old within (process_old t p within mine) in
-            omega (arith, a, c)
+            omega arith
       ]
       | inr le ↦ (let a = ap (λ (g : ThreadList). g.last) (list_new p (at_last p le below)) in
-          omega (arith, a, small, long_started))
+          omega (arith, long_started))
     ];
   }
 
@@ -196,12 +168,10 @@ module _ (n first : ℕ) (m : ThreadListsState) (are : AreThreadLists n (None �
   empty = record { live = 0; first = first; last = 0 }
 
   empty_old : (p : ℕ) → p < n → list_at (with_empty m first) p ≡ list_at m p
-  empty_old p lt = get_or-append m.lists (empty ∷ []) no_list p (let long = are.lists_long in omega (arith, lt, long))
+  empty_old p lt = search (arith, get_or-append)
 
   empty_new : (p : ℕ) → n ≤ p → p < n + 1 → list_at (with_empty m first) p ≡ empty
-  empty_new p le lt = ap (list_at (with_empty m first)) (let long = are.lists_long in
-      let same : p ≡ length m.lists = omega (arith, le, lt, long) in same)
-      ∙ get_or-append_seam m.lists empty [] no_list
+  empty_new p le lt = grind (arith, at_place)
 
   none_given : (t p : ℕ) → get_or {A = Option ℕ} (None ∷ []) t None ≡ Some p → ⊥
   none_given zero p h = cc (h)
@@ -209,24 +179,24 @@ module _ (n first : ℕ) (m : ThreadListsState) (are : AreThreadLists n (None �
 
   pub threads_with_empty : AreThreadLists (n + 1) (None ∷ []) (with_empty m first)
   threads_with_empty = record {
-    lists_long = length-append m.lists (empty ∷ []) ∙ ap (λ k. k + 1) are.lists_long;
+    lists_long = search (arith, length-append);
     links_long = are.links_long;
     at_most = are.at_most;
     counted = λ p lt. elim (cases_lt p n) [
       | inl old ↦ ap (λ (g : ThreadList). g.live) (empty_old p old) ∙ are.counted p old
       | inr le ↦ ap (λ (g : ThreadList). g.live) (empty_new p le lt)
-          ∙ sym (no_live (None ∷ []) p (λ t h. none_given t p h))
+          ∙ sym (search arith)
     ];
     given = λ t p h. absurd (none_given t p h);
-    next = λ p t u below small mine same since less. absurd (omega (arith, small, less));
+    next = search arith;
     ending = λ p below some. elim (cases_lt p n) [
       | inl old ↦ (let a = empty_old p old in let b = ap (λ (g : ThreadList). g.last) a in
-          let d = ap (λ (g : ThreadList). g.first) a in let c = are.ending p old (omega (arith, some, b, d)) in
-          (omega (arith, b, c.0), ap (λ i. (link_at m i).process) b ∙ c.1))
+          let d = ap (λ (g : ThreadList). g.first) a in let c = are.ending p old (omega arith) in
+          search arith)
       | inr le ↦ absurd (let a = empty_new p le below in let b = ap (λ (g : ThreadList). g.last) a in
-          let d = ap (λ (g : ThreadList). g.first) a in omega (arith, some, b, d, past))
+          let d = ap (λ (g : ThreadList). g.first) a in omega arith)
     ];
-    last = λ p t below small mine. omega (arith, small);
+    last = search arith;
   }
 
 -- the next thread of a process, with the first that the process then has and with links of which only those of the
@@ -239,12 +209,8 @@ module _ (n : ℕ) (ts : List (Option ℕ)) (m : ThreadListsState) (p0 : ℕ) (a
   long_more : length (ts ++ Some p0 ∷ []) ≡ length ts + 1
   long_more = length-append ts (Some p0 ∷ [])
 
-  long_longer : length longer ≡ length ts + 1
-  long_longer = length-append m.links ((record { process = p0; next = 0 }) ∷ []) ∙ ap (λ k. k + 1) are.links_long
-
   longer_at : (t : ℕ) → t < length ts → get_or longer t no_link ≡ link_at m t
-  longer_at t lt = get_or-append m.links ((record { process = p0; next = 0 }) ∷ []) no_link t (let long =
-      are.links_long in omega (arith, lt, long))
+  longer_at t lt = search (arith, get_or-append)
 
   abbrev process_of : ℕ → ℕ
   process_of t = (get_or links1 t no_link).process
@@ -267,14 +233,10 @@ module _ (n : ℕ) (ts : List (Option ℕ)) (m : ThreadListsState) (p0 : ℕ) (a
     grown = record { lists = set m.lists p0 list1; links = links1 }
 
     list_grown : (p : ℕ) → p ≡ p0 → list_at grown p ≡ list1
-    list_grown p same = ap (list_at grown) same
-        ∙ get_or-set_same m.lists p0 list1 no_list (let long = are.lists_long in omega (arith, long, known))
+    list_grown p same = search (arith, get_or-set_same)
 
     list_stays : (p : ℕ) → p ≢ p0 → list_at grown p ≡ list_at m p
     list_stays p other = get_or-set_other m.lists p0 p list1 no_list other
-
-    last_grown : (p : ℕ) → p ≡ p0 → (list_at grown p).last ≡ length ts
-    last_grown p same = ap (λ (g : ThreadList). g.last) (list_grown p same) ∙ are.links_long
 
     was_of : (t p : ℕ) → t < length ts → process_of t ≡ p → (link_at m t).process ≡ p
     was_of t p lt h = sym (ap (λ (x : ThreadLink). x.process) (longer_at t lt)) ∙ sym (is.process t) ∙ h
@@ -291,61 +253,56 @@ module _ (n : ℕ) (ts : List (Option ℕ)) (m : ThreadListsState) (p0 : ℕ) (a
 
     -- a thread of another process was there before
     older : (t p : ℕ) → p ≢ p0 → t < length (ts ++ Some p0 ∷ []) → process_of t ≡ p → t < length ts
-    older t p other small mine = elim (cases_lt t (length ts)) [
-      | inl lt ↦ lt
-      | inr le ↦ absurd (let end : t ≡ length ts = omega (arith, le, small, long_more) in
-          other (sym mine ∙ newest_of t end))
-    ]
+    older t p other small mine = search (arith, long_more, newest_of)
 
     threads_linked : AreThreadLists n (ts ++ Some p0 ∷ []) grown
     threads_linked = record {
       lists_long = length-set m.lists p0 list1 ∙ are.lists_long;
-      links_long = is.length_is ∙ long_longer ∙ sym long_more;
-      at_most = omega (arith, few, long_more);
+      links_long = search (arith, length-append);
+      at_most = omega (arith, long_more);
       counted = λ p below. (let c = counted_more ts p0 p in let b = are.counted p below in elim (cases_eq p p0) [
         | inl same ↦ (let a = ap (λ (g : ThreadList). g.live) (list_grown p same) in
             let d = ap (one_of ts p0) same ∙ one_same ts p0 in let e = ap (λ i. (list_at m i).live) same in
-            omega (arith, a, b, c, d, e))
+            omega arith)
         | inr other ↦ (let a = ap (λ (g : ThreadList). g.live) (list_stays p other) in
-            let d = one_other ts p0 p other in omega (arith, a, b, c, d))
+            let d = one_other ts p0 p other in omega arith)
       ]);
       given = λ t p h. elim (cases_eq p p0) [
         | inl same ↦ (let f = ap (λ (g : ThreadList). g.first) (list_grown p same) in elim (live_more ts p0 t p h) [
           | inl old ↦ (let was = are.given t p old.1 in let s = is.since t (old.1 ∙ ap Some same) in
-              (was.0, still_of t p old.0 was.1, omega (arith, f, s)))
+              (was.0, still_of t p old.0 was.1, omega arith))
           | inr new ↦ (let w = is.within in
-              (omega (arith, new.1, known), newest_of t new.0 ∙ sym same, omega (arith, f, w, new.0)))
+              (omega arith, newest_of t new.0 ∙ sym same, omega arith))
         ])
         | inr other ↦ (let f = ap (λ (g : ThreadList). g.first) (list_stays p other) in
             elim (live_more ts p0 t p h) [
               | inl old ↦ (let was = are.given t p old.1 in
-                  (was.0, still_of t p old.0 was.1, omega (arith, f, was.2)))
+                  (was.0, still_of t p old.0 was.1, omega arith))
               | inr new ↦ absurd (other new.1)
             ])
       ];
       next = λ p t u below small mine same since less. elim (cases_eq p p0) [
-        | inl here ↦ is.own t u (omega (arith, small, long_more)) (mine ∙ here) (same ∙ here)
-            (let f = ap (λ (g : ThreadList). g.first) (list_grown p here) in omega (arith, f, since)) less
+        | inl here ↦ is.own t u (omega (arith, long_more)) (mine ∙ here) (same ∙ here)
+            (let f = ap (λ (g : ThreadList). g.first) (list_grown p here) in omega arith) less
         | inr other ↦ (let f = ap (λ (g : ThreadList). g.first) (list_stays p other) in
             let later = older u p other small same in
-            let before : t < length ts = omega (arith, less, later) in
+            let before : t < length ts = omega arith in
             let was = was_of t p before mine in
             let a = is.others t before (λ e. other (sym was ∙ e)) in
-            let b = are.next p t u below later was (was_of u p later same) (omega (arith, f, since)) less in
-            (omega (arith, a, b.0), omega (arith, a, b.1)))
+            let b = are.next p t u below later was (was_of u p later same) (omega arith) less in
+            search arith)
       ];
       ending = λ p below some. elim (cases_eq p p0) [
-        | inl same ↦ (let a = last_grown p same in
-            (omega (arith, a, long_more), newest_of (list_at grown p).last a ∙ sym same))
+        | inl same ↦ search (arith, length-append, get_or-set_same, get_or-append_seam)
         | inr other ↦ (let a = list_stays p other in let f = ap (λ (g : ThreadList). g.first) a in
-            let l = ap (λ (g : ThreadList). g.last) a in let e = are.ending p below (omega (arith, f, l, some)) in
-            (omega (arith, l, e.0, long_more), ap process_of l ∙ still_of (list_at m p).last p e.0 e.1))
+            let l = ap (λ (g : ThreadList). g.last) a in let e = are.ending p below (omega arith) in
+            search (arith, length-append, get_or-append))
       ];
       last = λ p t below small mine. elim (cases_eq p p0) [
-        | inl same ↦ (let a = last_grown p same in omega (arith, a, small, long_more))
+        | inl same ↦ search (arith, length-append, get_or-set_same)
         | inr other ↦ (let before = older t p other small mine in
             let a = ap (λ (g : ThreadList). g.last) (list_stays p other) in
-            let b = are.last p t below before (was_of t p before mine) in omega (arith, a, b))
+            let b = are.last p t below before (was_of t p before mine) in omega arith)
       ];
     }
 
@@ -369,17 +326,14 @@ module _ (n : ℕ) (ts : List (Option ℕ)) (m : ThreadListsState) (p0 : ℕ) (a
     length_is = refl;
     process = λ t. refl;
     others = λ t lt other. ap (λ (x : ThreadLink). x.next) (pushed_at t lt);
-    own = λ t u small mine same since less. absurd (let a = are.links_long in omega (arith, a, small, since, less));
+    own = search arith;
     since = λ t h. absurd (let was = are.given t p0 h in let a = are.last p0 t known (there t h) was.1 in
-        let b = was.2 in omega (arith, a, b, none));
-    within = (let a = are.links_long in omega (arith, a));
+        let b = was.2 in omega arith);
+    within = search arith;
   }
     where
       there : (t : ℕ) → get_or ts t None ≡ Some p0 → t < length ts
-      there t h = elim (cases_lt t (length ts)) [
-        | inl lt ↦ lt
-        | inr le ↦ absurd (let a = get_or_past ts t None le in cc (a, h))
-      ]
+      there t h = search (arith, get_or_past)
 
   module _ (some : list0.first ≤ list0.last) where
     abbrev next1 : ThreadLink
@@ -395,8 +349,7 @@ module _ (n : ℕ) (ts : List (Option ℕ)) (m : ThreadListsState) (p0 : ℕ) (a
     last_of = (are.ending p0 known some).1
 
     at_last0 : (t : ℕ) → t ≡ list0.last → get_or behind t no_link ≡ next1
-    at_last0 t same = ap (λ i. get_or behind i no_link) same ∙ get_or-set_same pushed list0.last next1 no_link
-        (let a = long_longer n ts m p0 are known few 0 [] in let b = last_below in omega (arith, a, b))
+    at_last0 t same = search (arith, length-append, get_or-set_same)
 
     elsewhere : (t : ℕ) → t ≢ list0.last → get_or behind t no_link ≡ get_or pushed t no_link
     elsewhere t other = get_or-set_other pushed list0.last t next1 no_link other
@@ -419,20 +372,20 @@ module _ (n : ℕ) (ts : List (Option ℕ)) (m : ThreadListsState) (p0 : ℕ) (a
         → (get_or behind u no_link).process ≡ p0 → list0.first ≤ t → t < u
         → (t < (get_or behind t no_link).next) × ((get_or behind t no_link).next ≤ u)
     next_own t u small mine same since less =
-        let before : t < length ts = omega (arith, less, small) in
+        let before : t < length ts = omega arith in
         let at_most = are.last p0 t known before (was_own t before mine) in
         elim (cases_eq t list0.last) [
           | inl is ↦ (let a : (get_or behind t no_link).next ≡ length ts =
               ap (λ (x : ThreadLink). x.next) (at_last0 t is) ∙ are.links_long in elim (cases_lt u (length ts)) [
-                | inl lt ↦ absurd (let b = are.last p0 u known lt (was_own u lt same) in omega (arith, b, is, less))
-                | inr le ↦ (omega (arith, a, before), omega (arith, a, le))
+                | inl lt ↦ absurd (let b = are.last p0 u known lt (was_own u lt same) in omega arith)
+                | inr le ↦ (omega arith, omega arith)
               ])
           | inr other ↦ (let a = next_stays t other before in elim (cases_lt u (length ts)) [
             | inl lt ↦ (let b = are.next p0 t u known lt (was_own t before mine) (was_own u lt same) since less in
-                (omega (arith, a, b.0), omega (arith, a, b.1)))
+                (omega arith, omega arith))
             | inr le ↦ (let b = are.next p0 t list0.last known last_below (was_own t before mine) last_of since
-                (omega (arith, at_most, other)) in
-                (omega (arith, a, b.0), (let c = last_below in omega (arith, a, b.1, le, c))))
+                (omega arith) in
+                (omega arith, (let c = last_below in omega arith)))
           ])
         ]
 
@@ -440,10 +393,10 @@ module _ (n : ℕ) (ts : List (Option ℕ)) (m : ThreadListsState) (p0 : ℕ) (a
     next_linked = record {
       length_is = length-set pushed list0.last next1;
       process = process_same;
-      others = λ t lt other. next_stays t (λ same. other (ap (λ i. (link_at m i).process) same ∙ last_of)) lt;
+      others = search (arith, next_stays);
       own = next_own;
       since = λ t h. (are.given t p0 h).2;
-      within = (let c = last_below in omega (arith, some, c));
+      within = search arith;
     }
 
   pub threads_grown : AreThreadLists n (ts ++ Some p0 ∷ []) (with_link m p0)
@@ -459,10 +412,8 @@ module _ (n : ℕ) (ts : List (Option ℕ)) (m : ThreadListsState) (p0 : ℕ) (a
           next = length m.links;
         }));
       })
-      by true none = threads_linked n ts m p0 are known few (length m.links) pushed
-          (first_linked (ltb-true list0.last list0.first none))
-      by false some = let there : list0.first ≤ list0.last = ltb-false list0.last list0.first some in
-          threads_linked n ts m p0 are known few list0.first (behind there) (next_linked there)
+      by true none = search (arith, threads_linked, first_linked, ltb-true)
+      by false some = search (arith, threads_linked, next_linked, ltb-false)
 
 -- a live thread of a process ends
 module _ (n : ℕ) (ts : List (Option ℕ)) (m : ThreadListsState) (t0 p0 : ℕ) (are : AreThreadLists n ts m)
@@ -471,15 +422,13 @@ module _ (n : ℕ) (ts : List (Option ℕ)) (m : ThreadListsState) (t0 p0 : ℕ)
   less = without_live m p0
 
   known_less : p0 < length m.lists
-  known_less = let long = are.lists_long in let a = (are.given t0 p0 live).0 in omega (arith, long, a)
+  known_less = search (arith, are.given)
 
   list_less : (p : ℕ) → p ≡ p0 → list_at less p ≡ record (list_at m p0) { live = (list_at m p0).live - 1 }
-  list_less p same = ap (list_at less) same ∙ get_or-set_same m.lists p0
-      (record (list_at m p0) { live = (list_at m p0).live - 1 }) no_list known_less
+  list_less p same = search (arith, known_less, get_or-set_same)
 
   list_kept : (p : ℕ) → p ≢ p0 → list_at less p ≡ list_at m p
-  list_kept p other = get_or-set_other m.lists p0 p
-      (record (list_at m p0) { live = (list_at m p0).live - 1 }) no_list other
+  list_kept p other = search (arith, get_or-set_other)
 
   first_kept : (p : ℕ) → (list_at less p).first ≡ (list_at m p).first
   first_kept p = elim (cases_eq p p0) [
@@ -497,37 +446,30 @@ module _ (n : ℕ) (ts : List (Option ℕ)) (m : ThreadListsState) (t0 p0 : ℕ)
   long_ended = length-set ts t0 None
 
   there : t0 < length ts
-  there = elim (cases_lt t0 (length ts)) [
-    | inl lt ↦ lt
-    | inr le ↦
-        absurd (let a = get_or_past ts t0 None le in cc (a, live))
-  ]
+  there = search (arith, get_or_past)
 
   counted_less : (p : ℕ) → count_by (is_of p) (set ts t0 None) + one_in p (Some p0) ≡ count_by (is_of p) ts
-  counted_less p = let a = sum_by-set (one_in p) ts t0 None None there in let b = ap (one_in p) live in
-      omega (arith, a, b)
+  counted_less p = search (arith, get_or_past, sum_by-set)
 
   pub threads_less : AreThreadLists n (set ts t0 None) (without_live m p0)
   threads_less = record {
-    lists_long = length-set m.lists p0 (record (list_at m p0) { live = (list_at m p0).live - 1 }) ∙ are.lists_long;
+    lists_long = search (arith, length-set);
     links_long = are.links_long ∙ sym long_ended;
-    at_most = (let f = are.at_most in omega (arith, f, long_ended));
+    at_most = search (arith, length-set);
     counted = λ p below. (let c = counted_less p in let b = are.counted p below in elim (cases_eq p p0) [
       | inl same ↦ (let a = ap (λ (g : ThreadList). g.live) (list_less p same) in
           let d = ap (one_of ts p0) same ∙ one_same ts p0 in let e = ap (λ i. (list_at m i).live) same in
-          omega (arith, a, b, c, d, e))
+          omega arith)
       | inr other ↦ (let a = ap (λ (g : ThreadList). g.live) (list_kept p other) in let d = one_other ts p0 p other in
-          omega (arith, a, b, c, d))
+          omega arith)
     ]);
     given = λ t p h. (let was = are.given t p (some_set ts t0 t p h) in let f = first_kept p in
-        (was.0, was.1, omega (arith, f, was.2)));
-    next = λ p t u below small mine same since before. are.next p t u below (omega (arith, small, long_ended)) mine same
-        (let f = first_kept p in omega (arith, f, since)) before;
+        (was.0, was.1, omega arith));
+    next = search (arith, get_or-set_same, get_or-set_other, length-set);
     ending = λ p below some. (let f = first_kept p in let l = last_kept p in
-        let e = are.ending p below (omega (arith, f, l, some)) in
-        (omega (arith, l, e.0, long_ended), ap (λ i. (link_at m i).process) l ∙ e.1));
-    last = λ p t below small mine. (let a = are.last p t below (omega (arith, small, long_ended)) mine in
-        let l = last_kept p in omega (arith, a, l));
+        let e = are.ending p below (omega arith) in
+        search (arith, length-set));
+    last = search (arith, get_or-set_same, get_or-set_other, length-set);
   }
 
 -- the next thread number, of a live process or gone
@@ -535,13 +477,12 @@ module _ (n : ℕ) (ts : List (Option ℕ)) (m : ThreadListsState) (are : AreThr
     (few : length ts ≤ 65536) where
   gone_at_end : (xs : List (Option ℕ)) (p : ℕ) → set (xs ++ Some p ∷ []) (length xs) None ≡ xs ++ None ∷ []
   gone_at_end [] p = refl
-  gone_at_end (x ∷ xs) p = ap (λ (ys : List (Option ℕ)). x ∷ ys) (gone_at_end xs p)
+  gone_at_end (x ∷ xs) p = search (arith, gone_at_end xs p)
 
   pub threads_placed : (x : Option ℕ) → 0 < n → IfSome x (λ p. p < n)
       → AreThreadLists n (ts ++ x ∷ []) (with_place m x)
   threads_placed None some known = subst (λ (l : List (Option ℕ)). AreThreadLists n l (with_place m None))
-      (gone_at_end ts 0) (threads_less n (ts ++ Some 0 ∷ []) (with_link m 0) (length ts) 0
-      (threads_grown n ts m 0 are some few) (get_or-append_seam ts (Some 0) [] None))
+      (gone_at_end ts 0) (search (arith, threads_grown, threads_less, get_or-append_seam))
   threads_placed (Some p) some known = threads_grown n ts m p are known few
 
 -- the process that was added last is taken back, with its thread
@@ -550,104 +491,98 @@ module _ (n n' : ℕ) (ts ts' : List (Option ℕ)) (m m' : ThreadListsState) (ar
     (alone : (t : ℕ) → get_or ts' t None ≡ Some n'
     → ⊥) (lists : IsPopped no_list m.lists m'.lists) (links : IsPopped no_link m.links m'.links) where
   long_back : length ts ≡ length ts' + 1
-  long_back = ap (length {A = Option ℕ}) is ∙ length-append ts' (Some n' ∷ [])
+  long_back = search (arith, length-append)
 
   lists_back : length m'.lists ≡ n'
-  lists_back = let a = lists.length_is in let b = are.lists_long in omega (arith, a, b, one)
+  lists_back = search arith
 
   links_back : length m'.links ≡ length ts'
-  links_back = let a = links.length_is in let b = are.links_long in omega (arith, a, b, long_back)
+  links_back = search (arith, length-append)
 
   list_back : (p : ℕ) → p < n' → list_at m' p ≡ list_at m p
-  list_back p lt = lists.same p (omega (arith, lt, lists_back))
+  list_back p lt = search arith
 
   link_back : (t : ℕ) → t < length ts' → link_at m' t ≡ link_at m t
-  link_back t lt = links.same t (omega (arith, lt, links_back))
+  link_back t lt = search (arith, length-append)
 
   of_back : (t p : ℕ) → t < length ts' → (link_at m' t).process ≡ p → (link_at m t).process ≡ p
   of_back t p lt h = sym (ap (λ (x : ThreadLink). x.process) (link_back t lt)) ∙ h
 
   live_back : (t p : ℕ) → t < length ts' → get_or ts' t None ≡ Some p → get_or ts t None ≡ Some p
-  live_back t p lt h = ap (λ (l : List (Option ℕ)). get_or l t None) is ∙ get_or-append ts' (Some n' ∷ []) None t lt ∙ h
+  live_back t p lt h = search (arith, get_or-append)
 
   within_back : (t p : ℕ) → get_or ts' t None ≡ Some p → t < length ts'
-  within_back t p h = elim (cases_lt t (length ts')) [
-    | inl lt ↦ lt
-    | inr le ↦
-        absurd (let a = get_or_past ts' t None le in cc (a, h))
-  ]
+  within_back t p h = search (arith, get_or_past)
 
   newest_is : (link_at m (length ts')).process ≡ n'
-  newest_is = (are.given (length ts') n' (ap (λ (l : List (Option ℕ)). get_or l (length ts') None) is
-      ∙ get_or-append_seam ts' (Some n') [] None)).1
+  newest_is = (are.given (length ts') n' (search (arith, get_or-append_seam))).1
 
   last_back : (p : ℕ) → p < n' → (list_at m p).first ≤ (list_at m p).last → (list_at m p).last < length ts'
-  last_back p below some = let e = are.ending p (omega (arith, below, one)) some in
+  last_back p below some = let e = are.ending p (omega arith) some in
       elim (cases_eq (list_at m p).last (length ts')) [
-        | inl same ↦ absurd (let a : p ≡ n' = sym e.1 ∙ ap (λ i. (link_at m i).process) same ∙ newest_is in
-            omega (arith, a, below))
-        | inr other ↦ omega (arith, e.0, long_back, other)
+        | inl same ↦ absurd (let a : p ≡ n' = search (arith, newest_is) in
+            omega arith)
+        | inr other ↦ omega (arith, long_back)
       ]
 
   pub threads_taken : AreThreadLists n' ts' m'
   threads_taken = record {
     lists_long = lists_back;
     links_long = links_back;
-    at_most = (let f = are.at_most in omega (arith, f, long_back));
+    at_most = search (arith, length-append);
     counted = λ p below. (let a = ap (λ (g : ThreadList). g.live) (list_back p below) in
-        let b = are.counted p (omega (arith, below, one)) in
-        let c = counted_more ts' n' p in let d = one_other ts' n' p (omega (arith, below)) in
-        let e = ap (λ (l : List (Option ℕ)). count_by (is_of p) l) is in omega (arith, a, b, c, d, e));
+        let b = are.counted p (omega arith) in
+        let c = counted_more ts' n' p in let d = one_other ts' n' p (omega arith) in
+        let e = ap (λ (l : List (Option ℕ)). count_by (is_of p) l) is in omega arith);
     given = λ t p h. (let lt = within_back t p h in let was = are.given t p (live_back t p lt h) in
         let below : p < n' = elim (cases_eq p n') [
           | inl same ↦ absurd (alone t (h ∙ ap Some same))
           | inr other ↦
-              (let a = was.0 in omega (arith, a, one, other))
+              (let a = was.0 in omega arith)
         ] in
         let f = ap (λ (g : ThreadList). g.first) (list_back p below) in
-        (below, ap (λ (x : ThreadLink). x.process) (link_back t lt) ∙ was.1, omega (arith, f, was.2)));
-    next = λ p t u below small mine same since less. (let before : t < length ts' = omega (arith, less, small) in
+        (below, ap (λ (x : ThreadLink). x.process) (link_back t lt) ∙ was.1, omega arith));
+    next = λ p t u below small mine same since less. (let before : t < length ts' = omega arith in
         let f = ap (λ (g : ThreadList). g.first) (list_back p below) in
         let a = ap (λ (x : ThreadLink). x.next) (link_back t before) in
-        let b = are.next p t u (omega (arith, below, one)) (omega (arith, small, long_back)) (of_back t p before mine)
-        (of_back u p small same) (omega (arith, f, since)) less in
-        (omega (arith, a, b.0), omega (arith, a, b.1)));
+        let b = are.next p t u (omega arith) (omega (arith, long_back)) (of_back t p before mine)
+        (of_back u p small same) (omega arith) less in
+        (omega arith, omega arith));
     ending = λ p below some. (let f = ap (λ (g : ThreadList). g.first) (list_back p below) in
         let l = ap (λ (g : ThreadList). g.last) (list_back p below) in
-        let there : (list_at m p).first ≤ (list_at m p).last = omega (arith, some, f, l) in
-        let e = are.ending p (omega (arith, below, one)) there in let lt = last_back p below there in (
-          omega (arith, l, lt),
+        let there : (list_at m p).first ≤ (list_at m p).last = omega arith in
+        let e = are.ending p (omega arith) there in let lt = last_back p below there in (
+          omega arith,
           ap (λ i. (link_at m' i).process) l
               ∙ ap (λ (x : ThreadLink). x.process) (link_back (list_at m p).last lt) ∙ e.1,
         ));
     last = λ p t below small mine. (let l = ap (λ (g : ThreadList). g.last) (list_back p below) in
-        let a = are.last p t (omega (arith, below, one)) (omega (arith, small, long_back)) (of_back t p small mine) in
-        omega (arith, l, a));
+        let a = are.last p t (omega arith) (omega (arith, long_back)) (of_back t p small mine) in
+        omega arith);
   }
 
 -- an element passes where one is counted
 any_counted : (p : Option ℕ → Bool) (xs : List (Option ℕ)) → nat_lt 0 (count_by p xs) ≡ list_any p xs
 any_counted p [] = refl
 any_counted p (x ∷ xs) = let more : count_by p (x ∷ xs) ≡ cond (p x) 1 0 + count_by p xs =
-    sum_by-cons (λ y. cond (p y) 1 0) x xs in ap (nat_lt 0) more ∙ by (p x) (any_counted p xs)
+    sum_by-cons (λ y. cond (p y) 1 0) x xs in search (arith, any_counted p xs)
   where
     by : (b : Bool) → nat_lt 0 (count_by p xs) ≡ list_any p xs
         → nat_lt 0 (cond b 1 0 + count_by p xs) ≡ (b || list_any p xs)
-    by true rest = grind (arith, nat_tests)
-    by false rest = let none : 0 + count_by p xs ≡ count_by p xs = omega arith in ap (nat_lt 0) none ∙ rest
+    by true rest = grind arith
+    by false rest = search arith
 
 -- what is read of it
 module _ (n : ℕ) (ts : List (Option ℕ)) (m : ThreadListsState) (are : AreThreadLists n ts m) where
   live_is : (p : ℕ) → (list_at m p).live ≡ count_by (is_of p) ts
   live_is p = elim (cases_lt p n) [
     | inl lt ↦ are.counted p lt
-    | inr le ↦ ap (λ (g : ThreadList). g.live) (get_or_past m.lists p no_list (let long = are.lists_long in
-        omega (arith, long, le)))
-        ∙ sym (no_live ts p (λ t h. let a = (are.given t p h).0 in omega (arith, a, le)))
+    | inr le ↦ ap (λ (g : ThreadList). g.live) (get_or_past m.lists p no_list (search arith))
+        ∙ sym (no_live ts p (search (arith, are.given)))
   ]
 
   pub has_live_is : (p : ℕ) → nat_lt 0 (list_at m p).live ≡ list_any (is_of p) ts
-  has_live_is p = ap (nat_lt 0) (live_is p) ∙ any_counted (is_of p) ts
+  has_live_is p = search (arith, any_counted, live_is)
 
   pub past_next : (p t u : ℕ) → (link_at m t).process ≡ p → (list_at m p).first ≤ t → get_or ts u None ≡ Some p → t < u
       → (t < (link_at m t).next) × ((link_at m t).next ≤ u)

@@ -1,15 +1,14 @@
 -- Waits whose time is up are answered one after another, and the state settles behind each: that is the same as all at
 -- once.
-use Rattle.std.proofs.Common.{◌≡◌, ◌⊎◌, ℕ, ◌+◌, ◌<◌, ◌≤◌, List, length, Option, Some, None, refl, ap, ◌∙◌, sym, arith, get_or, map, Bool, true, false, cond, inl, inr, eqb}
+use Rattle.std.proofs.Common.{◌≡◌, ℕ, ◌<◌, ◌≤◌, List, length, Option, Some, None, refl, ap, ◌∙◌, sym, arith, get_or, map, true, false, inl, inr}
 use Rattle.std.specs.Prelude.{count_by, is_some}
 use Rattle.std.proofs.lemmas.List.{get_or_past}
 use Rattle.std.proofs.lemmas.Bool.{cases_lt}
 use Rattle.ob_body.specs.declared.body.Body.{Body}
-use Rattle.ob_body.specs.Timer.{is_due}
 use Rattle.ob_waits.specs.declared.wait.Wait.{Wait}
 use Rattle.ob_waits.specs.Deadlines.{is_overdue}
 use Rattle.ob_waits.specs.Deadlines as waits_time
-use Rattle.ob_waits.specs.Ends.{ended, slot_ended}
+use Rattle.ob_waits.specs.Ends.{ended}
 use Rattle.ob_waits.specs.Form.{slot_form}
 use Rattle.ob_waits.specs.Objects.{Objects}
 use Rattle.ob_waits.specs.Rules.{IsSettled}
@@ -25,30 +24,12 @@ use Rattle.ob_store.specs.State.{State, objects_of, settled}
 use Rattle.ob_store.specs.Ticks.{timed_out, slot_is_due}
 use Rattle.ob_store.specs.UnderWay.{AreLeft}
 use Rattle.ob_store.specs.Waiting.{with_answer}
-use Rattle.ob_store.proofs.BodyLaws.{due_same}
 use Rattle.ob_store.proofs.BySlot.{get_by_slot, length-by_slot}
 use Rattle.ob_store.proofs.LeftLaws.{less_gone}
-use Rattle.ob_store.proofs.NamedLaws.{named_fewer}
 use Rattle.ob_store.proofs.SettledLaws.{settled_ends}
 
--- what ends is there as it was, or gone
-slot_left : (handles blocks : ℕ) (x : Option Body)
-    → (slot_ended handles blocks x ≡ x) ⊎ (slot_ended handles blocks x ≡ None)
-slot_left handles blocks x = by (eqb (handles + blocks) 0)
-  where
-    by : (b : Bool) → (cond b None x ≡ x) ⊎ (cond b None x ≡ None)
-    by true = inr refl
-    by false = inl refl
-
 ended_left : (o : Objects) → AreLeft o.bodies (ended o).bodies
-ended_left o = record {
-  length_is = length-ended o;
-  each = λ k. elim (slot_left (get_or o.handles k 0) (get_or o.blocks k 0) (get_or o.bodies k None)) [
-    | inl same ↦
-        inl (ended_at o k ∙ same)
-    | inr none ↦ inr (ended_at o k ∙ none)
-  ];
-}
+ended_left o = search (arith, ended_at, length-ended)
 
 -- where no wait is ready, what is to end alone ends
 by_ends : (s : State) → IsNamed s.objects s.tables s.waits → IsSettled s.bodies s.waits
@@ -67,12 +48,10 @@ module _ (s : State) (now n : ℕ) (named : IsNamed s.objects s.tables s.waits) 
   all = timed_out now s
 
   one_named : IsNamed s.objects s.tables one.waits
-  one_named = named_fewer s.objects s.tables s.tables s.waits one.waits (λ id. omega arith) (λ id. let x =
-      blocks_answered id s.waits n 258 in omega (arith, x)) named
+  one_named = search (arith, blocks_answered)
 
   all_named : IsNamed s.objects s.tables all.waits
-  all_named = named_fewer s.objects s.tables s.tables s.waits all.waits (λ id. omega arith)
-      (λ id. blocks_lapsed id now s.waits) named
+  all_named = search (arith, blocks_lapsed)
 
   one_quiet : IsSettled s.bodies one.waits
   one_quiet = settled_answered s.bodies s.waits n 258 quiet
@@ -95,7 +74,7 @@ module _ (s : State) (now n : ℕ) (named : IsNamed s.objects s.tables s.waits) 
   others = record all { bodies = left }
 
   others_are : timed_out now (settled one) ≡ others
-  others_are = ap (timed_out now) one_is ∙ (λ i. record s { clock = now; waits = same_waits i; bodies = left })
+  others_are = ap (timed_out now) one_is ∙ (search (arith, lapsed_twice))
 
   fewer_blocks : (k : ℕ) → get_or (objects_of all).blocks k 0 ≤ get_or (objects_of one).blocks k 0
   fewer_blocks k = elim (cases_lt k (length s.objects)) [
@@ -103,9 +82,8 @@ module _ (s : State) (now n : ℕ) (named : IsNamed s.objects s.tables s.waits) 
         let b = get_by_slot (length s.objects) (λ i. slot_blocks i one.waits) k lt in
         let c : slot_blocks k all.waits ≡ slot_blocks k (map (waits_time.timed_out now) one.waits) =
         ap (slot_blocks k) (sym same_waits) in
-        let d = slot_lapsed k now one.waits in omega (arith, a, b, c, d))
-    | inr le ↦ (let a = get_or_past (objects_of all).blocks k 0
-        (omega (arith, length-by_slot (length s.objects) (λ i. slot_blocks i all.waits), le)) in omega (arith, a))
+        let d = slot_lapsed k now one.waits in omega arith)
+    | inr le ↦ search (arith, get_or_past, length-by_slot)
   ]
 
   others_quiet : IsSettled left all.waits
@@ -132,15 +110,13 @@ module _ (s : State) (now n : ℕ) (named : IsNamed s.objects s.tables s.waits) 
   fewer_step =
       let same : count_by (is_overdue now) (settled one).waits ≡ count_by (is_overdue now) one.waits =
       ap (λ (t : State). count_by (is_overdue now) t.waits) one_is in
-      let fewer = fewer_overdue now s.waits n over in omega (arith, same, fewer)
+      let fewer = fewer_overdue now s.waits n over in omega arith
 
 -- where no time is up, the clock alone goes on
 pub time_out_last : (s : State) (now : ℕ) → settled s ≡ s → ((n : ℕ) → is_overdue now (get_or s.waits n None) ≡ false)
     → record s { clock = now } ≡ settled (timed_out now s)
 time_out_last s now still none =
-    (λ i. record (sym still i) { clock = now })
-    ∙ ap (λ (ws : List (Option Wait)). settled (record s { clock = now; waits = ws }))
-    (sym (none_lapsed now s.waits none))
+    search (arith, none_lapsed)
 
 -- settling makes no timer due
 pub undue_settled : (first : Scene) (after : Objects) (ws' : List (Option Wait)) (now : ℕ)
@@ -156,7 +132,7 @@ undue_settled first after ws' now value undue k = by (get_or after.bodies k None
     by None is = refl
     by (Some b) is =
         let some : is_some (get_or (waits.settled first).objects.bodies k None) ≡ true =
-        sym (ap is_some body_is) ∙ ap is_some is in
+        search arith in
         let form : slot_form (Some b) ≡ slot_form (get_or first.objects.bodies k None) =
-        ap slot_form (sym is ∙ body_is) ∙ settled_form first k some in
-        ap (is_due now) (due_same (Some b) (get_or first.objects.bodies k None) form) ∙ undue k
+        search (arith, settled_form) in
+        search arith

@@ -1,5 +1,5 @@
 -- The due moments of slots, while bodies change, and the least of them.
-use Rattle.std.proofs.Common.{◌≡◌, ℕ, [], ◌∷◌, ◌<◌, List, length, Option, Some, None, refl, ap, ◌∙◌, sym, subst, arith, get_or, set, map, Bool, true, false, cond}
+use Rattle.std.proofs.Common.{◌≡◌, ℕ, [], ◌∷◌, ◌<◌, List, length, Option, Some, None, refl, ap, ◌∙◌, sym, arith, get_or, set, map, Bool, true, false, cond}
 use Rattle.std.specs.Prelude.{IfNone, IfSome}
 use Rattle.std.proofs.lemmas.List.{length-map}
 use Rattle.least.specs.Dues.{IsLeast}
@@ -17,35 +17,28 @@ use Rattle.ob_store.proofs.SeatLaws.{read, mapped_same, mapped_set, mapped_stays
 -- the due moment of a slot
 pub due_read : (xs : List (Option Seat)) (k : ℕ) →
     get_or (map seat_due xs) k None ≡ slot_due (get_or (map seat_body xs) k None)
-due_read xs k = read seat_due xs k ∙ ap slot_due (sym (read seat_body xs k))
+due_read xs k = search (arith, read)
 
 -- the least of the slots' is the least of the bodies'
 dues_of_bodies : (xs : List (Option Seat)) → map seat_due xs ≡ map slot_due (map seat_body xs)
 dues_of_bodies [] = refl
-dues_of_bodies (x ∷ xs) = ap (λ (dues : List (Option ℕ)). seat_due x ∷ dues) (dues_of_bodies xs)
+dues_of_bodies (x ∷ xs) = search (arith, dues_of_bodies xs)
 
 pub least_of_bodies : (xs : List (Option Seat)) (dues : List (Option ℕ)) (least : Option ℕ) → dues ≡ map seat_due xs
     → IsLeast dues least → IsLeast (map slot_due (map seat_body xs)) least
-least_of_bodies xs dues least timed is = subst (λ (ds : List (Option ℕ)). IsLeast ds least) (timed
-    ∙ dues_of_bodies xs) is
+least_of_bodies xs dues least timed is = search (arith, dues_of_bodies)
 
 pub timed_within : (xs : List (Option Seat)) (dues : List (Option ℕ)) (k : ℕ) → dues ≡ map seat_due xs → k < length xs
     → k < length dues
-timed_within xs dues k timed lt = let a : length dues ≡ length (map seat_due xs) =
-    ap (λ (z : List (Option ℕ)). length z) timed in let b = length-map xs seat_due in omega (arith, a, b, lt)
+timed_within xs dues k timed lt = search (arith, length-map)
 
 -- a body goes, or stays
 pub timed_left_at : (xs : List (Option Seat)) (dues : List (Option ℕ)) (k : ℕ) (x y : Seat) (b : Bool) (o : Option Body)
     → dues ≡ map seat_due xs → get_or xs k None ≡ Some x → o ≡ cond b x.body None → y.body ≡ cond b None x.body
     → due_left dues k (slot_due o) ≡ map seat_due (set xs k (Some y))
-timed_left_at xs dues k x y true o timed there went none = by (slot_due o) (ap slot_due went)
-  where
-    by : (d : Option ℕ) → d ≡ slot_due x.body → due_left dues k d ≡ map seat_due (set xs k (Some y))
-    by None is = mapped_stays seat_due xs dues k x y timed there (ap slot_due none ∙ is)
-    by (Some due) is = mapped_set seat_due xs dues k (Some y) None timed (sym (ap slot_due none))
+timed_left_at xs dues k x y true o timed there went none = search (arith, mapped_set, mapped_stays)
 timed_left_at xs dues k x y false o timed there went same =
-    ap (λ (z : Option Body). due_left dues k (slot_due z)) went
-    ∙ mapped_stays seat_due xs dues k x y timed there (ap slot_due same)
+    search (arith, mapped_stays)
 
 -- who acquires it leaves a timer's due moment
 pub due_taken : (u : ℕ) (x : Option Body) → slot_due (slot_acquired u x) ≡ slot_due x
@@ -68,13 +61,13 @@ timed_vacant xs dues k timed none = ap (λ (z : List (Option ℕ)). get_or z k N
 -- what is known of due moments is known of the bodies
 due_of_slot : (xs : List (Option Seat)) (dues : List (Option ℕ)) (k : ℕ) → dues ≡ map seat_due xs
     → get_or dues k None ≡ slot_due (get_or (map seat_body xs) k None)
-due_of_slot xs dues k timed = ap (λ (z : List (Option ℕ)). get_or z k None) timed ∙ due_read xs k
+due_of_slot xs dues k timed = search (arith, due_read)
 
 pub some_due : (now : ℕ) (xs : List (Option Seat)) (dues : List (Option ℕ)) (r : Option ℕ) → dues ≡ map seat_due xs
     → IfSome r (λ slot. is_due now (get_or dues slot None) ≡ true)
     → IfSome r (λ slot. slot_is_due now (get_or (map seat_body xs) slot None) ≡ true)
 some_due now xs dues None timed h = tt
-some_due now xs dues (Some slot) timed h = ap (is_due now) (sym (due_of_slot xs dues slot timed)) ∙ h
+some_due now xs dues (Some slot) timed h = search (arith, due_read)
 
 pub none_due_slot : (now : ℕ) (xs : List (Option Seat)) (dues : List (Option ℕ)) (r : Option ℕ) → dues ≡ map seat_due xs
     → IfNone r ((k : ℕ) → is_due now (get_or dues k None) ≡ false)

@@ -1,6 +1,6 @@
 -- A call is under way from what is kept, and ends with what is kept of the settled state.
+use Rattle.ob_codec.proofs.AtPlace.{at_place}
 use Rattle.std.proofs.Common.{◌≡◌, ◌<◌, ℕ, List, length, Option, Some, None, refl, ap, ◌∙◌, sym, subst, arith, get_or, set, true}
-use Rattle.std.specs.Prelude.{is_some}
 use Rattle.pin_core.specs.declared.id.Id.{Id}
 use Rattle.pin_words.specs.Keepers.{KeeperState}
 use Rattle.ob_body.specs.declared.body.Body.{Body}
@@ -14,14 +14,14 @@ use Rattle.ob_waits.proofs.Apart.{ready_at_change}
 use Rattle.ob_waits.proofs.Settled.{settled_less, settled_unnamed}
 use Rattle.ob_waits.proofs.Settling.{settled_same}
 use Rattle.ob_store.specs.Agreement.{IsTied}
-use Rattle.ob_store.specs.Kept.{AreFormed, AreOfLive, IsKept, IsNamed, IsPopulated, IsSound, Yields}
+use Rattle.ob_store.specs.Kept.{AreFormed, IsKept, IsNamed, IsPopulated, IsSound, Yields}
 use Rattle.ob_store.specs.Objects.{ObjectsState, KeptRest, kept_rest}
 use Rattle.ob_store.specs.Parts.{PartsState, state_of, whole_of}
 use Rattle.ob_store.specs.Signaled.{SignaledState}
 use Rattle.ob_store.specs.State.{State, Whole, objects_of, settled, with_body, with_scene}
-use Rattle.ob_store.specs.UnderWay.{AreLeft, IsEnding, IsUnderWay}
+use Rattle.ob_store.specs.UnderWay.{IsEnding, IsUnderWay}
 use Rattle.ob_store.proofs.AgreeLaws.{body_within}
-use Rattle.ob_store.proofs.BodyLaws.{formed_put, formed_settled, less_put, of_live_put, of_live_settled, room_put}
+use Rattle.ob_store.proofs.BodyLaws.{formed_put, formed_settled, less_put, of_live_put, of_live_settled}
 use Rattle.ob_store.proofs.CountedLaws.{blocks_at, counted_settled}
 use Rattle.ob_store.proofs.EnoughLaws.{enough_settled}
 use Rattle.ob_store.proofs.KeptLaws.{objects_are, sound_rested, state_rested}
@@ -43,14 +43,7 @@ way_begins p sound tied = record {
 pub ending_begins : (p : PartsState) (a : SignaledState) → IsKept p → IsTied p.objects
     → IsEnding p.objects.keeper (record p { signaled = a }) (state_of p)
 ending_begins p a kept tied = record {
-  under_way = record {
-    tied = tied;
-    sound = sound_rested p p.processes p.objects p.waits a refl kept.sound refl kept.sound.processes_kept
-        kept.sound.counted kept.sound.named kept.sound.formed kept.sound.of_live kept.sound.room;
-    rest = refl;
-    bodies = left_same p.objects.seen.bodies;
-    keeper = refl;
-  };
+  under_way = search arith;
   enough = enough_settled a p.objects.seen.bodies p.waits.waits kept.settled;
 }
 
@@ -98,7 +91,7 @@ module _ (p : PartsState) (q : ObjectsState) (ws : WaitList)
     pub way_state : state_of (record p { objects = q; waits = ws }) ≡ settled s
     way_state =
         state_rested p p.processes q ws p.signaled rest
-        ∙ (λ i. record (state_of p) { bodies = (value i).objects.bodies; waits = (value i).waits; clock = clock i })
+        ∙ (search arith)
         ∙ ap (λ (x : State). with_scene x (waits.settled (record { objects = p.objects.seen; waits = x.waits })))
         way.rest
         ∙ ap (λ (x : Objects). with_scene s (waits.settled (record { objects = x; waits = s.waits }))) (sym ends_are)
@@ -108,7 +101,7 @@ module _ (p : PartsState) (q : ObjectsState) (ws : WaitList)
 pub way_still : (first : KeeperState) (p : PartsState) (s : State) → IsUnderWay first p s
     → IsSettled p.objects.seen.bodies p.waits.waits → state_of p ≡ settled s
 way_still first p s way quiet = way_state p p.objects p.waits way.sound
-    (sym (settled_same (record { objects = p.objects.seen; waits = p.waits.waits }) quiet)) refl refl refl first s way
+    (search (arith, settled_same)) refl refl refl first s way
 
 -- a call changed a body
 module _ (p : PartsState) (q : ObjectsState) (id : Id) (old new : Body)
@@ -119,9 +112,6 @@ module _ (p : PartsState) (q : ObjectsState) (id : Id) (old new : Body)
     (rest : kept_rest q ≡ kept_rest p.objects) where
   there : get_or p.objects.seen.bodies id.slot None ≡ Some old
   there = subst (λ (v : Whole). get_or v.state.bodies id.slot None ≡ Some old) (sym view) bodied
-
-  yields : Yields p.waits.clock old new
-  yields = subst (λ (v : Whole). Yields v.state.clock old new) (sym view) yielding
 
   abbrev bodies : List (Option Body)
   bodies = set p.objects.seen.bodies id.slot (Some new)
@@ -138,17 +128,11 @@ module _ (p : PartsState) (q : ObjectsState) (id : Id) (old new : Body)
           blocks = ap (λ (x : Objects). x.blocks) put ∙ kept.sound.counted.blocks;
         })
         kept.sound.named
-        (subst (λ (x : List (Option Body)). AreFormed p.waits.clock p.objects.objects x) (sym put_bodies)
-        (formed_put p.objects.seen.bodies id.slot old new p.waits.clock there yields p.objects.objects
-        kept.sound.formed))
-        (subst (λ (x : List (Option Body)). AreOfLive p.processes.threads x p.waits.waits) (sym put_bodies)
-        (of_live_put p.objects.seen.bodies id.slot old new p.waits.clock there yields p.processes.threads
-        p.waits.waits kept.sound.of_live))
-        (subst (λ (x : List (Option Body)). WaitsHaveRoom p.limits.max_recursion x p.waits.waits) (sym put_bodies)
-        (room_put p.objects.seen.bodies id.slot old new p.waits.clock there yields p.limits.max_recursion
-        p.waits.waits kept.sound.room));
+        (search (arith, formed_put))
+        (search (arith, there, put_bodies, of_live_put))
+        (grind (arith, at_place));
     rest = state_rested p p.processes q p.waits p.signaled rest;
-    bodies = subst (λ (x : List (Option Body)). AreLeft x q.seen.bodies) put_bodies (left_same q.seen.bodies);
+    bodies = search arith;
     keeper = ap (λ (r : KeptRest). r.keeper) rest;
   }
 
@@ -161,8 +145,7 @@ module _ (p : PartsState) (q : ObjectsState) (id : Id) (old new : Body)
   pub settled_put_less : ((t : ℕ) → is_signaled t new ≡ true → is_signaled t old ≡ true)
       → IsSettled q.seen.bodies p.waits.waits
   settled_put_less less = subst (λ (x : List (Option Body)). IsSettled x p.waits.waits) (sym put_bodies)
-      (settled_less p.objects.seen.bodies bodies p.waits.waits
-      (less_put p.objects.seen.bodies id.slot old new p.waits.clock there yields less) kept.settled)
+      (search (arith, there, less_put, settled_less))
 
   -- no pending wait is for it: so nothing settles
   pub settled_unblocked : IsTied p.objects → get_or p.objects.seen.blocks id.slot 0 ≡ 0
@@ -171,9 +154,7 @@ module _ (p : PartsState) (q : ObjectsState) (id : Id) (old new : Body)
       (settled_unnamed p.objects.seen.bodies p.waits.waits id.slot (Some new) unnamed kept.settled)
     where
       within : id.slot < length p.objects.objects
-      within = let lt = body_within p.objects id.slot (ap is_some there) tied.agreed in
-          let long = tied.agreed.length_is in
-          omega (arith, lt, long)
+      within = search (arith, body_within)
 
       unnamed : slot_blocks id.slot p.waits.waits ≡ 0
       unnamed = sym (blocks_at p.objects.seen (length p.objects.objects) p.tables.tables p.waits.waits

@@ -1,30 +1,25 @@
 -- The tables of processes that aren't live are empty: as a test of what is read, and as it is kept.
-use Rattle.std.proofs.Common.{◌≡◌, ℕ, suc, ◌||◌, not, true, false, ltb, List, [], ◌∷◌, length, Option, Some, None, refl, ap, ◌∙◌, sym, arith, get_or, inl, inr}
+use Rattle.std.proofs.Common.{◌≡◌, ℕ, ◌||◌, not, true, ltb, List, [], ◌∷◌, length, Option, Some, None, refl, arith, get_or, inl, inr}
 use Rattle.std.specs.Prelude.{is_some}
-use Rattle.std.proofs.lemmas.Bool.{cases_lt, lt-ltb}
+use Rattle.std.proofs.lemmas.Bool.{cases_lt}
 use Rattle.std.proofs.lemmas.List.{get_or_past}
 use Rattle.ob_tables.specs.declared.entry.Entry.{Entry}
 use Rattle.ob_store.specs.SavedStore.{are_vacated, is_vacated}
 use Rattle.ob_store.proofs.ByPlace.{below_at, below_from}
 
-passes : (o : Option ℕ) (t : List (Option Entry)) → (o ≡ None → t ≡ [])
-    → (is_some o || not (ltb 0 (length t))) ≡ true
-passes (Some s) t empty = refl
-passes None t empty = ap (λ (u : List (Option Entry)). not (ltb 0 (length u))) (empty refl)
-
 empty_of : (o : Option ℕ) (t : List (Option Entry)) → (is_some o || not (ltb 0 (length t))) ≡ true → o ≡ None → t ≡ []
-empty_of (Some s) t pass none = absurd (let e = ap is_some none in cc e)
+empty_of (Some s) t pass none = search arith
 empty_of None [] pass none = refl
 empty_of None (x ∷ t) pass none =
-    absurd (let e = ap not (lt-ltb 0 (suc (length t)) (omega arith)) in let f : false ≡ true = sym e ∙ pass in cc f)
+    search arith
 
 module _ (ps : List (Option ℕ)) (ts : List (List (Option Entry))) where
   pub vacated_pass : ((q : ℕ) → get_or ps q None ≡ None → get_or ts q [] ≡ []) → (n : ℕ) → are_vacated ps ts n ≡ true
-  vacated_pass each n = below_from (is_vacated ps ts) n (λ q _. passes (get_or ps q None) (get_or ts q []) (each q))
+  vacated_pass each n = search (arith, below_from)
 
   pub vacated_from : (n : ℕ) → length ts ≡ n → are_vacated ps ts n ≡ true → (q : ℕ) → get_or ps q None ≡ None
       → get_or ts q [] ≡ []
   vacated_from n long all q none = elim (cases_lt q n) [
     | inl lt ↦ empty_of (get_or ps q None) (get_or ts q []) (below_at (is_vacated ps ts) n q all lt) none
-    | inr past ↦ get_or_past ts q [] (omega (arith, long, past))
+    | inr past ↦ search (arith, get_or_past)
   ]

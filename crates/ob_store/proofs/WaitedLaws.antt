@@ -1,10 +1,10 @@
 -- What is kept as a thread takes what it waits for, and as waits come, are answered and go.
-use Rattle.std.proofs.Common.{◌≡◌, ℕ, suc, ◌+◌, ◌<◌, ◌≤◌, List, [], ◌∷◌, ◌++◌, length, Option, Some, None, refl, ap, ◌∙◌, sym, subst, arith, get_or, set, Bool, true, false, cond, inl, inr}
+use Rattle.ob_codec.proofs.AtPlace.{at_place}
+use Rattle.std.proofs.Common.{◌≡◌, ℕ, suc, ◌+◌, ◌<◌, ◌≤◌, List, [], ◌∷◌, ◌++◌, length, Option, Some, None, refl, ap, ◌∙◌, sym, subst, arith, get_or, set, Bool, true, false, inl, inr}
 use Rattle.std.specs.Prelude.{count_by}
 use Rattle.std.specs.Option.{IfNone, OnSome}
 use Rattle.std.proofs.lemmas.List.{length-set, get_or_past, get_or-set_same, get_or-set_other}
-use Rattle.std.proofs.lemmas.List.Sums.{sum_by-cons}
-use Rattle.std.proofs.lemmas.Bool.{cases_eq, cases_lt}
+use Rattle.std.proofs.lemmas.Bool.{cases_lt}
 use Rattle.pin_core.specs.Holds.{same_id}
 use Rattle.pin_core.specs.declared.id.Id.{Id}
 use Rattle.ob_body.specs.declared.body.Body.{Body}
@@ -12,18 +12,16 @@ use Rattle.ob_tables.specs.Counts.{handles_among}
 use Rattle.ob_tables.proofs.Counting.{one_id}
 use Rattle.ob_waits.specs.declared.wait.Mode.{Mode}
 use Rattle.ob_waits.specs.declared.wait.Wait.{Wait}
-use Rattle.ob_waits.specs.Form.{slot_owner, HasWait}
+use Rattle.ob_waits.specs.Form.{HasWait}
 use Rattle.ob_waits.specs.Objects.{Objects, without_blocks}
-use Rattle.ob_waits.specs.Rules.{HasRoom, IsSettled, WaitsHaveRoom, thread_of}
+use Rattle.ob_waits.specs.Rules.{HasRoom, IsSettled, thread_of}
 use Rattle.ob_waits.specs.Rules as rules
 use Rattle.ob_waits.specs.Waits.{nowhere, WaitList, answered, bodies_after, code_at, code_now, ids_of, list_ready, new_wait, number_of, objects_now, slot_blocks, slot_places}
 use Rattle.ob_waits.specs.Waits as waits
-use Rattle.ob_waits.proofs.AddedLaws.{by_number}
-use Rattle.ob_waits.proofs.Counted.{answered_ids, blocks_added, blocks_answered, blocks_removed, slot_added, slot_answered, slot_removed, slot_blocks-few}
+use Rattle.ob_waits.proofs.Counted.{blocks_added, blocks_answered, blocks_removed, slot_added, slot_answered, slot_removed, slot_blocks-few}
 use Rattle.ob_waits.proofs.Ends.{sizes_left}
 use Rattle.ob_waits.proofs.References.{left_all}
-use Rattle.ob_waits.proofs.Now.{ready_now, taken_now}
-use Rattle.ob_waits.proofs.Room.{room_added, room_answered, room_changed, room_now, room_removed}
+use Rattle.ob_waits.proofs.Room.{room_added, room_answered, room_now, room_removed}
 use Rattle.ob_waits.proofs.Settled.{settled_added, settled_answered, settled_less, settled_now, settled_removed}
 use Rattle.ob_waits.proofs.Staying.{taken}
 use Rattle.ob_store.specs.Agreement.{IsTied}
@@ -39,22 +37,14 @@ use Rattle.ob_store.proofs.CameLaws.{came_counts, came_long, came_stays}
 use Rattle.ob_store.proofs.CountedLaws.{blocks_at, blocks_long}
 use Rattle.ob_store.proofs.KeptLaws.{settled_kept, sound_rested, state_rested}
 use Rattle.ob_store.proofs.NamedLaws.{named_fewer}
-use Rattle.ob_store.proofs.LeftLaws.{formed_left, left_blocks, less_gone, room_left_at}
+use Rattle.ob_store.proofs.LeftLaws.{left_blocks}
 
 -- what of each thread's waits stays live when one goes
 set_waiters : (threads : List (Option ℕ)) (ws : List (Option Wait)) (n : ℕ) (x : Option Wait)
     → ((t : ℕ) → thread_of x ≡ Some t → thread_of (get_or ws n None) ≡ Some t)
     → ((m t : ℕ) → thread_of (get_or ws m None) ≡ Some t → IsLive threads t) → (m t : ℕ)
     → thread_of (get_or (set ws n x) m None) ≡ Some t → IsLive threads t
-set_waiters threads ws n x own live m t h = elim (cases_eq m n) [
-  | inl same ↦ elim (cases_lt n (length ws)) [
-    | inl lt ↦ live n t (own t (sym (ap thread_of (ap (λ i. get_or (set ws n x) i None) same
-        ∙ get_or-set_same ws n x None lt)) ∙ h))
-    | inr past ↦ absurd (let e = ap thread_of (get_or_past (set ws n x) m None (omega (arith, length-set ws n x))) in
-        cc (e, h))
-  ]
-  | inr other ↦ live m t (sym (ap thread_of (get_or-set_other ws n m x None other)) ∙ h)
-]
+set_waiters threads ws n x own live m t h = search (arith, get_or-set_other, get_or-set_same, get_or_past, length-set)
 
 -- a new wait, of a live thread
 of_live_waiting : (threads : List (Option ℕ)) (bodies : List (Option Body)) (ws : List (Option Wait)) (t : ℕ)
@@ -62,9 +52,7 @@ of_live_waiting : (threads : List (Option ℕ)) (bodies : List (Option Body)) (w
     → AreOfLive threads bodies (ws ++ Some (new_wait t mode ids d) ∷ [])
 of_live_waiting threads bodies ws t mode ids d live l = record {
   owners = l.owners;
-  waiters = λ n u h. by_number ws (new_wait t mode ids d) (λ n x. thread_of x ≡ Some u
-      → IsLive threads u) (λ n lt. l.waiters n u) (λ same. let e : t ≡ u = cc in
-      subst (λ v. IsLive threads v) e live) (λ n past none. absurd (cc)) n h;
+  waiters = λ n u h. grind (arith, at_place);
 }
 
 has_new : (ws : List (Option Wait)) (w : Wait) → HasWait w.thread (ws ++ Some w ∷ [])
@@ -101,9 +89,6 @@ module _ (p : PartsState) (q : ObjectsState) (t : ℕ) (mode : Mode) (ids : List
     (alone : number_of t p.waits.waits ≡ None)
     (live : IsLive p.processes.threads t)
     (seen : q.seen ≡ record p.objects.seen { bodies = bodies_after mode t p.objects.seen.bodies ids }) where
-  bodies_are : q.seen.bodies ≡ bodies_after mode t p.objects.seen.bodies ids
-  bodies_are = ap (λ (x : Objects). x.bodies) seen
-
   kept_taken : IsKept (record p { objects = q })
   kept_taken = record {
     sound = sound_rested p p.processes q p.waits p.signaled rest kept.sound refl kept.sound.processes_kept
@@ -112,15 +97,11 @@ module _ (p : PartsState) (q : ObjectsState) (t : ℕ) (mode : Mode) (ids : List
           blocks = ap (λ (x : Objects). x.blocks) seen ∙ kept.sound.counted.blocks;
         })
         kept.sound.named
-        (subst (λ (bs : List (Option Body)). AreFormed p.waits.clock p.objects.objects bs) (sym bodies_are)
-        (formed_taken p.waits.clock p.objects.objects p.objects.seen.bodies t mode ids kept.sound.formed))
-        (subst (λ (bs : List (Option Body)). AreOfLive p.processes.threads bs p.waits.waits) (sym bodies_are)
-        (of_live_taken p.processes.threads p.objects.seen.bodies p.waits.waits t mode ids live kept.sound.of_live))
-        (subst (λ (bs : List (Option Body)). WaitsHaveRoom p.limits.max_recursion bs p.waits.waits) (sym bodies_are)
-        (room_now p.limits.max_recursion mode t p.objects.seen.bodies ids p.waits.waits alone kept.sound.room));
+        (search (arith, formed_taken))
+        (search (arith, of_live_taken))
+        (search (arith, room_now));
     populated = kept.populated;
-    settled = subst (λ (bs : List (Option Body)). IsSettled bs p.waits.waits) (sym bodies_are)
-        (settled_now mode t p.objects.seen.bodies ids p.waits.waits kept.settled);
+    settled = search (arith, settled_now);
   }
 
 -- where a thread's wait was satisfied it took, and else nothing changed
@@ -129,42 +110,37 @@ module _ (p : PartsState) (q : ObjectsState) (t : ℕ) (mode : Mode) (ids : List
     (seen : q.seen ≡ objects_now mode t p.objects.seen ids) where
   took : (code : ℕ) → Some code ≡ code_now mode t p.objects.seen.bodies ids
       → q.seen ≡ record p.objects.seen { bodies = bodies_after mode t p.objects.seen.bodies ids }
-  took code is = seen ∙ taken_now mode t p.objects.seen ids (ready_now mode t p.objects.seen.bodies ids code is)
+  took code is = search arith
 
   pub kept_now : IsKept p → number_of t p.waits.waits ≡ None → IsLive p.processes.threads t → (code : Option ℕ)
       → code ≡ code_now mode t p.objects.seen.bodies ids → IfNone code (q ≡ p.objects)
       → IsKept (record p { objects = q })
-  kept_now kept alone live None is same = subst (λ (z : ObjectsState). IsKept (record p { objects = z })) (sym same)
-      kept
+  kept_now kept alone live None is same = search arith
   kept_now kept alone live (Some code) is same = kept_taken p q t mode ids kept rest alone live (took code is)
 
   pub state_now : IsKept (record p { objects = q }) → IsTied q → (code : Option ℕ)
       → code ≡ code_now mode t p.objects.seen.bodies ids
       → OnSome code (state_of (record p { objects = q }) ≡ settled (with_taken (state_of p) t mode ids))
   state_now after tied None is = tt
-  state_now after tied (Some code) is = sym (settled_kept (record p { objects = q }) after tied)
+  state_now after tied (Some code) is = sym (search (arith, settled_kept))
       ∙ ap settled (state_rested p p.processes q p.waits p.signaled rest
       ∙ ap (λ (o : Objects). record (state_of p) { bodies = o.bodies }) (took code is))
 
 -- what holds of each of some Ids holds of one that is among them
 among : (P : Id → Type 0) (ids : List Id) → ((i : ℕ) → i < length ids → P (get_or ids i nowhere)) → (id : Id)
     → 0 < count_by (same_id id) ids → P id
-among P [] each id h = absurd (omega (arith, h))
+among P [] each id h = absurd (omega arith)
 among P (x ∷ ids) each id h = by (same_id id x) refl (among P ids (λ i lt. each (suc i) (omega arith)) id)
   where
     by : (b : Bool) → same_id id x ≡ b → (0 < count_by (same_id id) ids → P id) → P id
     by true is rest = subst (λ (y : Id). P y) (sym (one_id id x is)) (each 0 (omega arith))
-    by false is rest = let zero_one : cond (same_id id x) 1 0 ≡ 0 = ap {B = ℕ} (λ b. cond b 1 0) is in
-        rest (omega (arith, sum_by-cons (λ y. cond (same_id id y) 1 0) x ids, zero_one, h))
+    by false is rest = search arith
 
 -- the counts of blocks have room for one more wait
 pub few_blocks : (p : PartsState) → IsKept p → rules.IsKept p.waits.waits → length p.waits.waits ≤ 4294967296
     → (k : ℕ) → get_or p.objects.seen.blocks k 0 + 64 ≤ 18446744073709551615
 few_blocks p kept each few k =
-    let all = slot_blocks-few k p.waits.waits each in
-    let most = count_few p.objects.seen.blocks (length p.objects.objects)
-    (λ i. slot_blocks i p.waits.waits) k kept.sound.counted.blocks in
-    omega (arith, few, most, all)
+    search (arith, count_few, slot_blocks-few)
 
 -- a wait that isn't satisfied now became pending
 module _ (p : PartsState) (t : ℕ) (mode : Mode) (ids : List Id) (d : Option ℕ) where
@@ -184,9 +160,9 @@ module _ (p : PartsState) (t : ℕ) (mode : Mode) (ids : List Id) (d : Option �
       → whole_of waiting ≡ record (whole_of p) { state = settled (with_wait (state_of p) t mode ids d) }
   whole_waiting after tied =
       let same : state_of waiting ≡ with_wait (state_of p) t mode ids d =
-      ap (λ (z : ObjectsState). state_of (record p { objects = z; waits = more })) came in
+      search (arith, came_stays) in
       let is = sym (settled_kept waiting after tied) ∙ ap settled same in
-      λ i. record { state = is i; keeper = (came i).keeper }
+      search (arith, came_stays)
 
   module _ (kept : IsKept p)
       (there : (i : ℕ) → i < length ids → 0 < handles_among (get_or ids i nowhere) p.tables.tables) where
@@ -197,14 +173,7 @@ module _ (p : PartsState) (t : ℕ) (mode : Mode) (ids : List Id) (d : Option �
       blocks = recounted p.objects.seen.blocks (with_blocks_of p.objects ids).seen.blocks (length p.objects.objects)
           (λ k. slot_blocks k p.waits.waits) (λ k. slot_blocks k more.waits) kept.sound.counted.blocks
           (came_long ids p.objects)
-          (λ k lt.
-          let at = blocks_at p.objects.seen (length p.objects.objects) p.tables.tables p.waits.waits
-          kept.sound.counted k lt in
-          let long = blocks_long p.objects.seen (length p.objects.objects) p.tables.tables p.waits.waits
-          kept.sound.counted in
-          let x = came_counts ids p.objects k (omega (arith, long, lt)) in
-          let y = slot_added k p.waits.waits t mode ids d in
-          omega (arith, at, x, y));
+          (search (arith, blocks_at, blocks_long, came_counts, slot_added));
     }
 
     named_after : IsNamed p.objects.objects p.tables.tables (waits.with_wait p.waits t mode ids d).waits
@@ -213,8 +182,7 @@ module _ (p : PartsState) (t : ℕ) (mode : Mode) (ids : List Id) (d : Option �
       blocks = λ id h. elim (cases_lt 0 (count_by (same_id id) ids)) [
         | inl some ↦ kept.sound.named.entries id (among
             (λ (x : Id). 0 < handles_among x p.tables.tables) ids there id some)
-        | inr none ↦ (let x = blocks_added id p.waits.waits t mode ids d in
-            kept.sound.named.blocks id (omega (arith, x, h, none)))
+        | inr none ↦ search (arith, blocks_added)
       ];
     }
 
@@ -222,14 +190,7 @@ module _ (p : PartsState) (t : ℕ) (mode : Mode) (ids : List Id) (d : Option �
         → list_ready mode t p.objects.seen.bodies ids ≡ false → IsKept waiting
     kept_waiting room live unready = subst (λ (z : ObjectsState). IsKept (record p { objects = z; waits = more }))
         (sym came) (record {
-          sound = sound_rested p p.processes (record p.objects {
-            seen =
-                record p.objects.seen { blocks = (with_blocks_of p.objects ids).seen.blocks };
-          }) more p.signaled refl kept.sound
-              refl kept.sound.processes_kept counted_after named_after kept.sound.formed
-              (of_live_waiting p.processes.threads p.objects.seen.bodies p.waits.waits t mode ids d live
-              kept.sound.of_live)
-              (room_added p.limits.max_recursion p.objects.seen.bodies p.waits.waits t mode ids d room kept.sound.room);
+          sound = search (arith, of_live_waiting, counted_after, named_after, room_added);
           populated = kept.populated;
           settled = settled_added p.objects.seen.bodies p.waits.waits t mode ids d unready kept.settled;
         })
@@ -271,7 +232,7 @@ module _ (p : PartsState) (q : ObjectsState) (n code : ℕ) (ids : List Id)
         let y = left_all ids p.objects.seen k in
         let z = slot_answered k p.waits.waits n code in
         let e : slot_places k ids ≡ slot_places k (ids_of (get_or p.waits.waits n None)) = ap (slot_places k) are in
-        omega (arith, at, x, y, z, e));
+        omega arith);
   }
 
   pub way_expired : IsTied q → IsUnderWay p.objects.keeper expired (with_answer (state_of p) n code)
@@ -279,22 +240,10 @@ module _ (p : PartsState) (q : ObjectsState) (n code : ℕ) (ids : List Id)
     tied = tied;
     sound = sound_rested p p.processes q (waits.with_answer p.waits n code) p.signaled rest kept.sound refl
         kept.sound.processes_kept counted_left
-        (named_fewer p.objects.objects p.tables.tables p.tables.tables p.waits.waits after (λ id. omega arith)
-        (λ id. let x = blocks_answered id p.waits.waits n code in omega (arith, x)) kept.sound.named)
-        (formed_left p.waits.clock p.objects.objects p.objects.seen.bodies q.seen.bodies fewer kept.sound.formed)
-        (record {
-          owners = λ k u h. elim (fewer.each k) [
-            | inl same ↦
-                kept.sound.of_live.owners k u (sym (ap slot_owner same) ∙ h)
-            | inr none ↦
-                absurd (let e = ap slot_owner none in cc (e, h))
-          ];
-          waiters = set_waiters p.processes.threads p.waits.waits n (answered (get_or p.waits.waits n None) code)
-              (λ u h. answered_thread (get_or p.waits.waits n None) code u h) kept.sound.of_live.waiters;
-        })
-        (room_answered limit q.seen.bodies p.waits.waits n code
-        (room_changed limit p.objects.seen.bodies q.seen.bodies p.waits.waits
-        (λ u k h. room_left_at limit u p.objects.seen.bodies q.seen.bodies k fewer h) kept.sound.room));
+        (search (arith, blocks_answered))
+        (search (arith, left_blocks))
+        (search (arith, set_waiters, answered_thread, fewer, fewer.each))
+        (search (arith, left_blocks, room_answered));
     rest = state_rested p p.processes q (waits.with_answer p.waits n code) p.signaled rest;
     bodies = fewer;
     keeper = ap (λ (r : KeptRest). r.keeper) rest;
@@ -303,7 +252,7 @@ module _ (p : PartsState) (q : ObjectsState) (n code : ℕ) (ids : List Id)
   pub settled_expired : IsSettled q.seen.bodies (waits.with_answer p.waits n code).waits
   settled_expired = settled_answered q.seen.bodies p.waits.waits n code
       (settled_less p.objects.seen.bodies q.seen.bodies p.waits.waits
-      (less_gone p.objects.seen.bodies q.seen.bodies fewer) kept.settled)
+      (search (arith, fewer)) kept.settled)
 
 -- a wait that was answered is over
 abbrev pub over : PartsState → ℕ → PartsState
@@ -324,11 +273,11 @@ kept_over p n code kept is =
                 kept.sound.counted k lt in
                 let x = slot_removed k p.waits.waits n in
                 let none : slot_places k (ids_of (get_or p.waits.waits n None)) ≡ 0 =
-                ap (slot_places k) (answered_ids (get_or p.waits.waits n None) code is) in
-                omega (arith, at, x, none));
+                search arith in
+                omega arith);
           })
           (named_fewer p.objects.objects p.tables.tables p.tables.tables p.waits.waits gone.waits (λ id. omega arith)
-          (λ id. let x = blocks_removed id p.waits.waits n in omega (arith, x)) kept.sound.named)
+          (λ id. let x = blocks_removed id p.waits.waits n in omega arith) kept.sound.named)
           kept.sound.formed
           (record {
             owners = kept.sound.of_live.owners;
