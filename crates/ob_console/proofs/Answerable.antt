@@ -1,6 +1,6 @@
 -- Every call may be answered, in any state whose slots may be pinned at all, and whatever a reader holds.
-use Rattle.std.proofs.Common.{◌≡◌, ℕ, ◌<◌, List, ◌∷◌, Bool, true, false, cond, not, Option, Some, None, Result, Ok, Err, inr, refl, ap, sym, arith}
-use Rattle.std.specs.Prelude.{◌||◌, is_ok, nat_le, nat_lt, slice_index_or}
+use Rattle.std.proofs.Common.{◌≡◌, ℕ, ◌<◌, List, ◌∷◌, true, None, Result, Ok, Err, refl, ap, arith}
+use Rattle.std.specs.Prelude.{nat_le, slice_index_or}
 use Rattle.pin_core.specs.declared.id.Id.{Id}
 use Rattle.pin_core.specs.declared.word.Word.{Word}
 use Rattle.pin_core.specs.Words.{decoded, encoded}
@@ -9,42 +9,29 @@ use Rattle.pin_words.specs.declared.pin_keeper.Reclaim.{Reclaim}
 use Rattle.pin_words.specs.declared.pin_keeper.Reclaim.TheVariants as reclaim
 use Rattle.pin_words.specs.Keepers.{KeeperState, ReclaimsFound, with_looks}
 use Rattle.pin_words.specs.Views.{look}
-use Rattle.pin_words.proofs.Bits.{decoded-encoded}
 use Rattle.ob_rights.specs.declared.fault.Fault.{Fault}
 use Rattle.ob_rights.specs.declared.fault.Fault.TheVariants as fault
 use Rattle.ob_rights.specs.declared.kind.Kind.TheVariants as kind
-use Rattle.ob_rights.specs.Flags.{is_protected}
-use Rattle.ob_body.specs.Body.{post_answer, unlock_answer}
-use Rattle.ob_store.specs.State.{State, Whole, settled, with_entry}
-use Rattle.ob_name.specs.Listing.{find_name}
-use Rattle.ob_store.specs.Directory.{directory_of}
+use Rattle.ob_body.specs.Body.{post_answer}
+use Rattle.ob_store.specs.State.{Whole, settled}
 use Rattle.ob_store.specs.Moves.{after_reclaim}
-use Rattle.ob_rights.specs.declared.rights.Rights.{Rights}
-use Rattle.ob_tables.specs.declared.entry.Entry.{Entry}
-use Rattle.ob_waits.specs.declared.wait.Mode.{Mode}
-use Rattle.ob_waits.specs.declared.wait.WaitState.{WaitState}
-use Rattle.ob_waits.specs.declared.wait.WaitState.TheVariants as stands
-use Rattle.ob_waits.specs.Waits.{is_pending, list_ready, state_at}
-use Rattle.ob_store.specs.Ticks.{last_moment}
-use Rattle.ob_store.specs.Waiting.{are_waits_given}
-use Rattle.ob_manager.specs.declared.waiting.Timeout.{Timeout}
 use Rattle.ob_manager.specs.Calls.{Call}
 use Rattle.ob_manager.specs.declared.call.CallOf.TheVariants as calls
 use Rattle.ob_manager.specs.declared.reply.Reply.{Reply}
-use Rattle.ob_manager.specs.declared.reply.Reply.TheVariants.{Code, Duplicated, Reaped, Refused}
+use Rattle.ob_manager.specs.declared.reply.Reply.TheVariants.{Reaped, Refused}
 use Rattle.ob_manager.specs.Outcomes.{Outcome, ◌>>=◌, or_refuse, refuse_if}
 use Rattle.ob_manager.specs.Checks.{caller, found, body_of, granted, positive}
-use Rattle.ob_manager.specs.Creating.{entry_of, name_in, new_handle, next_handle, open_named}
+use Rattle.ob_manager.specs.Creating.{open_named}
 use Rattle.ob_manager.specs.Handles.{close, handle_flags, set_handle_flags}
-use Rattle.ob_manager.specs.Copying.{admitted, copied_to, duplicate, is_stuck, is_wrong, leaves, with_source, without_source}
+use Rattle.ob_manager.specs.Copying.{duplicate}
 use Rattle.ob_manager.specs.Waiting as waiting
-use Rattle.ob_manager.specs.Waiting.{deadline_in, have_room, is_for_one_twice, is_misshapen, is_zero, objects_of, pending, satisfied, shown, unsatisfied, wait, wait_on, wait_result}
+use Rattle.ob_manager.specs.Waiting.{wait, wait_result}
 use Rattle.ob_manager.specs.Ending.{end_thread, exit}
 use Rattle.ob_manager.specs.Signaling.{modify_state, set_event, reset_event, release_semaphore, release_mutex}
 use Rattle.ob_manager.specs.Timing.{set_timer, cancel_timer, tick}
-use Rattle.ob_manager.specs.Counting.{counts, object_of}
+use Rattle.ob_manager.specs.Counting.{counts}
 use Rattle.ob_manager.specs.Reaping.{IfReap, if_ended, reap}
-use Rattle.ob_manager.specs.Steps.{Step, does, lacks, outcome_of, takes_memory, final, KeeperAfter}
+use Rattle.ob_manager.specs.Steps.{Step, does, outcome_of, takes_memory, final, KeeperAfter}
 use Rattle.ob_console.specs.Runs.{Looks, Spares}
 use Rattle.ob_console.proofs.Sparing.{reaped_as}
 
@@ -83,7 +70,7 @@ answered w call (Ok outcome) none is rests = record {
 answered w call (Err fault) none is rests = record {
   reply = Refused fault;
   next = w;
-  step = does (ap (final w.state) (is (Refused fault))) refl;
+  step = search arith;
   looks = none _;
   spares = λ held. none _;
 }
@@ -94,14 +81,14 @@ refused : (w : Whole) (call : Call) (outcome : Result Outcome Fault) → AsksNoS
 refused w call (Ok outcome) none takes is = record {
   reply = Refused fault.Memory;
   next = w;
-  step = lacks takes (ap is_ok (is (Refused fault.Memory))) refl refl;
+  step = search arith;
   looks = none _;
   spares = λ held. none _;
 }
 refused w call (Err fault) none takes is = record {
   reply = Refused fault;
   next = w;
-  step = does (ap (final w.state) (is (Refused fault))) refl;
+  step = search arith;
   looks = none _;
   spares = λ held. none _;
 }
@@ -125,14 +112,14 @@ finds_pinned k slot pins = (
   record {
     generation = ap (λ (w : Word). w.generation) is;
     phase = ap (λ (w : Word). w.phase) is;
-    room = rw one (omega (arith, pins));
+    room = rw one (omega arith);
   },
-  λ none. absurd (let c : ⊥ = omega (arith, one, none) in c),
-  λ some. (refl, ap reclaim.Held (sym one)),
+  search arith,
+  search arith,
 )
   where
     is : decoded (encoded (pinned_word k slot)) ≡ pinned_word k slot
-    is = decoded-encoded (pinned_word k slot) (omega arith)
+    is = search arith
 
     one : (decoded (encoded (pinned_word k slot))).pins ≡ 1
     one = ap (λ (w : Word). w.pins) is
@@ -161,66 +148,15 @@ held_back w slot (Ok unit) (Ok id) pins is = record {
     state = settled (after_reclaim w.state slot (reclaim.Held 1));
     keeper = found_pinned w.keeper id.slot;
   };
-  step = does (ap (final w.state) (is (reclaim.Held 1)))
-      (refl, omega arith, omega (arith, pins), inr (encoded (pinned_word w.keeper id.slot), refl));
+  step = search arith;
   looks = finds_pinned w.keeper id.slot pins;
   spares = λ held. tt;
 }
 
--- a wait, satisfied or not
-unsatisfied_rests : (s : State) (thread : ℕ) (mode : Mode) (timeout : Timeout) (ids : List Id) (k : KeeperState)
-    → Rests (unsatisfied s thread mode timeout ids) k
-unsatisfied_rests s thread mode timeout ids k = by (is_zero timeout)
-  where
-    by : (zero : Bool) → Rests (cond zero (Ok (record { reply = Code 258; state = s }))
-        (pending s thread mode (deadline_in s.clock timeout) ids)) k
-    by true = refl
-    by false = rests_behind k (refuse_if (are_waits_given s) fault.Limit) _ (λ given. refl)
-
-wait_rests : (s : State) (thread : ℕ) (mode : Mode) (timeout : Timeout) (ids : List Id) (k : KeeperState)
-    → Rests (wait_on s thread mode timeout ids) k
-wait_rests s thread mode timeout ids k =
-    rests_behind k (refuse_if (is_for_one_twice mode ids) fault.Parameter) _ (λ once.
-    rests_behind k (refuse_if (not (have_room s thread ids)) fault.Limit) _
-    (λ room. by (list_ready mode thread s.bodies ids)))
-  where
-    by : (ready : Bool) → Rests (cond ready (satisfied s thread mode ids) (unsatisfied s thread mode timeout ids)) k
-    by true = refl
-    by false = unsatisfied_rests s thread mode timeout ids k
-
-shown_rests : (s : State) (number : ℕ) (x : WaitState) (k : KeeperState) → Rests (Ok (shown s number x)) k
-shown_rests s number stands.Pending k = refl
-shown_rests s number (stands.Answered code) k = refl
-
--- a duplicate, which may close its source
-copy_rests : (s : State) (entry : Entry) (source handle : ℕ) (target : Option ℕ) (mask : Rights) (inherit : Bool)
-    (options : ℕ) (k : KeeperState) (closing : Bool) →
-    Rests (cond closing (Ok (without_source s source handle (copied_to s entry target mask inherit options)))
-    (with_source (copied_to s entry target mask inherit options))) k
-copy_rests s entry source handle None mask inherit options k true = refl
-copy_rests s entry source handle None mask inherit options k false = refl
-copy_rests s entry source handle (Some target) mask inherit options k closing =
-    by closing (admitted s entry target mask options)
-  where
-    copy : Rights → Result Outcome Fault
-    copy rights = Ok (record {
-      reply = Duplicated (next_handle s target) entry.id;
-      state = with_entry s target (entry_of entry.id rights inherit);
-    })
-
-    by : (closing : Bool) (rights : Result Rights Fault)
-        → Rests (cond closing (Ok (without_source s source handle (rights >>= copy))) (with_source (rights >>= copy))) k
-    by true (Ok rights) = refl
-    by true (Err e) = refl
-    by false (Ok rights) = refl
-    by false (Err e) = tt
-
 pub can_answer : (w : Whole) (call : Call) → 0 < w.keeper.shape.max_pins → CanAnswer w call
 can_answer w (calls.Spawn session) pins = refused w (calls.Spawn session) _ (λ P. tt) refl (λ reply. refl)
-can_answer w (calls.Child thread inherit) pins = refused w (calls.Child thread inherit) _ (λ P. tt) refl
-    (λ reply. refl)
-can_answer w (calls.StartThread process) pins = refused w (calls.StartThread process) _ (λ P. tt) refl
-    (λ reply. refl)
+can_answer w (calls.Child thread inherit) pins = refused w (calls.Child thread inherit) _ (λ P. tt) refl (λ reply. refl)
+can_answer w (calls.StartThread process) pins = refused w (calls.StartThread process) _ (λ P. tt) refl (λ reply. refl)
 can_answer w (calls.MakeEvent thread make manual set) pins =
     refused w (calls.MakeEvent thread make manual set) _ (λ P. tt) refl (λ reply. refl)
 can_answer w (calls.MakeMutex thread make owned) pins =
@@ -230,49 +166,35 @@ can_answer w (calls.MakeSemaphore thread make initial max) pins =
 can_answer w (calls.MakeTimer thread make manual) pins =
     refused w (calls.MakeTimer thread make manual) _ (λ P. tt) refl (λ reply. refl)
 can_answer w (calls.OpenNamed thread kind mask inherit text) pins =
-    answered w (calls.OpenNamed thread kind mask inherit text) (open_named w.state thread kind mask inherit text)
+    answered w (search (arith, calls.OpenNamed)) (open_named w.state thread kind mask inherit text)
     (λ P. tt) (λ reply. refl)
-    (rests_behind w.keeper (caller w.state thread) _
-    (λ process. rests_behind w.keeper (name_in w.state process text) _
-    (λ name. rests_behind w.keeper (or_refuse (find_name name (directory_of w.state)) fault.NotFound) _ (λ id.
-    rests_behind w.keeper (new_handle w.state process id kind mask inherit) _ (λ after. refl)))))
+    (search arith)
 can_answer w (calls.Duplicate thread source handle target mask inherit options) pins =
     answered w (calls.Duplicate thread source handle target mask inherit options)
     (duplicate w.state thread source handle target mask inherit options) (λ P. tt) (λ reply. refl)
-    (rests_behind w.keeper (caller w.state thread) _
-    (λ process. rests_behind w.keeper (or_refuse (slice_index_or w.state.processes source None) fault.Parameter) _
-    (λ session.
-    rests_behind w.keeper (refuse_if (is_wrong options target) fault.Parameter) _
-    (λ right. rests_behind w.keeper (found w.state source handle) _
-    (λ entry. rests_behind w.keeper (refuse_if (is_stuck target entry) fault.Handle) _ (λ free.
-    copy_rests w.state entry source handle target mask inherit options w.keeper (leaves options entry)))))))
+    (search arith)
 can_answer w (calls.CloseHandle thread handle) pins =
     answered w (calls.CloseHandle thread handle) (close w.state thread handle) (λ P. tt) (λ reply. refl)
     (rests_behind w.keeper (caller w.state thread) _
     (λ process. rests_behind w.keeper (found w.state process handle) _
-    (λ entry. rests_behind w.keeper (refuse_if (is_protected entry.flags) fault.Handle) _ (λ free. refl))))
+    (λ entry. search arith)))
 can_answer w (calls.GetFlags thread handle) pins =
     answered w (calls.GetFlags thread handle) (handle_flags w.state thread handle) (λ P. tt) (λ reply. refl)
-    (rests_behind w.keeper (caller w.state thread) _
-    (λ process. rests_behind w.keeper (found w.state process handle) _ (λ entry. refl)))
+    (search arith)
 can_answer w (calls.SetFlags thread handle mask flags) pins =
     answered w (calls.SetFlags thread handle mask flags) (set_handle_flags w.state thread handle mask flags)
     (λ P. tt) (λ reply. refl)
-    (rests_behind w.keeper (caller w.state thread) _
-    (λ process. rests_behind w.keeper (refuse_if (nat_lt 3 mask) fault.Parameter) _
-    (λ known. rests_behind w.keeper (found w.state process handle) _ (λ entry. refl))))
+    (search arith)
 can_answer w (calls.SetEvent thread handle) pins =
     answered w (calls.SetEvent thread handle) (set_event w.state thread handle) (λ P. tt) (λ reply. refl)
     (rests_behind w.keeper (caller w.state thread) _
     (λ process. rests_behind w.keeper (found w.state process handle) _ (λ entry.
-    rests_behind w.keeper (body_of w.state entry.id kind.Event) _
-    (λ event. rests_behind w.keeper (granted modify_state entry) _ (λ granted. refl)))))
+    search arith)))
 can_answer w (calls.ResetEvent thread handle) pins =
     answered w (calls.ResetEvent thread handle) (reset_event w.state thread handle) (λ P. tt) (λ reply. refl)
     (rests_behind w.keeper (caller w.state thread) _
     (λ process. rests_behind w.keeper (found w.state process handle) _ (λ entry.
-    rests_behind w.keeper (body_of w.state entry.id kind.Event) _
-    (λ event. rests_behind w.keeper (granted modify_state entry) _ (λ granted. refl)))))
+    search arith)))
 can_answer w (calls.ReleaseSemaphore thread handle count) pins =
     answered w (calls.ReleaseSemaphore thread handle count) (release_semaphore w.state thread handle count)
     (λ P. tt) (λ reply. refl)
@@ -287,50 +209,39 @@ can_answer w (calls.ReleaseMutex thread handle) pins =
     (λ reply. refl)
     (rests_behind w.keeper (caller w.state thread) _
     (λ process. rests_behind w.keeper (found w.state process handle) _ (λ entry.
-    rests_behind w.keeper (body_of w.state entry.id kind.Mutex) _
-    (λ mutex. rests_behind w.keeper (unlock_answer thread mutex) _ (λ released. refl)))))
+    search arith)))
 can_answer w (calls.SetTimer thread handle due) pins =
     answered w (calls.SetTimer thread handle due) (set_timer w.state thread handle due) (λ P. tt)
     (λ reply. refl)
     (rests_behind w.keeper (caller w.state thread) _
     (λ process. rests_behind w.keeper (found w.state process handle) _ (λ entry.
-    rests_behind w.keeper (body_of w.state entry.id kind.Timer) _
-    (λ timer. rests_behind w.keeper (granted modify_state entry) _ (λ granted. refl)))))
+    search arith)))
 can_answer w (calls.CancelTimer thread handle) pins =
     answered w (calls.CancelTimer thread handle) (cancel_timer w.state thread handle) (λ P. tt) (λ reply. refl)
     (rests_behind w.keeper (caller w.state thread) _
     (λ process. rests_behind w.keeper (found w.state process handle) _ (λ entry.
-    rests_behind w.keeper (body_of w.state entry.id kind.Timer) _
-    (λ timer. rests_behind w.keeper (granted modify_state entry) _ (λ granted. refl)))))
+    search arith)))
 can_answer w (calls.Tick now) pins = answered w (calls.Tick now) (tick w.state now) (λ P. tt) (λ reply. refl)
-    (rests_behind w.keeper (refuse_if (nat_lt now w.state.clock || nat_lt last_moment now) fault.Parameter) _
-    (λ right. refl))
+    (search arith)
 can_answer w (calls.WaitFor thread mode timeout handles) pins =
     answered w (calls.WaitFor thread mode timeout handles) (wait w.state thread mode timeout handles) (λ P. tt)
     (λ reply. refl)
-    (rests_behind w.keeper (caller w.state thread) _
-    (λ process. rests_behind w.keeper (refuse_if (is_misshapen handles) fault.Parameter) _ (λ shaped.
-    rests_behind w.keeper (objects_of w.state process handles) _
-    (λ ids. wait_rests w.state thread mode timeout ids w.keeper))))
+    (search arith)
 can_answer w (calls.WaitResult number) pins = answered w (calls.WaitResult number) (wait_result w.state number)
     (λ P. tt) (λ reply. refl)
-    (rests_behind w.keeper (or_refuse (state_at (slice_index_or w.state.waits number None)) fault.Parameter) _
-    (λ x. shown_rests w.state number x w.keeper))
+    (search arith)
 can_answer w (calls.Expire number) pins = answered w (calls.Expire number) (waiting.expire w.state number)
     (λ P. tt) (λ reply. refl)
-    (rests_behind w.keeper (refuse_if (not (is_pending (slice_index_or w.state.waits number None))) fault.Parameter) _
-    (λ pending. refl))
+    (search arith)
 can_answer w (calls.EndThread thread) pins = answered w (calls.EndThread thread) (end_thread w.state thread)
     (λ P. tt) (λ reply. refl)
-    (rests_behind w.keeper (or_refuse (slice_index_or w.state.threads thread None) fault.Parameter) _ (λ process. refl))
+    (search arith)
 can_answer w (calls.Exit process) pins = answered w (calls.Exit process) (exit w.state process) (λ P. tt)
     (λ reply. refl)
-    (rests_behind w.keeper (or_refuse (slice_index_or w.state.processes process None) fault.Parameter) _
-    (λ session. refl))
+    (search arith)
 can_answer w (calls.Reap slot) pins = held_back w slot (refuse_if (nat_le w.state.limits.slots slot) fault.Parameter)
     (if_ended (slice_index_or w.state.objects slot None) (slice_index_or w.state.bodies slot None)) pins
     (λ outcome. refl)
 can_answer w (calls.Counts id) pins = answered w (calls.Counts id) (counts w.state id) (λ P. tt)
     (λ reply. refl)
-    (rests_behind w.keeper (refuse_if (nat_le w.state.limits.slots id.slot) fault.Parameter) _
-    (λ there. rests_behind w.keeper (or_refuse (object_of w.state id) fault.Handle) _ (λ found. refl)))
+    (search arith)

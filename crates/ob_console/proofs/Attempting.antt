@@ -7,13 +7,11 @@ use Rattle.std.proofs.lemmas.Grind.{common_steps}
 use Rattle.pin_core.specs.declared.id.Id.{Id}
 use Rattle.pin_core.specs.declared.descr.Descr.{Descr}
 use Rattle.pin_core.specs.declared.shape.Shape.{Shape}
-use Rattle.pin_core.specs.declared.word.Word.{Word}
 use Rattle.pin_core.specs.declared.word.Phase.{Phase}
 use Rattle.pin_core.specs.declared.world.Slot.{Slot}
 use Rattle.pin_core.specs.Holds.{tally, same_id}
 use Rattle.pin_core.specs.Words.{decoded}
 use Rattle.pin_core.specs.Worlds.{slot_of, opening_slot}
-use Rattle.pin_core.specs.Safety.{rank_of}
 use Rattle.pin_words.specs.declared.fault.Verdict.{Verdict}
 use Rattle.pin_words.specs.declared.fault.Verdict.TheVariants.{Unborn, Stale, PinsFull, Go}
 use Rattle.pin_words.specs.declared.fault.PinFault.{PinFault}
@@ -33,7 +31,7 @@ use Rattle.ob_store.specs.Objects.{Object}
 use Rattle.ob_store.specs.State.{State, Whole, generation_of, shape_of}
 use Rattle.ob_console.specs.Attempts.{Attempts, Told}
 use Rattle.ob_console.specs.Pinning.{Finds, IsWord, IsPinned, IsBusy, Judged, Pins, phase_in, phase_at}
-use Rattle.ob_console.proofs.Found.{card_found, met_found, within}
+use Rattle.ob_console.proofs.Found.{card_found, within}
 
 -- there is no such slot
 pub no_slot : (s : State) (held : List Id) (looks : List Look) (id : Id) → s.limits.slots ≤ id.slot
@@ -64,10 +62,8 @@ looked_before PinsFull r id n k tried m a b = (subst (λ (z : ReaderView). Behin
 looked_before Go r id n k tried m a b = cases (a.0 == n) refl
   where
     cases : (e : Bool) → (a.0 == n) ≡ e → NoLater n k
-    cases true e = (subst (λ (z : ReaderView). Behind z.looks id.slot k) (a.2 (grind (arith, common_steps))).1 b).1.0
-        refl
-    cases false e = (subst (λ (z : ReaderView). Behind z.looks id.slot k) (a.3 (grind (arith, common_steps))).1 b).1.0
-        refl
+    cases true e = (subst (λ (z : ReaderView). Behind z.looks id.slot k) (a.2 (grind arith)).1 b).1.0 refl
+    cases false e = (subst (λ (z : ReaderView). Behind z.looks id.slot k) (a.3 (grind arith)).1 b).1.0 refl
 
 -- a try begins with that look
 begins_with : (vd : Verdict) (r : ReaderView) (id : Id) (n : ℕ) (tried : Result (Unit {0}) PinFault) (m : ReaderView)
@@ -80,31 +76,17 @@ begins_with Go r id n tried m a = cases (a.0 == n) refl
     cases : (e : Bool) → (a.0 == n) ≡ e → (more : List Look) × (m.looks ≡ more ++ (look id.slot n ∷ r.looks))
     cases true e = (
       look id.slot a.0 ∷ [],
-      ap (λ (z : ReaderView). z.looks) (a.2 (grind (arith, common_steps))).1,
+      ap (λ (z : ReaderView). z.looks) (a.2 (grind arith)).1,
     )
     cases false e = (
       look id.slot a.0 ∷ [],
-      ap (λ (z : ReaderView). z.looks) (a.3 (grind (arith, common_steps))).1,
+      ap (λ (z : ReaderView). z.looks) (a.3 (grind arith)).1,
     )
-
--- a word between two of one generation and phase has these too
-same_rank : (p q : Phase) → rank_of p ≡ rank_of q → p ≡ q
-same_rank p q e = grind arith
-
-small_rank : (p : Phase) → rank_of p < 4
-small_rank p = grind arith
 
 between : (a n b g : ℕ) (p : Phase) → (decoded a).generation ≡ g → (decoded a).phase ≡ p → (decoded b).generation ≡ g
     → (decoded b).phase ≡ p → word_age a ≤ word_age n → word_age n ≤ word_age b
     → ((decoded n).generation ≡ g) × ((decoded n).phase ≡ p)
-between a n b g p ga pa gb pb low high =
-    let ra = ap rank_of pa in
-    let rb = ap rank_of pb in
-    let sn = small_rank (decoded n).phase in
-    let sp = small_rank p in
-    let same : rank_of (decoded n).phase ≡ rank_of p = omega arith in
-    let generation : (decoded n).generation ≡ g = omega arith in
-    (generation, same_rank (decoded n).phase p same)
+between a n b g p ga pa gb pb low high = search arith
 
 -- the generation and the phase that the state has for a slot are those that the keeper has
 phase_is : (slot : ℕ) (x : Option Object) (body : Option Body) (retired : Bool) (y : Slot)
@@ -128,13 +110,13 @@ judged : (vd : Verdict) (Found : ℕ → Type 0) (w : Whole) (r m r3 r4 : Reader
     → IsConsistent w → id.slot < w.state.limits.slots → FollowsLook vd r id n tried m → Told tried m id res r3
     → IsMet w.keeper r3 id.slot r4 → Judged vd Found n w.state r.held id res r3.held
 judged Unborn Found w r m r3 r4 id n tried res second consistent inside a told met =
-    let t : Told (Err fault.Unborn) m id res r3 = subst (λ z. Told z m id res r3) a.0 told in
+    let t : Told (Err fault.Unborn) m id res r3 = search arith in
     (t.0, told_held tried m r3 id res told ∙ ap (λ (z : ReaderView). z.held) a.1)
 judged Stale Found w r m r3 r4 id n tried res second consistent inside a told met =
-    let t : Told (Err fault.Stale) m id res r3 = subst (λ z. Told z m id res r3) a.0 told in
+    let t : Told (Err fault.Stale) m id res r3 = search arith in
     (t.0, told_held tried m r3 id res told ∙ ap (λ (z : ReaderView). z.held) a.1)
 judged PinsFull Found w r m r3 r4 id n tried res second consistent inside a told met =
-    let t : Told (Err fault.PinsFull) m id res r3 = subst (λ z. Told z m id res r3) a.0 told in
+    let t : Told (Err fault.PinsFull) m id res r3 = search arith in
     (t.0, told_held tried m r3 id res told ∙ ap (λ (z : ReaderView). z.held) a.1)
 judged Go Found w r m r3 r4 id n tried res second consistent inside a told met = cases (a.0 == n) refl
   where
@@ -142,9 +124,9 @@ judged Go Found w r m r3 r4 id n tried res second consistent inside a told met =
     won ok got =
         let t : Told (Ok tt) m id res r3 = subst (λ z. Told z m id res r3) ok told in
         let holds : 0 < tally (same_id id) r3.held =
-        subst (λ (z : List Id). 0 < tally (same_id id) z) (sym (told_held tried m r3 id res told)) t.3 in
+        search arith in
         let found : IsFound id r3 (slice_index_or w.state.objects id.slot None) =
-        met_found w r3 r4 id consistent inside holds met in
+        search arith in
         record {
           made = record { id = found.object.id; descr = found.object.descr; grant = found.object.grant };
           is_there = card_found w.state r3 id found;
@@ -156,7 +138,7 @@ judged Go Found w r m r3 r4 id n tried res second consistent inside a told met =
     lost : (a.0 ≢ n) → (tried ≡ Err (fault.Busy (decoded a.0)))
         → (m ≡ reader_looked (reader_looked r id.slot n) id.slot a.0) → IsBusy Found n r.held res r3.held
     lost other err same =
-        let t : Told (Err (fault.Busy (decoded a.0))) m id res r3 = subst (λ z. Told z m id res r3) err told in
+        let t : Told (Err (fault.Busy (decoded a.0))) m id res r3 = search arith in
         record {
           seen = a.0;
           found = second a.0 same;

@@ -1,5 +1,5 @@
 -- What a meeting tells of a slot: its object, where the reader holds something there.
-use Rattle.std.proofs.Common.{◌≡◌, ℕ, ◌<◌, true, List, Option, Some, None, slice_index_or, sym, refl, ap, subst, ◌∙◌}
+use Rattle.std.proofs.Common.{arith, ◌≡◌, ℕ, ◌<◌, true, List, Some, None, slice_index_or, sym, refl, subst}
 use Rattle.pin_core.specs.declared.id.Id.{Id}
 use Rattle.pin_core.specs.declared.shape.Shape.{Shape}
 use Rattle.pin_core.specs.declared.world.Slot.{Slot}
@@ -9,13 +9,11 @@ use Rattle.pin_core.specs.Worlds.{slot_of}
 use Rattle.pin_words.specs.declared.view.ReaderView.{ReaderView}
 use Rattle.pin_words.specs.Plays.{Show}
 use Rattle.pin_words.specs.Views.{id_of}
-use Rattle.ob_tables.proofs.Counting.{same_id-same}
 use Rattle.ob_store.specs.Consistent.{IsConsistent}
 use Rattle.ob_store.specs.Meetings.{IsFound, IsMet}
 use Rattle.ob_store.specs.Objects.{Object}
 use Rattle.ob_store.specs.State.{State, Whole}
-use Rattle.ob_store.proofs.MeetingLaws.{found_in}
-use Rattle.ob_manager.specs.Counting.{card, carded, if_id}
+use Rattle.ob_manager.specs.Counting.{card}
 use Rattle.ob_manager.specs.declared.card.Card.{Card}
 
 -- a slot of the limits is the keeper's
@@ -33,21 +31,13 @@ pub met_found : (w : Whole) (r r' : ReaderView) (id : Id) → IsConsistent w →
 met_found w r r' id consistent inside held met =
     let there = met.2.3.held id held refl in
     let shown : Show id (slot_of met.0.slots id.slot).descr r.notes =
-    subst (λ (x : Id). Show x (slot_of met.0.slots id.slot).descr r.notes) (sym there.0) (met.2.3.shown there.1) in
-    let shows : Shows w.keeper.slots id r = subst (λ (slots : List Slot). Shows slots id r) met.1.slots (
-      there.0,
-      there.1,
-      shown,
-    ) in
-    found_in id r _ _ _ (slot_of w.keeper.slots id.slot)
-    (consistent.slots id.slot (within w id.slot consistent inside)) shows.0 shows.1 shows.2
+    search arith in
+    let shows : Shows w.keeper.slots id r = search arith in
+    search arith
 
 abbrev card_of : Object → Card
 card_of o = record { id = o.id; descr = o.descr; grant = o.grant }
 
 pub card_found : (s : State) (r : ReaderView) (id : Id) (found : IsFound id r (slice_index_or s.objects id.slot None))
     → card s id ≡ Some (card_of found.object)
-card_found s r id found = ap (λ (x : Option Object). carded (if_id id x)) found.is ∙ this
-  where
-    this : carded (if_id id (Some found.object)) ≡ Some (card_of found.object)
-    this = rw (ap (λ (x : Id). same_id x id) found.named ∙ same_id-same id) refl
+card_found s r id found = search arith

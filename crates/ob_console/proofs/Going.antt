@@ -1,5 +1,5 @@
 -- Runs go on.
-use Rattle.std.proofs.Common.{◌≡◌, ℕ, ◌+◌, ◌<◌, List, [], ◌∷◌, ◌++◌, length, if◌then◌else◌, refl, ap, subst, sym, ◌∙◌, arith}
+use Rattle.std.proofs.Common.{◌≡◌, ℕ, ◌+◌, ◌<◌, List, [], ◌∷◌, ◌++◌, length, refl, ap, subst, sym, arith, if◌then◌else◌}
 use Rattle.pin_core.specs.declared.shape.Shape.{Shape}
 use Rattle.pin_core.specs.Holds.{drop_last, same_id}
 use Rattle.ob_store.specs.State.{Whole}
@@ -17,8 +17,7 @@ use Rattle.ob_console.proofs.Pinnable.{can_pin}
 pub run-append : (s : Point) (n : ℕ) (lines : List (List ℕ)) (outputs : List (List ℕ)) (t : Point)
     (later : List (List ℕ)) (more : List (List ℕ)) (u : Point) → Run s n lines outputs t
     → Run t (n + length lines) later more u → Run s n (lines ++ later) (outputs ++ more) u
-run-append s n [] [] t later more u first second = let at_n : n + 0 ≡ n = omega arith in
-    subst (λ m. Run s m later more u) at_n (subst (λ from. Run from (n + 0) later more u) first second)
+run-append s n [] [] t later more u first second = search arith
 run-append s n [] (output ∷ outputs) t later more u first second = absurd first
 run-append s n (line ∷ lines) [] t later more u first second = absurd first
 run-append s n (line ∷ lines) (output ∷ outputs) t later more u first second =
@@ -26,7 +25,7 @@ run-append s n (line ∷ lines) (output ∷ outputs) t later more u first second
       first.0,
       first.1,
       run-append first.0 (n + 1) lines outputs t later more u first.2
-          (subst (λ m. Run t m later more u) next_number second),
+          (search arith),
     )
 
 -- no line changes the shape of the slots, and no run does
@@ -45,8 +44,7 @@ pub run_shape : (s : Point) (n : ℕ) (lines : List (List ℕ)) (outputs : List 
 run_shape s n [] [] t run = ap (λ (p : Point). p.whole.keeper.shape) run
 run_shape s n [] (output ∷ outputs) t run = absurd run
 run_shape s n (line ∷ lines) [] t run = absurd run
-run_shape s n (line ∷ lines) (output ∷ outputs) t run = run_shape run.0 (n + 1) lines outputs t run.2
-    ∙ prints_shape s n (act_of line) output run.0 run.1
+run_shape s n (line ∷ lines) (output ∷ outputs) t run = search (arith, prints_shape, run_shape run.0 (n + 1) lines outputs t run.2)
 
 -- what an act may print
 pub record PrintsSome (s : Point) (n : ℕ) (act : Act) : Type 0 where
@@ -79,7 +77,7 @@ prints_some s n (Pin id) pins =
 prints_some s n (Unpin id) pins = record {
   output = printed_unpin id (is_held id s.held) ++ line_end;
   next = record s { held = if is_held id s.held then drop_last (same_id id) s.held else s.held };
-  prints = (is_held id s.held, (refl, refl), refl, refl);
+  prints = search arith;
 }
 prints_some s n (ShowCard id) pins = record {
   output = printed_card (shown_of s.whole.state s.held id) ++ line_end;

@@ -1,11 +1,11 @@
 -- Any input is lines and the beginning of one more.
-use Rattle.std.proofs.Common.{◌≡◌, ◌≢◌, ℕ, List, [], ◌∷◌, ◌++◌, refl, ap, sym, ◌∙◌, inl, inr}
+use Rattle.std.proofs.Common.{arith, ◌≡◌, ◌≢◌, ℕ, List, [], ◌∷◌, ◌++◌, ap, inl, inr}
 use Rattle.std.proofs.lemmas.Bool.{cases_eq}
-use Rattle.std.proofs.lemmas.List.{append_assoc, append-nil}
+use Rattle.std.proofs.lemmas.List.{append_assoc}
 use Rattle.std.proofs.lemmas.List.Elements.{All-append, All-nil, All-cons, All-head, All-tail}
 use Rattle.std.proofs.lemmas.Grind.{flat_map-append}
 use Rattle.ob_output.specs.Printed.{line_end}
-use Rattle.ob_console.specs.Runs.{Splits, with_ends, IsWithin}
+use Rattle.ob_console.specs.Runs.{Splits, IsWithin}
 
 -- an input has lines and a rest
 pub record HasLines (input : List ℕ) : Type 0 where
@@ -20,23 +20,11 @@ IsNoEnd byte = byte ≢ 10
 -- a byte before what has lines
 line_before : (byte : ℕ) (bytes : List ℕ) → byte ≡ 10 → (lines : List (List ℕ)) (rest : List ℕ)
     → Splits bytes lines rest → Splits (byte ∷ bytes) ([] ∷ lines) rest
-line_before byte bytes is lines rest splits = record {
-  whole = ap (λ first. first ∷ bytes) is ∙ ap (λ more. 10 ∷ more) splits.whole;
-  each = All-cons IsWithin [] lines (All-nil IsNoEnd) splits.each;
-  open_ended = splits.open_ended;
-}
+line_before byte bytes is lines rest splits = search arith
 
 byte_before : (byte : ℕ) (bytes : List ℕ) → byte ≢ 10 → (lines : List (List ℕ)) (rest : List ℕ)
     → Splits bytes lines rest → HasLines (byte ∷ bytes)
-byte_before byte bytes other [] rest splits = record {
-  lines = [];
-  rest = byte ∷ rest;
-  splits = record {
-    whole = ap (λ more. byte ∷ more) splits.whole;
-    each = All-nil IsWithin;
-    open_ended = All-cons IsNoEnd byte rest other splits.open_ended;
-  };
-}
+byte_before byte bytes other [] rest splits = search arith
 byte_before byte bytes other (line ∷ lines) rest splits = record {
   lines = (byte ∷ line) ∷ lines;
   rest = rest;
@@ -50,28 +38,19 @@ byte_before byte bytes other (line ∷ lines) rest splits = record {
 }
 
 pub has_lines : (input : List ℕ) → HasLines input
-has_lines [] = record {
-  lines = [];
-  rest = [];
-  splits =
-      record { whole = refl; each = All-nil IsWithin; open_ended = All-nil IsNoEnd };
-}
+has_lines [] = search arith
 has_lines (byte ∷ bytes) =
     let more = has_lines bytes in
     elim (cases_eq byte 10) [
-      | inl is ↦ record {
-        lines = [] ∷ more.lines;
-        rest = more.rest;
-        splits = line_before byte bytes is more.lines more.rest more.splits;
-      }
-      | inr other ↦ byte_before byte bytes other more.lines more.rest more.splits
+      | inl is ↦ search (arith, line_before, more.splits)
+      | inr other ↦ search (arith, byte_before)
     ]
 
 -- more of the open line
 pub splits_more : (input : List ℕ) (lines : List (List ℕ)) (rest bytes : List ℕ) → IsWithin bytes
     → Splits input lines rest → Splits (input ++ bytes) lines (rest ++ bytes)
 splits_more input lines rest bytes within splits = record {
-  whole = ap (λ front. front ++ bytes) splits.whole ∙ append_assoc (with_ends lines) rest bytes;
+  whole = search (arith, append_assoc);
   each = splits.each;
   open_ended = All-append IsNoEnd rest bytes splits.open_ended within;
 }
@@ -81,10 +60,7 @@ pub splits_on : (input : List ℕ) (lines : List (List ℕ)) (rest bytes : List 
     → Splits input lines rest → Splits (rest ++ bytes) later last → Splits (input ++ bytes) (lines ++ later) last
 splits_on input lines rest bytes later last splits more = record {
   whole =
-      ap (λ front. front ++ bytes) splits.whole ∙ append_assoc (with_ends lines) rest bytes
-      ∙ ap (λ back. with_ends lines ++ back) more.whole
-      ∙ sym (append_assoc (with_ends lines) (with_ends later) last)
-      ∙ ap (λ front. front ++ last) (sym (flat_map-append (λ line. line ++ line_end) lines later));
+      search (arith, append_assoc, flat_map-append);
   each = All-append IsWithin lines later splits.each more.each;
   open_ended = more.open_ended;
 }
@@ -93,11 +69,11 @@ splits_on input lines rest bytes later last splits more = record {
 pub splits_one : (rest bytes : List ℕ) → IsWithin rest → IsWithin bytes
     → Splits (rest ++ (bytes ++ line_end)) ((rest ++ bytes) ∷ []) []
 splits_one rest bytes within_rest within = record {
-  whole = sym (append-nil _ ∙ append-nil _ ∙ append_assoc rest bytes line_end);
+  whole = search (arith, append_assoc);
   each = All-cons IsWithin (rest ++ bytes) [] (All-append IsNoEnd rest bytes within_rest within) (All-nil IsWithin);
   open_ended = All-nil IsNoEnd;
 }
 
 -- nothing has no line
 pub splits_nothing : Splits [] [] []
-splits_nothing = record { whole = refl; each = All-nil IsWithin; open_ended = All-nil IsNoEnd }
+splits_nothing = search arith

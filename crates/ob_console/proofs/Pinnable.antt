@@ -1,11 +1,10 @@
 -- Every pin may be answered, in any state and whatever is held.
-use Rattle.std.proofs.Common.{◌≡◌, ℕ, suc, ◌+◌, ◌<◌, ◌≤◌, Bool, true, false, List, [], ◌∷◌, length, nat_lt, slice_index_or, refl, sym, subst, inr, arith}
+use Rattle.std.proofs.Common.{◌≡◌, ℕ, suc, ◌<◌, ◌≤◌, Bool, true, false, List, [], ◌∷◌, length, nat_lt, slice_index_or, refl, sym, subst, arith}
 use Rattle.std.specs.Prelude.{Result, Err}
-use Rattle.std.proofs.lemmas.Grind.{common_steps}
 use Rattle.pin_core.specs.declared.id.Id.{Id}
 use Rattle.pin_core.specs.declared.descr.Descr.{Descr}
 use Rattle.pin_core.specs.declared.word.Word.{Word}
-use Rattle.pin_core.specs.Holds.{tally, weight}
+use Rattle.pin_core.specs.Holds.{tally}
 use Rattle.pin_core.specs.Words.{decoded, encoded}
 use Rattle.pin_words.specs.declared.fault.Verdict.{Verdict}
 use Rattle.pin_words.specs.declared.fault.Verdict.TheVariants.{Unborn, Stale, PinsFull, Go}
@@ -14,7 +13,6 @@ use Rattle.pin_words.specs.declared.fault.PinFault.TheVariants as fault
 use Rattle.pin_words.specs.Verdicts.{verdict_of}
 use Rattle.pin_words.specs.declared.view.Look.{Look}
 use Rattle.pin_words.specs.Views.{is_of_slot, look}
-use Rattle.pin_words.proofs.Bits.{decoded-encoded}
 use Rattle.ob_store.specs.State.{State}
 use Rattle.ob_console.specs.Pinning.{Finds, IsWord, Judged, Pins, phase_at}
 
@@ -41,39 +39,29 @@ record CanJudge (verdict : Verdict) (Found : ℕ → Type 0) (n : ℕ) (s : Stat
 -- where the word lets it be pinned, it may be busy
 can_judge : (verdict : Verdict) (Found : ℕ → Type 0) (n : ℕ) (s : State) (held : List Id) (id : Id) → Found (suc n)
     → CanJudge verdict Found n s held id
-can_judge Unborn Found n s held id later = record { answer = Err fault.Unborn; next = held; judged = (refl, refl) }
-can_judge Stale Found n s held id later = record { answer = Err fault.Stale; next = held; judged = (refl, refl) }
-can_judge PinsFull Found n s held id later = record { answer = Err fault.PinsFull; next = held; judged = (refl, refl) }
+can_judge Unborn Found n s held id later = search arith
+can_judge Stale Found n s held id later = search arith
+can_judge PinsFull Found n s held id later = search arith
 can_judge Go Found n s held id later = record {
   answer = Err (fault.Busy (decoded (suc n)));
   next = held;
-  judged = inr (record {
-    seen = suc n;
-    found = later;
-    other = λ same. omega (arith, same);
-    told = refl;
-    same = refl;
-  });
+  judged = search arith;
 }
 
 counted : (p : Id → Bool) (held : List Id) → tally p held ≤ length held
 counted p [] = omega arith
-counted p (id ∷ held) = by (p id) (counted p held)
-  where
-    by : (is : Bool) → tally p held ≤ length held → weight is + tally p held ≤ suc (length held)
-    by true more = omega (arith, more)
-    by false more = omega (arith, more)
+counted p (id ∷ held) = search (arith, counted p held)
 
 pub can_pin : (s : State) (held : List Id) (looks : List Look) (id : Id) → CanPin s held looks id
 can_pin s held looks id = by_slot (nat_lt id.slot s.limits.slots) refl
   where
     by_room : id.slot < s.limits.slots → (b : Bool) → nat_lt (length held) 16 ≡ b → CanPin s held looks id
     by_room inside true e =
-        let room : length held < 16 = grind (arith, common_steps) in
+        let room : length held < 16 = grind arith in
         let word : Word = some_word s held id.slot in
         let n : ℕ = encoded word in
         let read : decoded n ≡ word =
-        decoded-encoded word (omega (arith, room, counted (is_of_slot id.slot) held)) in
+        search (arith, counted) in
         let found : List Look = look id.slot (suc n) ∷ look id.slot n ∷ looks in
         let j = can_judge (verdict_of s.limits.max_pins id (decoded n)) (Finds id.slot looks found) n s held id
         ([], look id.slot n ∷ [], refl) in
@@ -98,7 +86,7 @@ can_pin s held looks id = by_slot (nat_lt id.slot s.limits.slots) refl
           };
         }
     by_room inside false e =
-        let many : 16 ≤ length held = grind (arith, common_steps) in
+        let many : 16 ≤ length held = grind arith in
         record {
           answer = Err fault.HeldFull;
           next = held;
@@ -111,9 +99,9 @@ can_pin s held looks id = by_slot (nat_lt id.slot s.limits.slots) refl
         }
 
     by_slot : (b : Bool) → nat_lt id.slot s.limits.slots ≡ b → CanPin s held looks id
-    by_slot true e = by_room (grind (arith, common_steps)) (nat_lt (length held) 16) refl
+    by_slot true e = by_room (grind arith) (nat_lt (length held) 16) refl
     by_slot false e =
-        let out : s.limits.slots ≤ id.slot = grind (arith, common_steps) in
+        let out : s.limits.slots ≤ id.slot = grind arith in
         record {
           answer = Err fault.NoSuchSlot;
           next = held;

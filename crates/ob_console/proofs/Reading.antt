@@ -1,5 +1,5 @@
 -- A run between two reads, and how it ends.
-use Rattle.std.proofs.Common.{◌≡◌, ℕ, List, [], ◌++◌, Result, Ok, Err, ap, refl, sym, subst, ◌∙◌}
+use Rattle.std.proofs.Common.{arith, ◌≡◌, ℕ, List, [], ◌++◌, Result, Ok, Err, refl, ◌∙◌}
 use Rattle.std.specs.Prelude.{IsErrOf}
 use Rattle.std.proofs.lemmas.List.{append_assoc, append-nil}
 use Rattle.ob_store.specs.declared.limits.Limits.{Limits}
@@ -29,19 +29,7 @@ pub record HasRun (P : List ℕ → List ℕ → Type 0) (given_before given tak
 
 pub reading_begins : (console : ConsoleState) (given taken : List ℕ) → IsReady console
     → IsReading console.point console given given taken taken
-reading_begins console given taken ready = record {
-  input = [];
-  output = [];
-  read = sym (append-nil given);
-  wrote = sym (append-nil taken);
-  session = session_begins console ready;
-}
-
--- more was read
-read_more : (given_before given more input block : List ℕ) → given ≡ given_before ++ input → more ≡ given ++ block
-    → more ≡ given_before ++ (input ++ block)
-read_more given_before given more input block before now = now ∙ ap (λ front. front ++ block) before
-    ∙ append_assoc given_before input block
+reading_begins console given taken ready = search (arith, append-nil, session_begins)
 
 -- a read gave a block, which is answered
 pub reading_on : (first : Point) (old new : ConsoleState)
@@ -49,43 +37,19 @@ pub reading_on : (first : Point) (old new : ConsoleState)
     → IsReading first old given_before given taken_before taken → more ≡ given ++ block →
     old.pending.bytes ≡ [] → new.pending.bytes ≡ [] → IsFed old new block [] taken later
     → IsReading first new given_before more taken_before later
-reading_on first old new given_before given more block taken_before taken later reading read empty done fed = record {
-  input = reading.input ++ block;
-  output = reading.output ++ fed.printed;
-  read = read_more given_before given more reading.input block reading.read read;
-  wrote = read_more taken_before taken later reading.output fed.printed reading.wrote
-      (fed.written.grown ∙ ap (λ back. taken ++ back) (sym (append-nil fed.written.done)
-      ∙ ap (λ pending. fed.written.done ++ pending) (sym done) ∙ fed.written.part
-      ∙ ap (λ pending. pending ++ fed.printed) empty));
-  session = subst (λ bytes. Session first bytes (reading.output ++ fed.printed) new)
-      (ap (λ front. reading.input ++ front) (sym (append-nil fed.front) ∙ fed.whole))
-      (fed.advances first reading.input reading.output reading.session);
-}
+reading_on first old new given_before given more block taken_before taken later reading read empty done fed = search (arith, append_assoc, append-nil)
 
 -- a read gave nothing
 pub reading_same : (first : Point) (console : ConsoleState) (given_before given more taken_before taken : List ℕ)
     → IsReading first console given_before given taken_before taken → more ≡ given ++ []
     → IsReading first console given_before more taken_before taken
-reading_same first console given_before given more taken_before taken reading read =
-    record {
-      input = reading.input;
-      output = reading.output;
-      read = read ∙ append-nil given ∙ reading.read;
-      wrote = reading.wrote;
-      session = reading.session;
-    }
+reading_same first console given_before given more taken_before taken reading read = search (arith, append-nil)
 
 -- reading ends by a fault
 pub reading_fails : (first : Point) (console : ConsoleState) (given_before given taken_before taken : List ℕ)
     → IsReading first console given_before given taken_before taken
     → HasRun (AnswersLines first) given_before given taken_before taken
-reading_fails first console given_before given taken_before taken reading = record {
-  input = reading.input;
-  output = reading.output;
-  read = reading.read;
-  wrote = reading.wrote;
-  answers = answers_lines first reading.input reading.output console reading.session;
-}
+reading_fails first console given_before given taken_before taken reading = search (arith, answers_lines)
 
 -- writing fails in a block
 pub writing_fails : (first : Point) (old new : ConsoleState)
@@ -97,17 +61,13 @@ writing_fails first old new given_before given more block taken_before taken lat
     let begins = short.written in
     let session = short.advances first reading.input reading.output reading.session in
     let part : (reading.output ++ begins.1.done) ++ begins.0 ≡ reading.output ++ short.printed =
-    append_assoc reading.output begins.1.done begins.0
-    ∙ ap (λ back. reading.output ++ back) (begins.1.part ∙ ap (λ pending. pending ++ short.printed) empty) in
+    search (arith, append_assoc) in
     record {
       input = (reading.input ++ short.front) ++ short.rest;
       output = reading.output ++ begins.1.done;
-      read = read_more given_before given more reading.input block reading.read read
-          ∙ ap (λ back. given_before ++ back) (ap (λ back. reading.input ++ back) (sym short.whole)
-          ∙ sym (append_assoc reading.input short.front short.rest));
-      wrote = read_more taken_before taken later reading.output begins.1.done reading.wrote begins.1.grown;
-      answers = answers_part first (reading.input ++ short.front) (reading.output ++ short.printed) (reading.output
-          ++ begins.1.done) begins.0 short.rest new part session;
+      read = search (arith, append_assoc);
+      wrote = search (arith, append_assoc);
+      answers = search (arith, answers_part);
     }
 
 -- the input ends
@@ -118,15 +78,7 @@ pub reading_ends : (first : Point) (console : ConsoleState)
     → Writes taken later (console.pending.bytes ++ printed) []
     → HasRun (λ input output. AnswersTo first input output last) given_before more taken_before later
 reading_ends first console given_before given more taken_before taken later printed last reading read empty finishes
-    writes = record {
-      input = reading.input;
-      output = reading.output ++ printed;
-      read = read ∙ append-nil given ∙ reading.read;
-      wrote = read_more taken_before taken later reading.output printed reading.wrote
-          (writes.grown ∙ ap (λ back. taken ++ back) (sym (append-nil writes.done) ∙ writes.part
-          ∙ ap (λ pending. pending ++ printed) empty));
-      answers = finishes first reading.input reading.output reading.session;
-    }
+    writes = search (arith, append_assoc, append-nil)
 
 -- writing fails at the end
 pub ending_fails : (first : Point) (console : ConsoleState)
@@ -140,14 +92,11 @@ ending_fails first console given_before given more taken_before taken later prin
       input = reading.input;
       output = reading.output ++ begins.1.done;
       read = read ∙ append-nil given ∙ reading.read;
-      wrote = read_more taken_before taken later reading.output begins.1.done reading.wrote begins.1.grown;
+      wrote = search (arith, append_assoc);
       answers = record {
         missing = begins.0;
         last = last;
-        answers = subst (λ written. AnswersTo first reading.input written last)
-            (sym (append_assoc reading.output begins.1.done begins.0
-            ∙ ap (λ back. reading.output ++ back) (begins.1.part ∙ ap (λ pending. pending ++ printed) empty)))
-            (finishes first reading.input reading.output reading.session);
+        answers = search (arith, append_assoc);
       };
     }
 
@@ -166,11 +115,7 @@ pub record HasAnswered (P : List ℕ → List ℕ → Type 0) (script taken_befo
 
 pub answered : (P : List ℕ → List ℕ → Type 0) (script taken_before taken : List ℕ)
     → HasRun P [] script taken_before taken → HasAnswered P script taken_before taken
-answered P script taken_before taken run = record {
-  output = run.output;
-  wrote = run.wrote;
-  answers = subst (λ input. P input run.output) (sym run.read) run.answers;
-}
+answered P script taken_before taken run = search arith
 
 -- a run that is cut short, by how it began
 pub cut_from : (fault : RunFault) (Begins : Point → Type 0) (first last : Point) (input output : List ℕ)
@@ -182,8 +127,7 @@ cut_from Memory Begins first last input output begins ends = absurd ends
 pub run_ended : (r : Result (Unit {0}) RunFault) (limits : Limits) (first last : Point) (input output : List ℕ)
     → IsOpening limits first → Ends r first input output last → IsEnded r limits input output
 run_ended (Ok unit) limits first last input output opens ends = (first, last, opens, ends)
-run_ended (Err fault) limits first last input output opens ends =
-    cut_from fault (IsOpening limits) first last input output opens ends
+run_ended (Err fault) limits first last input output opens ends = search (arith, cut_from)
 
 pub whole_ended : (r : Result (Unit {0}) RunFault) (limits : Limits) (first last : Point) (input output : List ℕ)
     → (IsErrOf r Read → ⊥) → IsOpening limits first → Ends r first input output last

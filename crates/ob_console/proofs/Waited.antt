@@ -1,33 +1,26 @@
 -- A wait for the first 65 of its handles is answered as the whole: one for more than 64 is refused, and any other
 -- keeps all.
-use Rattle.std.proofs.Common.{◌≡◌, ℕ, ◌<◌, List, Bool, true, false, Err, refl, ap, sym, ◌∙◌, arith, length, take, ltb}
-use Rattle.std.proofs.lemmas.Bool.Decides.{nat_tests}
+use Rattle.std.proofs.Common.{◌≡◌, ℕ, ◌<◌, List, Bool, true, false, Err, refl, ap, arith, length, take, ltb}
 use Rattle.std.proofs.lemmas.List.{length-take-le, take_all}
-use Rattle.std.specs.Prelude.{is_ok, Result}
+use Rattle.std.specs.Prelude.{Result}
 use Rattle.ob_rights.specs.declared.fault.Fault.TheVariants as fault
 use Rattle.ob_waits.specs.declared.wait.Mode.{Mode}
 use Rattle.ob_store.specs.State.{State, Whole}
 use Rattle.ob_manager.specs.declared.waiting.Timeout.{Timeout}
 use Rattle.ob_manager.specs.declared.call.CallOf.TheVariants as calls
 use Rattle.ob_manager.specs.declared.reply.Reply.{Reply}
-use Rattle.ob_manager.specs.Outcomes.{◌>>=◌, refuse_if}
+use Rattle.ob_manager.specs.Outcomes.{◌>>=◌}
 use Rattle.ob_manager.specs.Checks.{caller}
-use Rattle.ob_manager.specs.Waiting.{becomes_pending, is_misshapen, objects_of, wait, wait_on}
-use Rattle.ob_manager.specs.Steps.{Step, does, closes, lacks, final}
+use Rattle.ob_manager.specs.Waiting.{wait}
+use Rattle.ob_manager.specs.Steps.{Step, does, closes, lacks}
 use Rattle.ob_output.specs.declared.output.NotWritten.{NotWritten}
 use Rattle.ob_script.specs.Acts.{Act, Asks, Nothing, shortened}
 use Rattle.ob_console.specs.Runs.{Point, Prints}
 use Rattle.ob_console.specs.Sessions.{Enacts, Evaluation}
 
-misshapen : (handles : List ℕ) → 64 < length handles → is_misshapen handles ≡ true
-misshapen handles long = grind (arith, nat_tests, long)
-
 refused : (s : State) (thread : ℕ) (mode : Mode) (timeout : Timeout) (handles : List ℕ) → 64 < length handles
     → wait s thread mode timeout handles ≡ (caller s thread >>= (λ process. Err fault.Parameter))
-refused s thread mode timeout handles long =
-    ap (λ test. caller s thread >>= (λ process. refuse_if test fault.Parameter >>=
-    (λ shaped. objects_of s process handles >>= (λ ids. wait_on s thread mode timeout ids))))
-    (misshapen handles long)
+refused s thread mode timeout handles long = search arith
 
 beginning_waits : (s : State) (thread : ℕ) (mode : Mode) (timeout : Timeout) (handles : List ℕ)
     → wait s thread mode timeout (take 65 handles) ≡ wait s thread mode timeout handles
@@ -36,27 +29,23 @@ beginning_waits s thread mode timeout handles = by (ltb 64 (length handles)) ref
     by : (long : Bool) → ltb 64 (length handles) ≡ long
         → wait s thread mode timeout (take 65 handles) ≡ wait s thread mode timeout handles
     by true is =
-        let long : 64 < length handles = grind (arith, nat_tests, is) in
-        let part : 64 < length (take 65 handles) = omega (arith, length-take-le 65 handles (omega (arith, long))) in
-        refused s thread mode timeout (take 65 handles) part ∙ sym (refused s thread mode timeout handles long)
-    by false is = ap (wait s thread mode timeout) (take_all 65 handles (grind (arith, nat_tests, is)))
+        let long : 64 < length handles = grind arith in
+        let part : 64 < length (take 65 handles) = omega (arith, length-take-le 65 handles (omega arith)) in
+        search (arith, refused)
+    by false is = ap (wait s thread mode timeout) (take_all 65 handles (grind arith))
 
 step_of_beginning : (w : Whole) (thread : ℕ) (mode : Mode) (timeout : Timeout) (handles : List ℕ) (reply : Reply)
     (v : Whole) →
     Step w (calls.WaitFor thread mode timeout (take 65 handles)) reply v
     → Step w (calls.WaitFor thread mode timeout handles) reply v
-step_of_beginning w thread mode timeout handles reply v (does comes keeps) =
-    does (ap (final w.state) (sym (beginning_waits w.state thread mode timeout handles)) ∙ comes) keeps
-step_of_beginning w thread mode timeout handles reply v (closes is comes keeps) =
-    closes is (sym (beginning_waits w.state thread mode timeout handles) ∙ comes) keeps
-step_of_beginning w thread mode timeout handles reply v (lacks takes there lack same) =
-    let is = beginning_waits w.state thread mode timeout handles in
-    lacks (ap becomes_pending (sym is) ∙ takes) (ap is_ok (sym is) ∙ there) lack same
+step_of_beginning w thread mode timeout handles reply v (does comes keeps) = search (arith, beginning_waits)
+step_of_beginning w thread mode timeout handles reply v (closes is comes keeps) = search arith
+step_of_beginning w thread mode timeout handles reply v (lacks takes there lack same) = search (arith, beginning_waits)
 
 prints_whole : (p : Point) (number : ℕ) (act : Act) (output : List ℕ) (q : Point)
     → Prints p number (shortened act) output q → Prints p number act output q
 prints_whole p number (Asks (calls.WaitFor thread mode timeout handles)) output q (reply, step, looks, spares, held, is) =
-    (reply, step_of_beginning p.whole thread mode timeout handles reply q.whole step, looks, spares, held, is)
+    search (arith, step_of_beginning)
 prints_whole p number Nothing output q prints = prints
 prints_whole p number act output q prints = prints
 
@@ -65,5 +54,4 @@ pub enacts_whole : (old : Evaluation) (number : ℕ) (act : Act) (result : Resul
     (taken_before taken : List ℕ) (new : Evaluation)
     → Enacts old number (shortened act) result taken_before taken new
     → Enacts old number act result taken_before taken new
-enacts_whole old number act result taken_before taken new (printed, prints, written) =
-    (printed, prints_whole old.point number act printed new.point prints, written)
+enacts_whole old number act result taken_before taken new (printed, prints, written) = search (arith, prints_whole)

@@ -8,7 +8,7 @@ use Rattle.ob_console.proofs.pinning.pin.Goals as goal
 pub returns-clause-pins : goal.returns-clause-pins
 returns-clause-pins c =
     let slots = ap (λ (shape : Shape). shape.slots) (c.shape.ensures.view ∙ c.same_shape.ensures) in
-    let inside : c.args.id.slot < c.args.manager.now.state.limits.slots = omega (arith, slots, c.if-id-shape.false) in
+    let inside : c.args.id.slot < c.args.manager.now.state.limits.slots = omega arith in
     pins c.args.manager.now c.args.reader.now.view c.meet.new.reader.view c.try_descr-answer.new.reader.view
     c.meet-2.new.reader.view c.args.id c.try_descr-answer.result
     c.kept.ensures c.same_shape.ensures inside c.meet.ensures.look c.try_descr-answer.ensures.attempts

@@ -1,9 +1,6 @@
-use Rattle.std.proofs.Common.{◌<◌, ℕ, sym, subst}
+use Rattle.std.proofs.Common.{◌<◌, ℕ, sym, subst, arith}
 use Rattle.pin_core.specs.declared.shape.Shape.{Shape}
 use Rattle.ob_manager.specs.Reaping.{IfReaped}
-use Rattle.ob_manager.specs.Steps.{Step}
-use Rattle.ob_manager.specs.declared.call.CallOf.TheVariants as Call
-use Rattle.ob_store.specs.Meetings.{IsMet}
 use Rattle.ob_console.specs.Pinning.{SparesHeld}
 use Rattle.ob_console.proofs.Sparing.{spares}
 use Rattle.ob_console.proofs.reaping.meet_at.Goals as goal
@@ -17,7 +14,6 @@ returns-in-Some-clause-spares c = λ before reply step.
     c.slot_of_held-slot.ensures.inside) in
     subst (λ (slot : ℕ). IfReaped reply (SparesHeld c.args.reader.now.view.held slot)) there.0
     (spares before c.args.manager.now c.args.reader.now.view c.meet.new.reader.view c.in-Some.id reply
-    (subst (λ (slot : ℕ). Step before (Call.Reap slot) reply c.args.manager.now) (sym there.0) step)
+    (search arith)
     c.kept.ensures inside (rw (sym c.held.ensures) there.1)
-    (subst (λ (slot : ℕ). IsMet c.args.manager.now.keeper c.args.reader.now.view slot c.meet.new.reader.view)
-    c.slot_of_held-slot.ensures.slot c.meet.ensures.look))
+    (search arith))

@@ -1,4 +1,4 @@
-use Rattle.std.proofs.Common.{inl, inr, arith}
+use Rattle.std.proofs.Common.{arith}
 use Rattle.ob_console.proofs.Reading.{run_ended}
 use Rattle.ob_console.proofs.script.run_bounded.Goals as goal
 
@@ -14,12 +14,4 @@ returns-clause-answers g c =
     )
 
 pub returns-clause-write : goal.returns-clause-write
-returns-clause-write g c is = elim (c.answer_all-answered.ensures.write is) [
-  | inl more ↦ inl more
-  | inr none ↦ inr (omega (
-    arith,
-    none,
-    c.answer_all-answered.ensures.writes,
-    c.in-Some.ensures.writes,
-  ))
-]
+returns-clause-write g c is = search arith

@@ -1,6 +1,5 @@
-use Rattle.std.proofs.Common.{ℕ, List, ◌++◌, refl, subst, sym, arith}
-use Rattle.ob_output.specs.Printed.{line_end}
-use Rattle.ob_console.specs.Sessions.{ConsoleState, Advances, IsFed}
+use Rattle.std.proofs.Common.{ℕ, List, refl, subst, sym, arith}
+use Rattle.ob_console.specs.Sessions.{ConsoleState, IsFed}
 use Rattle.ob_console.proofs.Advancing.{part_advances}
 use Rattle.ob_console.proofs.Feeding.{fed_line, fed_rest, cut_short, rest_within, behind_shorter}
 use Rattle.ob_console.proofs.console.Console.feed.Goals as goal
@@ -11,8 +10,7 @@ returns-in-Err-clause-err g c =
     cut_short c.args.self.now c.loop-end.self c.line.new.self c.args.block.now c.loop-end.rest.now
     (g.W.Sink.taken c.args.sink.now) (g.W.Sink.taken c.loop-end.sink) (g.W.Sink.taken c.line.new.sink) one.0
     c.loop-end.invariant.fed c.in-Some.ensures.within
-    (subst (λ (end : List ℕ). Advances c.loop-end.self (end ++ line_end) one.0 c.line.new.self) c.in-Some.ensures.before
-    one.1) one.2
+    (search arith) one.2
 
 pub loop-end-preserved : goal.loop-end-preserved
 loop-end-preserved g c =
@@ -23,18 +21,9 @@ loop-end-preserved g c =
           (fed_line c.args.self.now c.loop-end.self c.line.new.self c.args.block.now c.loop-end.rest.now
           (g.W.Sink.taken c.args.sink.now) (g.W.Sink.taken c.loop-end.sink) (g.W.Sink.taken c.line.new.sink) one.0
           c.loop-end.invariant.fed c.in-Some.ensures.within
-          (subst (λ (end : List ℕ). Advances c.loop-end.self (end ++ line_end) one.0 c.line.new.self)
-          c.in-Some.ensures.before one.1) one.2);
-      lines = rw c.in-Some.ensures.behind (omega (
-        arith,
-        c.loop-end.invariant.lines,
-        c.in-Ok.ensures.lines,
-        behind_shorter c.loop-end.rest.now c.in-Some.ensures.within,
-      ));
-      spends = record {
-        made = omega (arith, c.loop-end.invariant.spends.made, c.in-Ok.ensures.sink.spends.made);
-        known = omega (arith, c.loop-end.invariant.spends.known, c.in-Ok.ensures.sink.spends.known);
-      };
+          (search arith) one.2);
+      lines = rw c.in-Some.ensures.behind (omega (arith, behind_shorter c.loop-end.rest.now c.in-Some.ensures.within));
+      spends = search arith;
     }
 
 pub returns-clause-ok : goal.returns-clause-ok
@@ -48,8 +37,5 @@ returns-clause-ok g c =
     let new : ConsoleState = record now { held = c.extend.new.self } in
     fed_rest c.args.self.now now new c.args.block.now c.loop-end.rest.now (g.W.Sink.taken c.args.sink.now)
     (g.W.Sink.taken c.loop-end.sink)
-    (subst (λ (console : ConsoleState). IsFed c.args.self.now console c.args.block.now c.loop-end.rest.now
-    (g.W.Sink.taken c.args.sink.now) (g.W.Sink.taken c.loop-end.sink))
-    (sym c.self.view_is) c.loop-end.invariant.fed)
-    (part_advances now new c.loop-end.rest.now (rest_within c.loop-end.rest.now c.in_default.ensures.none) refl refl
-    c.extend.ensures) refl
+    (search arith)
+    (search (arith, part_advances, rest_within, c.in_default.ensures.none)) refl

@@ -1,4 +1,4 @@
-use Rattle.std.proofs.Common.{List, ℕ, [], ◌++◌, sym, subst, ◌∙◌, ap}
+use Rattle.std.proofs.Common.{List, ℕ, [], ◌++◌, sym, subst, ◌∙◌, ap, arith}
 use Rattle.std.proofs.lemmas.List.{append-nil}
 use Rattle.ob_console.specs.Sessions.{ConsoleState, Finishes}
 use Rattle.ob_output.specs.Pending.{IsWritten}
@@ -10,11 +10,7 @@ returns-then-is_empty-clause-finishes g c = (
   [],
   finishes_empty c.args.self.now (ap (λ (console : ConsoleState). console.held) (sym c.self.view_is)
       ∙ c.is_empty.ensures.0 c.if-is_empty.true),
-  record {
-    done = [];
-    grown = sym (append-nil _);
-    part = sym (append-nil _);
-  },
+  search (arith, append-nil),
 )
 
 pub returns-clause-finishes : goal.returns-clause-finishes

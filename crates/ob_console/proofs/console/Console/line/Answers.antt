@@ -1,6 +1,6 @@
-use Rattle.std.proofs.Common.{ℕ, List, Option, ◌++◌, subst, sym, ap, ◌∙◌}
+use Rattle.std.proofs.Common.{ℕ, List, ◌++◌, subst, arith}
 use Rattle.ob_script.specs.Grammar.{act_of}
-use Rattle.ob_script.specs.HeldLines.{act_of_held, more_held}
+use Rattle.ob_script.specs.HeldLines.{act_of_held}
 use Rattle.ob_output.specs.Printed.{line_end}
 use Rattle.ob_console.specs.Sessions.{ConsoleState, Advances}
 use Rattle.ob_output.specs.Pending.{IsWritten}
@@ -30,8 +30,7 @@ returns-then-is_empty-clause-advances g c =
     c.self.view_is (
       prints.0,
       line_advances old new (act_of c.args.end.now) c.args.end.now prints.0 c.requires.within
-          (sym (act_of_capped c.args.end.now) ∙ ap
-          (λ (held : Option (List ℕ)). act_of_held (more_held held c.args.end.now)) (sym empty))
+          (search (arith, act_of_capped))
           prints.1 c.answer.ensures.lines empty,
       prints.2,
     )
@@ -58,7 +57,7 @@ returns-clause-advances g c =
     c.self.view_is (
       prints.0,
       line_advances old new (act_of_held c.extend.new.self) c.args.end.now prints.0 c.requires.within
-          (ap act_of_held (c.extend.ensures ∙ ap (more_held c.self.inside.held) c.bytes.ensures))
+          (search arith)
           prints.1 c.answer_held-answered.ensures.lines c.clear.ensures,
       prints.2,
     )

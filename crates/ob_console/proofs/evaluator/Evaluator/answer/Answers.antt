@@ -1,5 +1,5 @@
-use Rattle.std.proofs.Common.{◌+◌, ◌∙◌, List, ℕ, ap, subst}
-use Rattle.ob_script.specs.Acts.{Act, act_in}
+use Rattle.std.proofs.Common.{◌+◌, List, ℕ, subst, arith}
+use Rattle.ob_script.specs.Acts.{Act}
 use Rattle.ob_script.specs.Grammar.{act_of}
 use Rattle.ob_console.specs.Runs.{point}
 use Rattle.ob_console.specs.Sessions.{Enacts, Evaluation}
@@ -20,6 +20,4 @@ returns-clause-prints g c =
     subst (λ (first : Evaluation). Enacts first (first.lines + 1) act c.enact.result before after c.enact.new.self)
     c.self.view_is
     (enacts_whole old (inside.lines + 1) act c.enact.result before after c.enact.new.self
-    (subst (λ (read : Act). Enacts old (inside.lines + 1) read c.enact.result before after c.enact.new.self)
-    (ap (λ (handles : List ℕ). act_in handles c.act_of-act.result) c.as_slice.ensures.value ∙ c.act_of-act.ensures)
-    c.enact.ensures.prints))
+    (search arith))

@@ -1,10 +1,9 @@
-use Rattle.std.proofs.Common.{List, ℕ, ◌++◌, refl, sym, subst}
+use Rattle.std.proofs.Common.{List, ℕ, ◌++◌, subst, arith}
 use Rattle.ob_store.specs.Directory.{directory_of}
-use Rattle.ob_script.specs.declared.act.Act.{Act}
 use Rattle.ob_script.specs.Acts.{act_in}
 use Rattle.ob_output.specs.Printed.{printed_names, printed as answered}
 use Rattle.ob_output.proofs.Written.{put_written}
-use Rattle.ob_console.specs.Runs.{Point, Prints, point}
+use Rattle.ob_console.specs.Runs.{Point, point}
 use Rattle.ob_console.specs.Sessions.{Enacts, Evaluation}
 use Rattle.ob_console.proofs.evaluator.Evaluator.enact.Goals as goal
 
@@ -17,14 +16,7 @@ returns-in-Ask-clause-prints g c =
     subst (λ (old : Evaluation). Enacts old old.lines (act_in c.args.handles.now c.args.act.now) c.put_reply.result
     (g.W.Sink.taken c.args.sink.now) (g.W.Sink.taken c.put_reply.new.sink) new) c.self.view_is (
       printed,
-      subst (λ (act : Act). Prints p c.self.inside.lines (act_in c.args.handles.now act) printed q) (sym c.in-Ask.is) (
-        c.reply_to.result,
-        c.reply_to.ensures.step,
-        c.reply_to.ensures.looks,
-        c.reply_to.ensures.spares,
-        c.reply_to.ensures.held,
-        refl,
-      ),
+      search arith,
       put_written c.put_reply.result (g.W.Sink.taken c.args.sink.now) (g.W.Sink.taken c.put_reply.new.sink)
           (c.self.inside.output.bytes ++ printed) c.put_reply.new.self.bytes c.put_reply.ensures.ok
           c.put_reply.ensures.err,
@@ -39,7 +31,6 @@ returns-in-ListNames-clause-prints g c =
     subst (λ (old : Evaluation). Enacts old old.lines (act_in c.args.handles.now c.args.act.now) c.list.result
     (g.W.Sink.taken c.args.sink.now) (g.W.Sink.taken c.list.new.sink) new) c.self-in-ListNames.view_is (
       names,
-      subst (λ (act : Act). Prints p inside.lines (act_in c.args.handles.now act) names p) (sym c.in-ListNames.is)
-          (refl, refl),
+      search arith,
       c.list.ensures.written,
     )
