@@ -6,7 +6,7 @@ use Rattle.std.proofs.lemmas.List.Folds.{concat-append}
 use Rattle.pin_core.specs.declared.shape.Shape.{Shape}
 use Rattle.ob_script.specs.Acts.{Act}
 use Rattle.ob_script.specs.Grammar.{act_of}
-use Rattle.ob_output.specs.Printed.{line_end}
+use Rattle.ob_script.specs.Printed.{line_end}
 use Rattle.ob_console.specs.Runs.{Point, Prints, Run, Splits, IsWithin, AnswersLines, AnswersTo, AnswersPart, last_line}
 use Rattle.ob_script.specs.HeldLines.{capped, more_held, act_of_held}
 use Rattle.ob_console.specs.Sessions.{ConsoleState, IsReady, Session, Advances, Finishes}

@@ -7,7 +7,7 @@ use Rattle.ob_store.specs.Directory.{directory_of}
 use Rattle.ob_console.specs.Pinning.{is_held, shown_of}
 use Rattle.ob_script.specs.Acts.{Act, Nothing, Bad, ListNames, Asks, Pin, Unpin, ShowCard}
 use Rattle.ob_script.specs.Grammar.{act_of}
-use Rattle.ob_output.specs.Printed.{printed, printed_card, printed_names, printed_pin, printed_unpin, bad_line, line_end}
+use Rattle.ob_script.specs.Printed.{printed, printed_card, printed_names, printed_pin, printed_unpin, bad_line, line_end}
 use Rattle.ob_console.specs.Runs.{Point, Prints, Run}
 use Rattle.ob_manager.proofs.TableLaws.{step_shape}
 use Rattle.ob_console.proofs.Answerable.{can_answer}

@@ -10,3 +10,7 @@ pub mod Reading
 pub mod Found
 pub mod Attempting
 pub mod Sparing
+pub mod Prefixes
+pub mod Ends
+pub mod Retold
+pub mod Written

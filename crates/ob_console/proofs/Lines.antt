@@ -4,7 +4,7 @@ use Rattle.std.proofs.lemmas.Bool.{cases_eq}
 use Rattle.std.proofs.lemmas.List.{append_assoc}
 use Rattle.std.proofs.lemmas.List.Elements.{All-append, All-nil, All-cons, All-head, All-tail}
 use Rattle.std.proofs.lemmas.Grind.{flat_map-append}
-use Rattle.ob_output.specs.Printed.{line_end}
+use Rattle.ob_script.specs.Printed.{line_end}
 use Rattle.ob_console.specs.Runs.{Splits, IsWithin}
 
 -- an input has lines and a rest

@@ -6,9 +6,9 @@ use Rattle.std.specs.List.{flat_map}
 use Rattle.pin_core.specs.declared.id.Id.{Id}
 use Rattle.ob_name.specs.Names.{ObjectName}
 use Rattle.ob_name.specs.Listing.{Rows}
-use Rattle.ob_output.specs.Printed.{printed_count, printed_names, printed_row}
-use Rattle.ob_output.specs.Devices.{Writes, Begins}
-use Rattle.ob_output.proofs.Written.{begins_more, begins_on, writes_on}
+use Rattle.ob_script.specs.Printed.{printed_count, printed_names, printed_row}
+use Rattle.ob_script.specs.Devices.{Writes, Begins}
+use Rattle.ob_script.proofs.Written.{begins_more, begins_on, writes_on}
 
 -- these rows, printed behind how many there are in all
 abbrev pub printed_first : Rows → Rows → List ℕ

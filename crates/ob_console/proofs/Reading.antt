@@ -6,7 +6,7 @@ use Rattle.ob_store.specs.declared.limits.Limits.{Limits}
 use Rattle.ob_console.specs.declared.script.RunFault.{RunFault}
 use Rattle.ob_console.specs.declared.script.RunFault.TheVariants.{Memory, Read, Write}
 use Rattle.ob_console.specs.Runs.{Point, AnswersTo, AnswersLines, AnswersPart, IsCut, IsEnded, IsOpening, IsWholeEnded}
-use Rattle.ob_output.specs.Devices.{Writes, Begins}
+use Rattle.ob_script.specs.Devices.{Writes, Begins}
 use Rattle.ob_console.specs.Sessions.{ConsoleState, IsReady, Session, IsFed, IsCutShort, Finishes, Ends}
 use Rattle.ob_console.proofs.Advancing.{answers_lines, answers_part, session_begins}
 

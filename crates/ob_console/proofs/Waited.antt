@@ -13,7 +13,7 @@ use Rattle.ob_manager.specs.Outcomes.{◌>>=◌}
 use Rattle.ob_manager.specs.Checks.{caller}
 use Rattle.ob_manager.specs.Waiting.{wait}
 use Rattle.ob_manager.specs.Steps.{Step, does, closes, lacks}
-use Rattle.ob_output.specs.declared.output.NotWritten.{NotWritten}
+use Rattle.ob_script.specs.declared.output.NotWritten.{NotWritten}
 use Rattle.ob_script.specs.Acts.{Act, Asks, Nothing, shortened}
 use Rattle.ob_console.specs.Runs.{Point, Prints}
 use Rattle.ob_console.specs.Sessions.{Enacts, Evaluation}

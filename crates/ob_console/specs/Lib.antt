@@ -2,3 +2,9 @@ pub mod Attempts
 pub mod Pinning
 pub mod Runs
 pub mod Sessions
+pub mod Calls
+pub mod Lines
+pub mod Scripts
+pub mod Answers
+pub mod Faults
+pub mod Retelling

@@ -1,14 +1,14 @@
 -- A console between two blocks of its input.
 use Rattle.std.specs.Prelude.{◌≡◌, ◌<◌, ℕ, List, [], ◌++◌, Option, Some, Result, Ok, Err, length}
 use Rattle.std.specs.List.{concat}
-use Rattle.ob_output.specs.declared.output.NotWritten.{NotWritten}
-use Rattle.ob_output.specs.Pending.{Pending, IsWritten}
+use Rattle.ob_script.specs.declared.output.NotWritten.{NotWritten}
+use Rattle.ob_script.specs.Pending.{Pending, IsWritten}
 use Rattle.ob_console.specs.Runs.{Point, Prints, Run, Splits, AnswersLines, AnswersPart, AnswersTo}
 use Rattle.ob_console.specs.declared.script.RunFault.{RunFault}
 use Rattle.ob_console.specs.declared.script.RunFault.TheVariants.{Memory, Read, Write}
 use Rattle.ob_script.specs.Acts.{Act}
 use Rattle.ob_script.specs.HeldLines.{capped}
-use Rattle.ob_output.specs.Devices.{Writes, Begins}
+use Rattle.ob_script.specs.Devices.{Writes, Begins}
 
 -- what an evaluator has
 pub record Evaluation : Type 0 where

@@ -1,13 +1,13 @@
 ghost use Rattle.std.specs.Prelude.{◌≡◌, ◌+◌, ◌<◌, ◌≤◌, ◌^◌, ◌++◌, [], Some, List, ℕ, OnOk, OnErr};
 ghost use Rattle.std.specs.Prelude.{length};
 ghost use Rattle.ob_console.specs.Runs.{IsWithin, point};
-ghost use Rattle.ob_output.specs.Pending.{IsWritten, UsesSink};
-ghost use Rattle.ob_output.specs.Printed.{line_end};
+ghost use Rattle.ob_script.specs.Pending.{IsWritten, UsesSink};
+ghost use Rattle.ob_script.specs.Printed.{line_end};
 ghost use Rattle.ob_console.specs.Sessions.{Advances, Finishes, IsFed, IsCutShort};
 
 use crate::evaluator::Evaluator;
 use ob_manager::Manager;
-use ob_output::{NotWritten, Output, Sink};
+use ob_script::{NotWritten, Output, Sink};
 use ob_script::{Handles, HeldLine, ScriptLine};
 use pin_words::{Keeper, Reader};
 use std::marker::Model;

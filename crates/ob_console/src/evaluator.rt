@@ -3,16 +3,16 @@ ghost use Rattle.ob_store.specs.Directory.{directory_of};
 ghost use Rattle.ob_script.specs.Acts.{Bad, Pin, Unpin, ShowCard, act_in};
 ghost use Rattle.ob_script.specs.Grammar.{act_of};
 ghost use Rattle.ob_script.specs.HeldLines.{act_of_held};
-ghost use Rattle.ob_output.specs.Printed.{printed_names};
+ghost use Rattle.ob_script.specs.Printed.{printed_names};
 ghost use Rattle.ob_console.specs.Runs.{point};
 ghost use Rattle.ob_console.specs.Sessions.{Enacts};
-ghost use Rattle.ob_output.specs.Pending.{IsWritten, UsesSink};
-ghost use Rattle.ob_output.specs.Devices.{Begins};
+ghost use Rattle.ob_script.specs.Pending.{IsWritten, UsesSink};
+ghost use Rattle.ob_script.specs.Devices.{Begins};
 
 use crate::asking::reply_to;
 use crate::pinning::{card, pin, unpin};
 use ob_manager::Manager;
-use ob_output::{Answer, NotWritten, Output, Sink};
+use ob_script::{Answer, NotWritten, Output, Sink};
 use ob_script::{Act, Handles, HeldLine, ScriptLine, act_of};
 use pin_core::Id;
 use pin_words::{Keeper, Reader};
@@ -129,7 +129,7 @@ impl Evaluator {
 
     /// Says that the last line is bad.
     #[inline(never)]
-    #[tactic(auto, using(ob_output::proofs::Written::put_written))]
+    #[tactic(auto, using(ob_script::proofs::Written::put_written))]
     fn refuse<W: Sink>(&mut self, sink: &mut W) -> Result<(), NotWritten>
         ensures prints { Enacts self.old self.old.lines Bad result (W.taken sink.old) (W.taken sink.new) self.new }
         ensures lines { self.new.lines ≡ self.old.lines }
@@ -140,7 +140,7 @@ impl Evaluator {
 
     /// Has the reader hold one copy more, and prints whether it does.
     #[inline(never)]
-    #[tactic(auto, using(ob_output::proofs::Written::put_written))]
+    #[tactic(auto, using(ob_script::proofs::Written::put_written))]
     fn pin<W: Sink>(&mut self, sink: &mut W, id: Id) -> Result<(), NotWritten>
         ensures prints { Enacts self.old self.old.lines (Pin id) result (W.taken sink.old) (W.taken sink.new) self.new }
         ensures lines { self.new.lines ≡ self.old.lines }
@@ -152,7 +152,7 @@ impl Evaluator {
 
     /// Lets one copy that the reader holds go, and prints whether there was one.
     #[inline(never)]
-    #[tactic(auto, using(ob_output::proofs::Written::put_written))]
+    #[tactic(auto, using(ob_script::proofs::Written::put_written))]
     fn unpin<W: Sink>(&mut self, sink: &mut W, id: Id) -> Result<(), NotWritten>
         ensures prints { Enacts self.old self.old.lines (Unpin id) result (W.taken sink.old)
             (W.taken sink.new) self.new }
@@ -165,7 +165,7 @@ impl Evaluator {
 
     /// Prints what the object of an Id that the reader holds was created as.
     #[inline(never)]
-    #[tactic(auto, using(ob_output::proofs::Written::put_written))]
+    #[tactic(auto, using(ob_script::proofs::Written::put_written))]
     fn show_card<W: Sink>(&mut self, sink: &mut W, id: Id) -> Result<(), NotWritten>
         ensures prints { Enacts self.old self.old.lines (ShowCard id) result (W.taken sink.old)
             (W.taken sink.new) self.new }

@@ -1,14 +1,14 @@
 ghost use Rattle.std.specs.Prelude.{◌≡◌, ◌+◌, ◌<◌, ◌≤◌, ◌++◌, List, ℕ, IfErr, IfOk, IfSome, OnOk, IsErrOf};
 ghost use Rattle.std.specs.Prelude.{Some, length};
 ghost use Rattle.ob_store.specs.State.{shape_of};
-ghost use Rattle.ob_output.specs.Devices.{FailedOrSpent, calls_most};
-ghost use Rattle.ob_output.specs.Pending.{FailedOrLast};
+ghost use Rattle.ob_script.specs.Devices.{FailedOrSpent, calls_most};
+ghost use Rattle.ob_script.specs.Pending.{FailedOrLast};
 ghost use Rattle.ob_console.specs.Runs.{GoesOn, IsCut, IsEnded, IsOpening, IsWholeEnded, Reopens};
 ghost use Rattle.ob_console.specs.Sessions.{Ends, IsReady};
 
 use crate::console::Console;
 use ob_manager::{Limits, Manager};
-use ob_output::{CALLS_MOST, Output, READ_MOST, Sink, Source, Trouble, zeros};
+use ob_script::{CALLS_MOST, Output, READ_MOST, Sink, Source, Trouble, zeros};
 use pin_words::{Keeper, LockedPins, Opening, Pins};
 use std::alloc::Global;
 use thiserror::Error;

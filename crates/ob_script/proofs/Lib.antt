@@ -16,3 +16,9 @@ pub mod Alike
 pub mod Fitted
 pub mod Short
 pub mod Lineless
+pub mod Hexadecimal
+pub mod Printing
+pub mod Written
+pub mod Flushed
+pub mod Answers
+pub mod Within

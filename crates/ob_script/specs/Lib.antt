@@ -6,3 +6,9 @@ pub mod HeldLines
 pub mod Marks
 pub mod Writing
 pub mod Fitting
+pub mod Accounts
+pub mod Devices
+pub mod Printed
+pub mod Pending
+pub mod Telling
+pub mod Recording

@@ -1,4 +1,5 @@
-//! A script, line by line: what each line asks for, by a grammar (`specs/Grammar.antt`).
+//! The text of scripts: what each line asks for, by a grammar (`specs/Grammar.antt`), how answers are printed and
+//! written, and how calls that were made are told as a script.
 //!
 //! A line takes no memory: names stay as they stand in it, and the handles of a wait are read into a list that is lent.
 //!
@@ -15,9 +16,39 @@
 //! act_of::<0>(&ScriptLine::of(b"close t1"), &mut handles); // Act::Bad
 //! # assert!(rt; rest == b"pin s0.1\n".as_slice() && handles.as_slice() == [8, 4].as_slice());
 //! ```
+//!
+//! A [`Source`] gives bytes and a [`Sink`] takes them, and a contract names these bytes; [`Wired`] makes a reader or a
+//! writer of std one. An [`Output`] prints each [`Answer`] as one line into a block of fixed size, and writes the
+//! block.
+//!
+//! ```rust
+//! # use ob_manager::Reply;
+//! # use ob_script::{Answer, Output, Wired};
+//! # let reply = Reply::Spawned { process: 1, thread: 1 };
+//! let mut sink = Wired::new(rt.stdout());
+//! let mut output = Output::new(rt.alloc(), 1000)?;      // at most so many writes
+//! output.put(&mut sink, &Answer::Replied(reply))?;
+//! output.flush(&mut sink)?;
+//! ```
+//!
+//! A [`Record`] has each call as the line that asks for it, and behind it what it was answered, as a comment.
+//!
+//! ```rust
+//! # use ob_manager::{Call, Limits};
+//! # use ob_script::Record;
+//! # let mut manager = call_tables::locked_manager(alloc, Limits::default())?;
+//! let mut record = Record::new(alloc)?;
+//! record.add(&Call::Spawn { session: 1 }, &manager.apply(&Call::Spawn { session: 1 }))?;
+//! record.as_slice();                                  // b"spawn 1\n# p1 t1\n"
+//! ```
 #![tactic(auto)]
 
+mod account;
 mod act;
+mod answer;
+mod block;
+mod collected;
+mod device;
 mod ends;
 mod fitting;
 mod grammar;
@@ -26,15 +57,28 @@ mod law;
 mod line;
 mod naming;
 mod numbers;
+mod output;
+mod record;
+mod recorder;
 mod rights;
+mod wired;
 mod words;
 mod writing;
 
+pub use account::Account;
 pub use act::{Act, Handles, LineCall};
+pub use answer::Answer;
+pub use block::Block;
+pub use collected::Collected;
+pub use device::{CALLS_MOST, READ_MOST, Sink, Source, Trouble, zeros};
 pub use grammar::{act_of, is_too_long, text_of};
 pub use held::HeldLine;
 pub use law::law_of_lines;
 pub use line::ScriptLine;
 pub use numbers::labelled;
+pub use output::{NotWritten, Output};
+pub use record::Record;
+pub use recorder::Recorder;
+pub use wired::Wired;
 pub use words::cut_far;
 pub use writing::line_of;

@@ -8,8 +8,8 @@ mod states;
 
 use crate::states::run_states;
 use ob_console::{Options, OptionsFault, RunFault, read_options, run, without_its_number};
-use ob_lanes::run_lanes;
-use ob_output::Wired;
+use ob_console::run_lanes;
+use ob_script::Wired;
 use std::env;
 use std::fmt::Display;
 use std::io::{self, ErrorKind};

@@ -1,7 +1,7 @@
 use ob_codec::ReadFault;
 use ob_console::{Options, RunFault, run_over};
 use ob_manager::{Limits, Manager};
-use ob_output::{Sink, Source};
+use ob_script::{Sink, Source};
 use pin_words::{Keeper, LockedPins};
 use std::alloc::Global;
 use std::fs::{self, File, Permissions};

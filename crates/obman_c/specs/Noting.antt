@@ -1,6 +1,6 @@
 -- How C has calls recorded, and takes what was recorded.
 use Rattle.std.specs.Prelude.{◌≡◌, ◌≢◌, ◌⊎◌, ◌<◌, ℕ, Bool, true, false, List, []}
-use Rattle.ob_record.specs.Recording.{Recording, recording}
+use Rattle.ob_script.specs.Recording.{Recording, recording}
 
 -- calls are recorded from now on, or no more, and 0 is told; or 8 where they weren't and memory was wanting to begin, and
 -- all stays

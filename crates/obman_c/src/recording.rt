@@ -1,12 +1,12 @@
 //! Calls recorded as lines of a script, with their answers.
 ghost use Rattle.std.specs.Prelude.{◌≡◌};
-ghost use Rattle.ob_record.specs.Recording.{TakesLines};
+ghost use Rattle.ob_script.specs.Recording.{TakesLines};
 ghost use Rattle.obman_c.specs.Noting.{RecordTold, TakeTold};
 
 use ob_rights::{Fault, code_of};
 use obman_c_base::{Owner, SUCCESS, TOO_SMALL};
 
-/// [`Recorder::start`](ob_record::Recorder::start), or [`Recorder::stop`](ob_record::Recorder::stop): 0 or 8.
+/// [`Recorder::start`](ob_script::Recorder::start), or [`Recorder::stop`](ob_script::Recorder::stop): 0 or 8.
 #[unsafe(no_mangle)]
 pub extern "C" fn om_record(owner: &mut Owner, on: bool) -> u32
     ensures told { RecordTold on owner.old.value.recorder result owner.new.value.recorder }
@@ -23,7 +23,7 @@ pub extern "C" fn om_record(owner: &mut Owner, on: bool) -> u32
     }
 }
 
-/// [`Recorder::take`](ob_record::Recorder::take): 0, or 122 where lines are left and not even the first one fits.
+/// [`Recorder::take`](ob_script::Recorder::take): 0, or 122 where lines are left and not even the first one fits.
 #[unsafe(no_mangle)]
 pub extern "C" fn om_take_record(owner: &mut Owner, bytes: &mut [u8], written: &mut usize) -> u32
     ensures lines { TakesLines owner.old.value.recorder.text bytes.old written.new

@@ -5,8 +5,8 @@ use Rattle.ob_manager.specs.Calls.{Call}
 use Rattle.ob_manager.specs.declared.reply.Reply.{Reply}
 use Rattle.ob_manager.specs.Reaping.{IfReap, IfReaped}
 use Rattle.ob_manager.specs.Steps.{Step}
-use Rattle.ob_record.specs.Recording.{AddsWhere, Notes}
-use Rattle.ob_record.specs.Telling.{text_for}
+use Rattle.ob_script.specs.Recording.{AddsWhere, Notes}
+use Rattle.ob_script.specs.Telling.{text_for}
 use Rattle.obman_c_base.specs.Made.{Makes}
 use Rattle.obman_c_base.specs.declared.owned.OwnedManager.{OwnedManager}
 

@@ -9,8 +9,8 @@ use Rattle.ob_manager.specs.declared.reply.Reply.{Reply}
 use Rattle.ob_manager.specs.Makings.{making_of}
 use Rattle.ob_manager.specs.Reaping.{IfReap, IfReaped}
 use Rattle.ob_manager.specs.Steps.{Step}
-use Rattle.ob_record.specs.Recording.{Notes}
-use Rattle.ob_record.specs.Telling.{text_for}
+use Rattle.ob_script.specs.Recording.{Notes}
+use Rattle.ob_script.specs.Telling.{text_for}
 use Rattle.obman_c_base.specs.declared.owned.OwnedManager.{OwnedManager}
 
 -- which call it is, with its name and its handles as lists

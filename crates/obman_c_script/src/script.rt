@@ -3,7 +3,7 @@ ghost use Rattle.std.specs.Prelude.{◌≡◌, ◌⊎◌};
 ghost use Rattle.obman_c_script.specs.Scripts.{ScriptAnswered, HandsOver};
 
 use ob_console::run_whole;
-use ob_output::Collected;
+use ob_script::Collected;
 use ob_rights::{Fault, code_of};
 use obman_c_base::{Bounds, SUCCESS, TOO_SMALL, limits_of};
 use std::alloc::Global;

@@ -32,14 +32,14 @@ use Rattle.ob_manager.specs.Savestates.{load, saved}
 use Rattle.ob_manager.specs.Steps.{Step, is_lack, next, outcome_of, reclaim_in, takes_memory}
 use Rattle.ob_script.specs.Acts.{Act, Asks}
 use Rattle.ob_script.specs.Grammar.{act_of}
-use Rattle.ob_output.specs.Printed.{printed}
+use Rattle.ob_script.specs.Printed.{printed}
 use Rattle.ob_console.specs.Pinning.{phase_at}
 use Rattle.ob_console.specs.Runs.{AnswersTo, IsOpening, Point, last_line}
 use Rattle.ob_shared.specs.Closing.{IsPart, has_number}
 use Rattle.ob_shared.specs.Journal.{IsHistory, Replays, replay}
 use Rattle.ob_shared.specs.Lanes.{LaneState}
 use Rattle.ob_shared.specs.declared.book.Entry.{Entry}
-use Rattle.ob_replay.specs.Retelling.{RetellsTo}
+use Rattle.ob_console.specs.Retelling.{RetellsTo}
 use Rattle.obman_theorems.specs.Refusals.{IsAmong, refusals_of}
 
 -- 1. TOTAL

@@ -21,7 +21,7 @@ ghost use Rattle.ob_shared.specs.Closing.{AreWhole, IsCause};
 ghost use Rattle.ob_shared.specs.Journal.{IsHistory, IsHistoryFrom, IsOrigin};
 ghost use Rattle.ob_shared.specs.Lanes.{LaneState, Lists};
 ghost use Rattle.ob_shared.specs.declared.book.Entry.{Entry};
-ghost use Rattle.ob_replay.specs.Retelling.{FitsEntry, script_of};
+ghost use Rattle.ob_console.specs.Retelling.{FitsEntry, script_of};
 ghost use Rattle.obman_theorems.specs.Theorems.{AreAlike, AreOneHistory, IsHeld, IsHeldInWords, IsLeftOpen, IsMade, IsPinned, IsRecounted, IsRefused, IsReplayed, IsRun, IsSaved};
 
 use ob_console::{RunFault, Sink, Source, run};

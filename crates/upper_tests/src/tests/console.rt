@@ -2,7 +2,7 @@
 use crate::tests::{Failing, Interrupted, Page, Pieces, repeated, same};
 use ob_console::{RunFault, run, run_bounded};
 use ob_manager::Limits;
-use ob_output::{Source, Wired};
+use ob_script::{Source, Wired};
 use std::alloc::Global;
 use std::process::Abort;
 use std::test::Fail;

@@ -1,8 +1,8 @@
 //! Scripts with lanes.
 use crate::tests::{Failing, Page, Pieces, add, repeated, same};
-use ob_lanes::{LanesFault, run_lanes};
+use ob_console::{LanesFault, run_lanes};
 use ob_manager::Limits;
-use ob_output::{Sink, Source, Wired};
+use ob_script::{Sink, Source, Wired};
 use std::alloc::{AllocError, Global};
 use std::process::Abort;
 use std::sync::Wait;

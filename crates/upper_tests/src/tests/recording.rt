@@ -2,7 +2,7 @@
 use crate::tests::holds_at;
 use ob_manager::CallOf::{MakeEvent, Reap, Spawn, Tick, WaitFor};
 use ob_manager::{Ask, Make, Mode, Reply, Timeout};
-use ob_record::{Record, Recorder};
+use ob_script::{Record, Recorder};
 use ob_rights::Fault;
 use pin_core::Id;
 use pin_words::Reclaim;

@@ -2,8 +2,8 @@
 use super::holds;
 use ob_console::run_whole;
 use ob_manager::Limits;
-use ob_output::Collected;
-use ob_replay::script_of;
+use ob_script::Collected;
+use ob_console::script_of;
 use ob_script::cut_far;
 use ob_shared::Entry;
 use std::alloc::Global;

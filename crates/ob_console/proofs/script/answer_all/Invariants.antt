@@ -1,5 +1,5 @@
 use Rattle.std.proofs.Common.{◌≡◌, ◌+◌, ◌*◌, ◌≤◌, [], length}
-use Rattle.ob_output.specs.Pending.{Spends}
+use Rattle.ob_script.specs.Pending.{Spends}
 use Rattle.ob_console.proofs.Reading.{IsReading}
 use Rattle.ob_console.proofs.script.answer_all.Given as goal
 

@@ -1,4 +1,4 @@
-use Rattle.ob_replay.proofs.Retold.{history_rerun}
+use Rattle.ob_console.proofs.Retold.{history_rerun}
 use Rattle.obman_theorems.proofs.law.law_of_replay.Goals as goal
 
 pub returns : goal.returns

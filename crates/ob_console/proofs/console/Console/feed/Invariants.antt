@@ -1,5 +1,5 @@
 use Rattle.std.proofs.Common.{◌+◌, ◌≤◌, length}
-use Rattle.ob_output.specs.Pending.{Spends}
+use Rattle.ob_script.specs.Pending.{Spends}
 use Rattle.ob_console.specs.Sessions.{IsFed}
 use Rattle.ob_console.proofs.console.Console.feed.Given as goal
 

@@ -1,7 +1,7 @@
 use Rattle.std.proofs.Common.{List, ℕ, [], ◌++◌, sym, subst, ◌∙◌, ap, arith}
 use Rattle.std.proofs.lemmas.List.{append-nil}
 use Rattle.ob_console.specs.Sessions.{ConsoleState, Finishes}
-use Rattle.ob_output.specs.Pending.{IsWritten}
+use Rattle.ob_script.specs.Pending.{IsWritten}
 use Rattle.ob_console.proofs.Advancing.{finishes_empty, finishes_line}
 use Rattle.ob_console.proofs.console.Console.last_line.Goals as goal
 

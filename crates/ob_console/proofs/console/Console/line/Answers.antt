@@ -1,9 +1,9 @@
 use Rattle.std.proofs.Common.{ℕ, List, ◌++◌, subst, arith}
 use Rattle.ob_script.specs.Grammar.{act_of}
 use Rattle.ob_script.specs.HeldLines.{act_of_held}
-use Rattle.ob_output.specs.Printed.{line_end}
+use Rattle.ob_script.specs.Printed.{line_end}
 use Rattle.ob_console.specs.Sessions.{ConsoleState, Advances}
-use Rattle.ob_output.specs.Pending.{IsWritten}
+use Rattle.ob_script.specs.Pending.{IsWritten}
 use Rattle.ob_console.proofs.Advancing.{line_advances}
 use Rattle.ob_script.proofs.Texts.{act_of_capped}
 use Rattle.ob_console.proofs.console.Console.line.Goals as goal

@@ -1,8 +1,8 @@
 use Rattle.std.proofs.Common.{List, ℕ, ◌++◌, subst, arith}
 use Rattle.ob_store.specs.Directory.{directory_of}
 use Rattle.ob_script.specs.Acts.{act_in}
-use Rattle.ob_output.specs.Printed.{printed_names, printed as answered}
-use Rattle.ob_output.proofs.Written.{put_written}
+use Rattle.ob_script.specs.Printed.{printed_names, printed as answered}
+use Rattle.ob_script.proofs.Written.{put_written}
 use Rattle.ob_console.specs.Runs.{Point, point}
 use Rattle.ob_console.specs.Sessions.{Enacts, Evaluation}
 use Rattle.ob_console.proofs.evaluator.Evaluator.enact.Goals as goal

@@ -1,7 +1,7 @@
 use Rattle.std.proofs.Common.{List, ℕ, ◌++◌, refl, subst}
 use Rattle.ob_script.specs.Acts.{Pin}
-use Rattle.ob_output.specs.Printed.{line_end, printed_pin}
-use Rattle.ob_output.proofs.Written.{put_written}
+use Rattle.ob_script.specs.Printed.{line_end, printed_pin}
+use Rattle.ob_script.proofs.Written.{put_written}
 use Rattle.ob_console.specs.Runs.{point}
 use Rattle.ob_console.specs.Sessions.{Enacts, Evaluation}
 use Rattle.ob_console.proofs.evaluator.Evaluator.pin.Goals as goal

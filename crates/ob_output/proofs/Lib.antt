@@ -1,4 +1,0 @@
-pub mod Hexadecimal
-pub mod Printing
-pub mod Written
-pub mod Flushed

@@ -1,4 +1,0 @@
-pub mod Accounts
-pub mod Devices
-pub mod Printed
-pub mod Pending

@@ -1,7 +1,0 @@
-use Rattle.std.proofs.Common.{◌≡◌, All, take}
-use Rattle.ob_replay.specs.Retelling.{FitsEntry, script_of}
-use Rattle.ob_replay.proofs.script.script_of.Given as goal
-
-abbrev pub invariant-loop-entry : goal.invariant-loop-entry
-invariant-loop-entry l = (l.record ≡ script_of (take l.entry-index l.journal))
-    × All FitsEntry (take l.entry-index l.journal)
