@@ -8,7 +8,7 @@ ghost use Rattle.obman_c.specs.Telling.{TellsValue, opening_in};
 use crate::values::{Opening, tell_opening};
 use ob_manager::{Ask, Make};
 use ob_rights::{Kind, Rights};
-use obman_c_base::Owner;
+use crate::owner::Owner;
 
 /// What a create asks for (`om_making`), beside the name's bytes and the object's own state. All zeros ask for no name,
 /// no inheritance and all rights.

@@ -18,7 +18,8 @@ use crate::values::{Object, object_of};
 use ob_manager::{Mode, ObjectState};
 use ob_rights::{Fault, code_of};
 use ob_tables::Entry;
-use obman_c_base::{Owner, SUCCESS, TOO_SMALL};
+use crate::codes::{SUCCESS, TOO_SMALL};
+use crate::owner::Owner;
 use pin_core::Id;
 
 /// What state an object is in (`om_object_state`). What its kind hasn't is 0.

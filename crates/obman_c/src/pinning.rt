@@ -7,7 +7,8 @@ ghost use Rattle.obman_c.specs.Pinning.{id_at, pin_status};
 
 use ob_manager::Card;
 use ob_rights::{Fault, Kind, code_of};
-use obman_c_base::{Owner, SUCCESS};
+use crate::codes::SUCCESS;
+use crate::owner::Owner;
 use pin_core::Id;
 use pin_words::PinFault;
 

@@ -5,7 +5,7 @@ ghost use Rattle.obman_c.specs.Telling.{TellsStatus, TellsValue, member_in, thre
 use crate::status::told;
 use crate::values::{Member, tell_member, tell_thread};
 use ob_manager::Ask;
-use obman_c_base::Owner;
+use crate::owner::Owner;
 
 /// [`Manager::spawn`](ob_manager::Manager::spawn): 0, 1450 or 8.
 #[tactic(auto, using(crate::proofs::Told::tells_as))]

@@ -12,7 +12,10 @@ ghost use Rattle.obman_c.specs.Reading.{descriptor_of};
 
 use crate::pinning::{Description, description_of, id_at, number_of, number_of_kind};
 use ob_rights::{Fault, code_of};
-use obman_c_base::{OwnedReader, Owner, ReaderEnding, ReaderOwner, ReaderPlace, SUCCESS};
+use crate::codes::SUCCESS;
+use crate::owned::OwnedReader;
+use crate::owner::Owner;
+use crate::reader_owner::{ReaderEnding, ReaderOwner, ReaderPlace};
 use pin_core::{Descr, Id};
 use pin_words::Reader;
 use std::alloc::Global;

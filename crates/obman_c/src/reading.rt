@@ -8,7 +8,8 @@ ghost use Rattle.obman_c.specs.Listing.{RowTold, RowTells};
 use crate::status::NO_MORE;
 use crate::values::{Object, object_of};
 use ob_name::{NameRef, Space};
-use obman_c_base::{Owner, SUCCESS, TOO_SMALL};
+use crate::codes::{SUCCESS, TOO_SMALL};
+use crate::owner::Owner;
 use pin_core::Id;
 
 /// A row of the directory, but for its name (`om_row`).

@@ -7,7 +7,9 @@ ghost use Rattle.obman_c.specs.Telling.{TellsValue, reaping_in, references_in};
 
 use crate::values::{Reaping, References, tell_reaping, tell_references};
 use ob_manager::Ask;
-use obman_c_base::{OwnedManager, Owner, SUCCESS};
+use crate::codes::SUCCESS;
+use crate::owned::OwnedManager;
+use crate::owner::Owner;
 use pin_core::Id;
 
 /// [`Manager::reap`](ob_manager::Manager::reap): 0, 87 or 6.

@@ -5,7 +5,7 @@ ghost use Rattle.obman_c.specs.Telling.{status_of};
 
 use ob_manager::Reply;
 use ob_rights::{Fault, code_of};
-use obman_c_base::SUCCESS;
+use crate::codes::SUCCESS;
 
 /// `ERROR_NO_MORE_ITEMS`.
 pub(crate) const NO_MORE: u32 = 259;

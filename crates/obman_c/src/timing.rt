@@ -6,7 +6,8 @@ ghost use Rattle.obman_c.specs.Telling.{TellsStatus};
 
 use crate::status::{NO_MORE, told};
 use ob_manager::Ask;
-use obman_c_base::{Owner, SUCCESS};
+use crate::codes::SUCCESS;
+use crate::owner::Owner;
 
 /// [`Manager::set_timer`](ob_manager::Manager::set_timer): 0, 87, 170, 6 or 5.
 #[unsafe(no_mangle)]

@@ -9,7 +9,9 @@ ghost use Rattle.obman_c.specs.Waiting.{TakesAll, mode_of};
 use crate::status::told;
 use crate::values::tell_answer;
 use ob_manager::{Answer, Ask, Mode, Timeout};
-use obman_c_base::{OwnedManager, Owner, SUCCESS};
+use crate::codes::SUCCESS;
+use crate::owned::OwnedManager;
+use crate::owner::Owner;
 
 /// The answer of a wait (`om_answer`).
 #[repr(C)]
