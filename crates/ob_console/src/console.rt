@@ -7,8 +7,7 @@ ghost use Rattle.ob_console.specs.Sessions.{Advances, Finishes, IsFed, IsCutShor
 
 use crate::evaluator::Evaluator;
 use ob_manager::Manager;
-use ob_script::{NotWritten, Output, Sink};
-use ob_script::{Handles, HeldLine, ScriptLine};
+use ob_script::{Handles, HeldLine, NotWritten, Output, ScriptLine, Sink};
 use pin_words::{Keeper, Reader};
 use std::marker::Model;
 

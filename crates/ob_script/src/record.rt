@@ -8,10 +8,10 @@ ghost use Rattle.ob_script.specs.Printed.{line_end, printed, printed_reply};
 ghost use Rattle.ob_script.specs.Fitting.{Fits};
 ghost use Rattle.ob_script.specs.Telling.{asking, comment, is_held, is_held_slot, is_repeatable, text_for};
 
+use crate::block::Block;
+use crate::writing::line_of;
 use ob_manager::{AsMake, CallOf, Reply};
-use crate::Block;
 use ob_rights::Fault;
-use crate::line_of;
 use pin_words::Reclaim;
 use std::alloc::{AllocError, Global};
 use std::convert::AsSlice;

@@ -4,9 +4,9 @@ ghost use Rattle.ob_manager.specs.Calls.{with_parts};
 ghost use Rattle.ob_script.specs.Recording.{Adds, Notes, TakesLines, last_line, recording};
 ghost use Rattle.ob_script.specs.Telling.{text_for};
 
+use crate::block::Block;
 use crate::record::text_of;
 use ob_manager::{AsMake, CallOf, Reply};
-use crate::Block;
 use std::alloc::{AllocError, Global};
 use std::convert::AsSlice;
 use std::marker::Model;

@@ -7,8 +7,9 @@ ghost use Rattle.std.specs.Prelude.{◌≤◌, IfOk};
 mod states;
 
 use crate::states::run_states;
-use ob_console::{Options, OptionsFault, RunFault, read_options, run, without_its_number};
-use ob_console::run_lanes;
+use ob_console::{
+    Options, OptionsFault, RunFault, read_options, run, run_lanes, without_its_number,
+};
 use ob_script::Wired;
 use std::env;
 use std::fmt::Display;

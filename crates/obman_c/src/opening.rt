@@ -6,12 +6,12 @@ ghost use Rattle.obman_c.specs.Allowed.{AreAs};
 ghost use Rattle.obman_c.specs.declared.owned.OwnedManager.{OwnedManager};
 ghost use Rattle.obman_c.specs.Opening.{Opens, new_keeper, new_owned};
 
-use ob_manager::{Limits, Manager};
-use ob_rights::{Fault, code_of};
 use crate::codes::SUCCESS;
 use crate::limits::{Bounds, limits_of};
 use crate::owned::OwnedManager;
 use crate::owner::{Ending, Owner, Place};
+use ob_manager::{Limits, Manager};
+use ob_rights::{Fault, code_of};
 use pin_core::Shape;
 use pin_words::{Keeper, Pins};
 use std::alloc::Global;

@@ -3,12 +3,12 @@ ghost use Rattle.std.specs.Prelude.{◌≡◌, IfErr, IfOk};
 ghost use Rattle.pin_words.specs.Seats.{TableState};
 ghost use Rattle.obman_c.specs.Savestates.{Loads, Saves, loaded_owned};
 
-use ob_codec::ReadFault;
-use ob_manager::Manager;
-use ob_rights::{Fault, code_of};
 use crate::codes::{INVALID_DATA, SUCCESS, TOO_SMALL};
 use crate::owned::OwnedManager;
 use crate::owner::{Owner, Place};
+use ob_codec::ReadFault;
+use ob_manager::Manager;
+use ob_rights::{Fault, code_of};
 use pin_words::LockedPins;
 use std::alloc::Global;
 

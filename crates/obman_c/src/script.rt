@@ -2,11 +2,11 @@
 ghost use Rattle.std.specs.Prelude.{◌≡◌, ◌⊎◌};
 ghost use Rattle.obman_c.specs.Scripts.{ScriptAnswered, HandsOver};
 
-use ob_console::run_whole;
-use ob_script::Collected;
-use ob_rights::{Fault, code_of};
 use crate::codes::{SUCCESS, TOO_SMALL};
 use crate::limits::{Bounds, limits_of};
+use ob_console::run_whole;
+use ob_rights::{Fault, code_of};
+use ob_script::Collected;
 use std::alloc::Global;
 
 /// Answers a script over a new manager, as the program does without lanes, at the front of `answers`: 0, 87 where a

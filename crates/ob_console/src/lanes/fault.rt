@@ -1,8 +1,8 @@
 ghost use Rattle.std.specs.Prelude.{◌≡◌};
 ghost use Rattle.ob_console.specs.declared.fault.LanesFault.TheVariants.{Memory, Write};
 
-use ob_script::NotWritten;
 use ob_rights::Fault;
+use ob_script::NotWritten;
 use std::alloc::AllocError;
 use thiserror::Error;
 

@@ -6,8 +6,7 @@ ghost use Rattle.ob_console.specs.Faults.{WriteHasCause};
 use crate::lanes::fault::LanesFault;
 use crate::lanes::line::is_marked;
 use crate::lanes::scripts::Scripts;
-use ob_script::{Answer, Output, READ_MOST, Sink, Source, Trouble};
-use ob_script::{HeldLine, cut_far};
+use ob_script::{Answer, HeldLine, Output, READ_MOST, Sink, Source, Trouble, cut_far};
 use std::alloc::{AllocError, Global};
 
 /// The beginning of a line whose end has not come. A line that is too long for any act is not kept, but whether it

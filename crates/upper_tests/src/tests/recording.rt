@@ -2,8 +2,8 @@
 use crate::tests::holds_at;
 use ob_manager::CallOf::{MakeEvent, Reap, Spawn, Tick, WaitFor};
 use ob_manager::{Ask, Make, Mode, Reply, Timeout};
-use ob_script::{Record, Recorder};
 use ob_rights::Fault;
+use ob_script::{Record, Recorder};
 use pin_core::Id;
 use pin_words::Reclaim;
 use std::alloc::{AllocError, Global};

@@ -1,10 +1,8 @@
 //! A journal as a script: a run of it prints what the journal has.
 use super::holds;
-use ob_console::run_whole;
+use ob_console::{run_whole, script_of};
 use ob_manager::Limits;
-use ob_script::Collected;
-use ob_console::script_of;
-use ob_script::cut_far;
+use ob_script::{Collected, cut_far};
 use ob_shared::Entry;
 use std::alloc::Global;
 use std::process::Abort;
