@@ -31,7 +31,7 @@ use Rattle.ob_store.specs.Objects.{Object}
 use Rattle.ob_store.specs.State.{State, Whole, generation_of, shape_of}
 use Rattle.ob_console.specs.Attempts.{Attempts, Told}
 use Rattle.ob_console.specs.Pinning.{Finds, IsWord, IsPinned, IsBusy, Judged, Pins, phase_in, phase_at}
-use Rattle.ob_console.proofs.Found.{card_found, within}
+use Rattle.ob_console.proofs.Found.{card_found, met_found, within}
 
 -- there is no such slot
 pub no_slot : (s : State) (held : List Id) (looks : List Look) (id : Id) → s.limits.slots ≤ id.slot
@@ -125,8 +125,7 @@ judged Go Found w r m r3 r4 id n tried res second consistent inside a told met =
         let t : Told (Ok tt) m id res r3 = subst (λ z. Told z m id res r3) ok told in
         let holds : 0 < tally (same_id id) r3.held =
         search arith in
-        let found : IsFound id r3 (slice_index_or w.state.objects id.slot None) =
-        search arith in
+        let found = met_found w r3 r4 id consistent inside holds met in
         record {
           made = record { id = found.object.id; descr = found.object.descr; grant = found.object.grant };
           is_there = card_found w.state r3 id found;

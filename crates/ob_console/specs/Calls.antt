@@ -3,8 +3,8 @@ use Rattle.std.specs.Prelude.{ℕ, List}
 use Rattle.ob_script.specs.Acts.{call_in}
 use Rattle.ob_shared.specs.declared.act.Act.{Act}
 use Rattle.ob_shared.specs.declared.act.Act.TheVariants as does
-use Rattle.ob_console.specs.declared.line.Request.{Request}
-use Rattle.ob_console.specs.declared.line.Request.TheVariants.{Ask, Pin, Unpin, ShowCard, Block}
+use Rattle.ob_console.specs.declared.lanes.line.Request.{Request}
+use Rattle.ob_console.specs.declared.lanes.line.Request.TheVariants.{Ask, Pin, Unpin, ShowCard, Block}
 
 -- what a member is to do, by what was read and the handles that stand beside it
 abbrev pub request_in : List ℕ → Request → Act

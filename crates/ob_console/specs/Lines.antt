@@ -10,8 +10,8 @@ use Rattle.ob_script.specs.Words.{labelled, ◌>>=◌}
 use Rattle.ob_shared.specs.declared.act.Act.{Act}
 use Rattle.ob_shared.specs.declared.act.Act.TheVariants.{Ask, Pin, Unpin, ShowCard, Block}
 use Rattle.ob_console.specs.Calls.{request_in}
-use Rattle.ob_console.specs.declared.line.Line.{Line as Given}
-use Rattle.ob_console.specs.declared.line.Line.TheVariants as given
+use Rattle.ob_console.specs.declared.lanes.line.Line.{Line as Given}
+use Rattle.ob_console.specs.declared.lanes.line.Line.TheVariants as given
 
 pub data Line : Type 0 where
   Nothing : Line  -- nothing is done

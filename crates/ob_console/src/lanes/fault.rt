@@ -1,5 +1,5 @@
 ghost use Rattle.std.specs.Prelude.{◌≡◌};
-ghost use Rattle.ob_console.specs.declared.fault.LanesFault.TheVariants.{Memory, Write};
+ghost use Rattle.ob_console.specs.declared.lanes.fault.LanesFault.TheVariants.{Memory, Write};
 
 use ob_rights::Fault;
 use ob_script::NotWritten;
