@@ -4,8 +4,8 @@ ghost use Rattle.obman_c_base.specs.Made.{Makes, call_of};
 ghost use Rattle.obman_c_base.specs.Owned.{unrecorded};
 
 use ob_manager::{Ask, Manager, Reply};
-use ob_script::Recorder;
 use ob_rights::Fault;
+use ob_script::Recorder;
 use pin_words::{Keeper, Reader};
 use std::alloc::{AllocError, Global};
 

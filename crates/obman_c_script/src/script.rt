@@ -3,8 +3,8 @@ ghost use Rattle.std.specs.Prelude.{◌≡◌, ◌⊎◌};
 ghost use Rattle.obman_c_script.specs.Scripts.{ScriptAnswered, HandsOver};
 
 use ob_console::run_whole;
-use ob_script::Collected;
 use ob_rights::{Fault, code_of};
+use ob_script::Collected;
 use obman_c_base::{Bounds, SUCCESS, TOO_SMALL, limits_of};
 use std::alloc::Global;
 
