@@ -23,7 +23,7 @@ use Rattle.ob_manager.specs.Timing.{tick}
 use Rattle.ob_manager.specs.Waiting.{wait}
 use Rattle.ob_manager.specs.Steps.{Step, does, closes as closes_source, lacks, KeeperAfter, final, outcome_of}
 use Rattle.ob_script.specs.Fitting.{Fits, FitsMake, FitsTarget, FitsTimeout, FitHandles}
-use Rattle.ob_script.specs.Writing.{label, either_word, word_if, name_words, make_words, handle_words, words_for, can_be_said, line_of}
+use Rattle.ob_script.specs.Writing.{label, either_word, word_if, name_words, make_words, handle_words, words_for, can_be_said, line_of, mask_word, kind_word}
 use Rattle.ob_script.proofs.Short.{IsShort, AreShort, no_feed, have_line, number_short, label_short, id_short, signed_short, mask_short, known_short, kind_short, mode_short, timeout_short, target_short, access_short, handles_short, append_short, if_short, masks_short, make_few}
 
 -- a chain of tests fails where its first part does, and where all that follows does
@@ -103,10 +103,10 @@ open_fails : (s : State) (thread : ℕ) (kind : Kind) (mask : Rights) (inherit :
 open_fails s thread kind mask inherit text fits mask_fits none = by (is_nameable text) refl
   where
     call : Call
-    call = search (arith, calls.OpenNamed)
+    call = calls.OpenNamed thread kind mask inherit text
 
     front : List (List ℕ)
-    front = grind arith
+    front = codes "open" ∷ label 116 thread ∷ kind_word kind ∷ mask_word mask ∷ word_if inherit (codes "inherit")
 
     named : List (List ℕ)
     named = codes "name" ∷ text ∷ []
@@ -174,7 +174,7 @@ dup_fails s thread source handle target mask inherit options fits source_fits ha
     call = calls.Duplicate thread source handle target mask inherit options
 
     behind : List (List ℕ)
-    behind = grind arith
+    behind = word_if inherit (codes "inherit") ++ word_if (closes options) (codes "close")
 
     lined : nat_lt options 4 ≡ true → ⊥
     lined few =

@@ -121,7 +121,7 @@ pub left_refused : (limit clock last n : ℕ) (ws : List (Option Wait)) (w : Wai
 left_refused limit clock last n ws w ps some not_so = by (leb (length ws) n) (leb n last) refl refl not_so
   where
     good : Bool
-    good = grind arith
+    good = may_stand clock (Some w) && not (is_some (number_of w.thread ws))
 
     refused : (b : Bool) (xs : List (Option Wait)) → (can_be limit clock xs ≡ true → ⊥)
         → tested limit clock (cond b (Some xs) None) ≡ Err Value
