@@ -1,9 +1,9 @@
 //! The least of many: the least free number of a set, and the least due moment of a list.
 //!
-//! [`LeastFree`] is a set of numbers that grows with use. Every number at or past its length is free, so a new set takes
-//! no memory. Finding the least free number, taking it and giving it back are a few word operations at any length up to
-//! 65,536. It keeps a number that was given back apart, at one test a call: fewest words change where one number goes and
-//! comes, again and again. [`Levels`] has no such number.
+//! [`LeastFree`] is a set of numbers that grows with use. Every number at or past its length is free, so a new set
+//! takes no memory. Finding the least free number, taking it and giving it back are a few word operations at any length
+//! up to 65,536. It keeps a number that was given back apart, at one test a call: fewest words change where one number
+//! goes and comes, again and again. [`Levels`] has no such number.
 //!
 //! ```rust
 //! # use least::LeastFree;
@@ -15,8 +15,8 @@
 //! ```
 //!
 //! [`Dues`] has for each place of a list a moment at which something is due there, or none. The least moment is read in
-//! constant time, and a moment is written in a time that grows with the logarithm of the list's length. Only a new place
-//! takes memory.
+//! constant time, and a moment is written in a time that grows with the logarithm of the list's length. Only a new
+//! place takes memory.
 //!
 //! ```rust
 //! # use least::Dues;
