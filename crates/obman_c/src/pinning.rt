@@ -5,9 +5,10 @@ ghost use Rattle.ob_manager.specs.Counting.{card};
 ghost use Rattle.obman_c.specs.Finding.{Describes, description_of, kind_number};
 ghost use Rattle.obman_c.specs.Pinning.{id_at, pin_status};
 
+use crate::codes::SUCCESS;
+use crate::owner::Owner;
 use ob_manager::Card;
 use ob_rights::{Fault, Kind, code_of};
-use obman_c_base::{Owner, SUCCESS};
 use pin_core::Id;
 use pin_words::PinFault;
 
