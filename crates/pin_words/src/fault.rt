@@ -44,6 +44,7 @@ pub enum Verdict {
     Go,
 }
 
+#[inline(always)]
 pub(crate) fn judge(max_pins: u32, id: Id, word: Word) -> Verdict
     ensures { result ≡ verdict_of max_pins id word }
 {

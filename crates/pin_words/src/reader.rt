@@ -20,6 +20,7 @@ use std::marker::Model;
 use std::sync::{Arc, Wait};
 
 // Where the last copy of the Id stands.
+#[inline(always)]
 fn found_at(held: &[Id], id: Id) -> Option<usize>
     ensures found { IsTrue (is_some result) ↔ (0 < tally (same_id id) held.now) }
     ensures within { IfSome result (λ place. place < length held.now) }
@@ -43,6 +44,7 @@ pub(crate) fn forget(held: &mut ArrayVec<Id, 16>, id: Id)
 }
 
 // Takes out the copy at a place, which is mostly the last.
+#[inline(always)]
 fn take_out(held: &mut ArrayVec<Id, 16>, place: usize)
     requires { place < length held.old.items }
     ensures { held.new.items ≡ remove held.old.items place }
@@ -142,6 +144,7 @@ impl Reader {
     }
 
     // One look at the slot.
+    #[inline(always)]
     fn look(&mut self, slot: u32) -> u64
         requires { slot < self.old.view.shape.slots }
         ensures view { self.new.view ≡ reader_looked self.old.view slot result }
@@ -154,6 +157,7 @@ impl Reader {
     }
 
     // Where it lists the last copy of the Id.
+    #[inline(always)]
     fn found(&self, id: Id) -> Option<usize>
         ensures found { IsTrue (is_some result) ↔ (0 < tally (same_id id) self.now.view.held) }
         ensures within { IfSome result (λ place. place < length self.now.view.held) }
@@ -164,6 +168,7 @@ impl Reader {
     }
 
     // One more pin where the word is still `found`.
+    #[inline(always)]
     fn take(&mut self, id: Id, found: u64) -> u64
         requires slot { id.slot < self.old.view.shape.slots }
         requires go { verdict_of self.old.view.shape.max_pins id (decoded found) ≡ verdict.Go }
@@ -193,7 +198,7 @@ impl Reader {
     ///
     /// Where it goes through, the look and the exchange were each made on words that show a safe world, and the new
     /// copy is one hold of the world behind them.
-    #[inline]
+    #[inline(always)]
     pub fn try_pin(&mut self, id: Id) -> Result<(), PinFault>
         ensures tries { Tries self.old.view id result self.new.view }
         ensures held { OnOk result (0 < tally (same_id id) self.new.view.held) }
@@ -268,7 +273,7 @@ impl Reader {
 
     /// Lets one copy of an Id go as [`release`](Reader::release) does, where one is held, and whether one was. One look
     /// through what is held.
-    #[inline]
+    #[inline(always)]
     pub fn release_if_held(&mut self, id: Id) -> bool
         ensures held { IsTrue result ↔ (0 < tally (same_id id) self.old.view.held) }
         ensures view { IsTrue result → self.new.view ≡ reader_released self.old.view id }
