@@ -71,7 +71,7 @@ impl Evaluator {
         ensures sink { UsesSink W.calls W.faults result sink.old sink.new self.old.pending self.new.pending }
     {
         self.lines += 1;
-        let act = act_of::<0>(line, handles);
+        let act = act_of(line, handles);
         self.enact(sink, &act, handles.as_slice())
     }
 

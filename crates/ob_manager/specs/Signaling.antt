@@ -1,8 +1,11 @@
 -- Setting and resetting events, and releasing semaphores and mutexes.
-use Rattle.std.specs.Prelude.{ℕ, Result, Ok, ℤ}
+use Rattle.std.specs.Prelude.{◌×◌, ℕ, Result, Ok, ℤ}
+use Rattle.pin_core.specs.declared.id.Id.{Id}
 use Rattle.ob_rights.specs.declared.fault.Fault.{Fault}
 use Rattle.ob_rights.specs.declared.fault.Fault.TheVariants as fault
+use Rattle.ob_rights.specs.declared.kind.Kind.{Kind}
 use Rattle.ob_rights.specs.declared.kind.Kind.TheVariants as kind
+use Rattle.ob_body.specs.declared.body.Body.{Body}
 use Rattle.ob_body.specs.Body.{after_set, after_reset, after_post, after_unlock, post_answer, unlock_answer}
 use Rattle.ob_manager.specs.declared.reply.Reply.TheVariants.{Done, Previous}
 use Rattle.ob_store.specs.State.{State, settled, with_body}
@@ -13,21 +16,26 @@ use Rattle.ob_manager.specs.Checks.{caller, found, body_of, granted, positive}
 abbrev pub modify_state : ℕ
 modify_state = 2
 
-abbrev pub set_event : State → ℕ → ℕ → Result Outcome Fault
-set_event s thread handle = do
+-- the object of a handle that has it, with its body
+abbrev pub modified : State → ℕ → ℕ → Kind → Result (Id × Body) Fault
+modified s thread handle kind = do
   process ← caller s thread
   entry ← found s process handle
-  event ← body_of s entry.id kind.Event
+  body ← body_of s entry.id kind
   _ ← granted modify_state entry
-  Ok (record { reply = Done; state = settled (with_body s entry.id (after_set event)) })
+  Ok (entry.id, body)
+
+-- a call that has that body become another
+abbrev pub modify : State → ℕ → ℕ → Kind → (Body → Body) → Result Outcome Fault
+modify s thread handle kind after = do
+  object ← modified s thread handle kind
+  Ok (record { reply = Done; state = settled (with_body s object.0 (after object.1)) })
+
+abbrev pub set_event : State → ℕ → ℕ → Result Outcome Fault
+set_event s thread handle = modify s thread handle kind.Event after_set
 
 abbrev pub reset_event : State → ℕ → ℕ → Result Outcome Fault
-reset_event s thread handle = do
-  process ← caller s thread
-  entry ← found s process handle
-  event ← body_of s entry.id kind.Event
-  _ ← granted modify_state entry
-  Ok (record { reply = Done; state = settled (with_body s entry.id (after_reset event)) })
+reset_event s thread handle = modify s thread handle kind.Event after_reset
 
 abbrev pub release_semaphore : State → ℕ → ℕ → ℤ → Result Outcome Fault
 release_semaphore s thread handle count = do

@@ -61,7 +61,7 @@ outcome_of s (calls.Reap slot) reply = reap s slot (reclaim_in reply)
 outcome_of s (calls.Counts id) reply = counts s id
 
 -- whether a call takes memory, which may be wanting: a wait only where it becomes pending, and a handle to an object
--- that is there only where no value was given back
+-- that is there only where no value was given back; no other call takes any
 abbrev pub takes_memory : State → Call → Bool
 takes_memory s (calls.Spawn session) = true
 takes_memory s (calls.Child thread inherit) = true
@@ -73,23 +73,8 @@ takes_memory s (calls.MakeTimer thread making manual) = true
 takes_memory s (calls.OpenNamed thread kind mask inherit text) = takes_place s (slice_index_or s.threads thread None)
 takes_memory s (calls.Duplicate thread source handle target mask inherit options) =
     is_copy (duplicate s thread source handle target mask inherit options) && takes_place s target
-takes_memory s (calls.CloseHandle thread handle) = false
-takes_memory s (calls.GetFlags thread handle) = false
-takes_memory s (calls.SetFlags thread handle mask flags) = false
-takes_memory s (calls.SetEvent thread handle) = false
-takes_memory s (calls.ResetEvent thread handle) = false
-takes_memory s (calls.ReleaseSemaphore thread handle count) = false
-takes_memory s (calls.ReleaseMutex thread handle) = false
-takes_memory s (calls.SetTimer thread handle due) = false
-takes_memory s (calls.CancelTimer thread handle) = false
-takes_memory s (calls.Tick now) = false
 takes_memory s (calls.WaitFor thread mode timeout handles) = becomes_pending (wait s thread mode timeout handles)
-takes_memory s (calls.WaitResult number) = false
-takes_memory s (calls.Expire number) = false
-takes_memory s (calls.EndThread thread) = false
-takes_memory s (calls.Exit process) = false
-takes_memory s (calls.Reap slot) = false
-takes_memory s (calls.Counts id) = false
+takes_memory s call = false
 
 -- the reply and the state of an outcome; a refusal changes nothing
 abbrev pub final : State → Result Outcome Fault → Outcome
@@ -114,15 +99,7 @@ KeeperAfter (Flags bits) s k k' = k' ≡ k
 KeeperAfter (Pending number) s k k' = k' ≡ k
 KeeperAfter (CountsAre handles waits hold) s k k' = k' ≡ k
 KeeperAfter (Refused fault) s k k' = k' ≡ k
-KeeperAfter (Duplicated handle id) s k k' = OnlyCloses k k'
-KeeperAfter Closed s k k' = OnlyCloses k k'
-KeeperAfter Done s k k' = OnlyCloses k k'
-KeeperAfter (Previous count) s k k' = OnlyCloses k k'
-KeeperAfter (Code code) s k k' = OnlyCloses k k'
-KeeperAfter (Expired number) s k k' = OnlyCloses k k'
-KeeperAfter (Ticked now) s k k' = OnlyCloses k k'
-KeeperAfter (Ended thread) s k k' = OnlyCloses k k'
-KeeperAfter (Exited process) s k k' = OnlyCloses k k'
+KeeperAfter reply s k k' = OnlyCloses k k'
 
 abbrev pub is_duplicate : Call → Bool
 is_duplicate (calls.Duplicate thread source handle target mask inherit options) = true

@@ -4,12 +4,11 @@ use Rattle.ob_rights.specs.declared.fault.Fault.{Fault}
 use Rattle.ob_rights.specs.declared.fault.Fault.TheVariants as fault
 use Rattle.ob_rights.specs.declared.kind.Kind.TheVariants as kind
 use Rattle.ob_body.specs.Body.{after_arm, after_disarm}
-use Rattle.ob_manager.specs.declared.reply.Reply.TheVariants.{Done, Ticked}
-use Rattle.ob_store.specs.State.{State, settled, with_body}
+use Rattle.ob_manager.specs.declared.reply.Reply.TheVariants.{Ticked}
+use Rattle.ob_store.specs.State.{State}
 use Rattle.ob_store.specs.Ticks.{last_moment, ticked}
 use Rattle.ob_manager.specs.Outcomes.{Outcome, ◌>>=◌, refuse_if}
-use Rattle.ob_manager.specs.Checks.{caller, found, body_of, granted}
-use Rattle.ob_manager.specs.Signaling.{modify_state}
+use Rattle.ob_manager.specs.Signaling.{modify}
 
 -- the moment that a caller means: below 0 so many units after now
 abbrev pub moment_of : ℕ → ℤ → ℕ
@@ -17,20 +16,10 @@ moment_of now (pos n) = n
 moment_of now (negsuc n) = now + suc n
 
 abbrev pub set_timer : State → ℕ → ℕ → ℤ → Result Outcome Fault
-set_timer s thread handle due = do
-  process ← caller s thread
-  entry ← found s process handle
-  timer ← body_of s entry.id kind.Timer
-  _ ← granted modify_state entry
-  Ok (record { reply = Done; state = settled (with_body s entry.id (after_arm (moment_of s.clock due) s.clock timer)) })
+set_timer s thread handle due = modify s thread handle kind.Timer (after_arm (moment_of s.clock due) s.clock)
 
 abbrev pub cancel_timer : State → ℕ → ℕ → Result Outcome Fault
-cancel_timer s thread handle = do
-  process ← caller s thread
-  entry ← found s process handle
-  timer ← body_of s entry.id kind.Timer
-  _ ← granted modify_state entry
-  Ok (record { reply = Done; state = settled (with_body s entry.id (after_disarm timer)) })
+cancel_timer s thread handle = modify s thread handle kind.Timer after_disarm
 
 -- time doesn't go back, and not past the last moment
 abbrev pub tick : State → ℕ → Result Outcome Fault

@@ -2,9 +2,9 @@ ghost use Rattle.std.specs.Prelude.{◌≡◌, ◌≤◌};
 ghost use Rattle.ob_manager.specs.Steps.{Gives};
 ghost use Rattle.ob_manager.specs.Timing.{cancel_timer, moment_of, set_timer, tick};
 
-use crate::checks::{body_of, caller, found, granted};
 use crate::reply::Reply;
-use ob_rights::{Fault, Kind, Rights};
+use crate::signaling::modified;
+use ob_rights::{Fault, Kind};
 use ob_store::{LAST_MOMENT, Store};
 use pin_words::PinKeeper;
 
@@ -29,12 +29,9 @@ pub fn set_timer<K: PinKeeper>(
 ) -> Result<Reply, Fault>
     ensures { Gives result store.old store.new (set_timer store.old.state thread handle due) }
 {
-    let process = caller(store, thread)?;
-    let entry = found(store, process, handle)?;
-    let timer = body_of(store, entry.id, Kind::Timer)?;
-    granted(Rights::MODIFY_STATE, entry)?;
+    let (id, timer) = modified(store, thread, handle, Kind::Timer)?;
     let moment = moment_of(store.now(), due);
-    store.arm(entry.id, timer, moment);
+    store.arm(id, timer, moment);
     Ok(Reply::Done)
 }
 
@@ -46,11 +43,8 @@ pub fn cancel_timer<K: PinKeeper>(
 ) -> Result<Reply, Fault>
     ensures { Gives result store.old store.new (cancel_timer store.old.state thread handle) }
 {
-    let process = caller(store, thread)?;
-    let entry = found(store, process, handle)?;
-    let timer = body_of(store, entry.id, Kind::Timer)?;
-    granted(Rights::MODIFY_STATE, entry)?;
-    store.disarm(entry.id, timer);
+    let (id, timer) = modified(store, thread, handle, Kind::Timer)?;
+    store.disarm(id, timer);
     Ok(Reply::Done)
 }
 

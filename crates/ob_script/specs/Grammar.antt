@@ -50,87 +50,74 @@ make_of words = do
 
 -- `VERB X`, behind its first word: a call by one word, as that is read
 abbrev pub lone_of : {A : Type 0} → (List ℕ → Option A) → (A → Call) → List (List ℕ) → Option Call
-lone_of read call [] = None
 lone_of read call (word ∷ []) = do
   value ← read word
   Some (call value)
-lone_of read call (word ∷ more ∷ words) = None
+lone_of read call words = None
 
 -- `child T inherit|plain`
 abbrev pub child_of : List (List ℕ) → Option Call
-child_of [] = None
-child_of (thread ∷ []) = None
 child_of (thread ∷ inherit ∷ []) = do
   thread ← labelled 116 thread
   inherit ← either_of (codes "plain") (codes "inherit") inherit
   Some (Child thread inherit)
-child_of (thread ∷ inherit ∷ more ∷ words) = None
+child_of words = None
 
 -- `event T auto|manual clear|set [inherit] [access M] [grant M] [name TEXT]`
 abbrev pub event_of : List (List ℕ) → Option Call
-event_of [] = None
-event_of (thread ∷ []) = None
-event_of (thread ∷ reset ∷ []) = None
 event_of (thread ∷ reset ∷ state ∷ words) = do
   thread ← labelled 116 thread
   manual ← either_of (codes "auto") (codes "manual") reset
   set ← either_of (codes "clear") (codes "set") state
   make ← make_of words
   Some (MakeEvent thread make manual set)
+event_of words = None
 
 -- `mutex T free|owned [inherit] [access M] [grant M] [name TEXT]`
 abbrev pub mutex_of : List (List ℕ) → Option Call
-mutex_of [] = None
-mutex_of (thread ∷ []) = None
 mutex_of (thread ∷ state ∷ words) = do
   thread ← labelled 116 thread
   owned ← either_of (codes "free") (codes "owned") state
   make ← make_of words
   Some (MakeMutex thread make owned)
+mutex_of words = None
 
 -- `semaphore T I I [inherit] [access M] [grant M] [name TEXT]`: the first count and the maximum
 abbrev pub semaphore_of : List (List ℕ) → Option Call
-semaphore_of [] = None
-semaphore_of (thread ∷ []) = None
-semaphore_of (thread ∷ initial ∷ []) = None
 semaphore_of (thread ∷ initial ∷ max ∷ words) = do
   thread ← labelled 116 thread
   initial ← signed_of initial
   max ← signed_of max
   make ← make_of words
   Some (MakeSemaphore thread make initial max)
+semaphore_of words = None
 
 -- `timer T auto|manual [inherit] [access M] [grant M] [name TEXT]`
 abbrev pub timer_of : List (List ℕ) → Option Call
-timer_of [] = None
-timer_of (thread ∷ []) = None
 timer_of (thread ∷ reset ∷ words) = do
   thread ← labelled 116 thread
   manual ← either_of (codes "auto") (codes "manual") reset
   make ← make_of words
   Some (MakeTimer thread make manual)
+timer_of words = None
 
 -- `open T event|mutex|semaphore|timer M [inherit] name TEXT`
 abbrev pub open_of : List (List ℕ) → Option Call
-open_of [] = None
-open_of (thread ∷ []) = None
-open_of (thread ∷ kind ∷ []) = None
 open_of (thread ∷ kind ∷ mask ∷ words) = do
   thread ← labelled 116 thread
   kind ← kind_of kind
   mask ← mask_of mask
   name ← name_of (behind (codes "inherit") words)
   Some (OpenNamed thread kind mask (begins_with (codes "inherit") words) name)
+open_of words = None
 
 -- `VERB T H`: the thread and the handle
 abbrev pub handle_of : List (List ℕ) → Option (ℕ × ℕ)
-handle_of [] = None
-handle_of (thread ∷ []) = None
 handle_of (thread ∷ handle ∷ []) = do
   thread ← labelled 116 thread
   handle ← labelled 104 handle
   Some (thread, handle)
-handle_of (thread ∷ handle ∷ more ∷ words) = None
+handle_of words = None
 
 -- a call by the thread and the handle
 abbrev pub handled : (ℕ → ℕ → Call) → List (List ℕ) → Option Call
@@ -140,41 +127,31 @@ handled call words = do
 
 -- `setflags T H N N`: the mask and the flags
 abbrev pub setflags_of : List (List ℕ) → Option Call
-setflags_of [] = None
-setflags_of (thread ∷ []) = None
-setflags_of (thread ∷ handle ∷ []) = None
-setflags_of (thread ∷ handle ∷ mask ∷ []) = None
 setflags_of (thread ∷ handle ∷ mask ∷ flags ∷ []) = do
   thread ← labelled 116 thread
   handle ← labelled 104 handle
   mask ← number_of mask
   flags ← number_of flags
   Some (SetFlags thread handle mask flags)
-setflags_of (thread ∷ handle ∷ mask ∷ flags ∷ more ∷ words) = None
+setflags_of words = None
 
 -- `release T H I`
 abbrev pub release_of : List (List ℕ) → Option Call
-release_of [] = None
-release_of (thread ∷ []) = None
-release_of (thread ∷ handle ∷ []) = None
 release_of (thread ∷ handle ∷ count ∷ []) = do
   thread ← labelled 116 thread
   handle ← labelled 104 handle
   count ← signed_of count
   Some (ReleaseSemaphore thread handle count)
-release_of (thread ∷ handle ∷ count ∷ more ∷ words) = None
+release_of words = None
 
 -- `settimer T H D`
 abbrev pub settimer_of : List (List ℕ) → Option Call
-settimer_of [] = None
-settimer_of (thread ∷ []) = None
-settimer_of (thread ∷ handle ∷ []) = None
 settimer_of (thread ∷ handle ∷ due ∷ []) = do
   thread ← labelled 116 thread
   handle ← labelled 104 handle
   due ← due_of due
   Some (SetTimer thread handle due)
-settimer_of (thread ∷ handle ∷ due ∷ more ∷ words) = None
+settimer_of words = None
 
 -- `P`, or `-` for no target
 abbrev pub target_of : List ℕ → Option (Option ℕ)
@@ -196,11 +173,6 @@ closing_of (word ∷ more ∷ words) = None
 
 -- `dup T P H P|- same|M [inherit] [close]`
 abbrev pub dup_of : List (List ℕ) → Option Call
-dup_of [] = None
-dup_of (thread ∷ []) = None
-dup_of (thread ∷ source ∷ []) = None
-dup_of (thread ∷ source ∷ handle ∷ []) = None
-dup_of (thread ∷ source ∷ handle ∷ target ∷ []) = None
 dup_of (thread ∷ source ∷ handle ∷ target ∷ access ∷ words) = do
   thread ← labelled 116 thread
   source ← labelled 112 source
@@ -209,6 +181,7 @@ dup_of (thread ∷ source ∷ handle ∷ target ∷ access ∷ words) = do
   access ← access_of access
   closing ← closing_of (behind (codes "inherit") words)
   Some (Duplicate thread source handle target access.0 (begins_with (codes "inherit") words) (access.1 + closing))
+dup_of words = None
 
 -- `any` or `all`
 abbrev pub mode_of : List ℕ → Option Mode
@@ -223,20 +196,17 @@ timeout_of word = if bytes_eq word (codes "inf") then Some Infinite else (do
 
 -- `wait T any|all N|inf`, and then handles
 abbrev pub wait_of : List (List ℕ) → Option Call
-wait_of [] = None
-wait_of (thread ∷ []) = None
-wait_of (thread ∷ mode ∷ []) = None
 wait_of (thread ∷ mode ∷ timeout ∷ words) = do
   thread ← labelled 116 thread
   mode ← mode_of mode
   timeout ← timeout_of timeout
   if are_handles words then Some (WaitFor thread mode timeout (handles_in words)) else None
+wait_of words = None
 
 -- `VERB S`: the object
 abbrev pub object_of : List (List ℕ) → Option Id
-object_of [] = None
 object_of (object ∷ []) = id_of object
-object_of (object ∷ more ∷ words) = None
+object_of words = None
 
 -- what the reader is asked for with the object
 abbrev pub on_object : (Id → Act) → Option Id → Act

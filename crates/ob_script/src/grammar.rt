@@ -37,16 +37,15 @@ pub fn is_too_long(text: &[u8]) -> bool
     text.len() > TEXT_MOST
 }
 
-/// What a line is. The handles of a wait are read into `handles`, in place of those that stood there. `READER` changes
-/// nothing of that: each crate that reads lines gives a number of its own (the console 0, lanes 1), and so has a
-/// compiled copy of its own.
+/// What a line is. The handles of a wait are read into `handles`, in place of those that stood there.
 //
 // What a line of each verb is stands in this one function when it runs: a function of its own would have a copy of the
 // words that are left, and each of these would be cleared for every line. Each verb makes its act in one step, with no
-// option between: that would be taken apart and put together for every line. Each reader of lines has a copy of its
-// own: where it is called in one place alone, it stands there, and no act is made where its parts are enough.
+// option between: that would be taken apart and put together for every line. It stands where it is called, so that no
+// act is made where its parts are enough: who reads lines calls it in one place.
+#[inline(always)]
 #[tactic(auto, using(crate::proofs::Verbs::lone_is_bad))]
-pub fn act_of<'a, const READER: u8>(line: &ScriptLine<'a>, handles: &mut Handles) -> Act<'a>
+pub fn act_of<'a>(line: &ScriptLine<'a>, handles: &mut Handles) -> Act<'a>
     ensures { act_in handles.new.items result ≡ shortened (act_of line.now) }
 {
     let text = text_of(line.bytes());

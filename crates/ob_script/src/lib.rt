@@ -7,13 +7,12 @@
 //! # use ob_script::{Act, Handles, LineCall, ScriptLine, act_of};
 //! # use pin_core::Id;
 //! let mut handles = Handles::new();
-//! // 0 is the number of who reads: it changes nothing.
 //! let (line, rest) = ScriptLine::first_of(b"close t1 h4\npin s0.1\n").unwrap();
-//! act_of::<0>(&line, &mut handles);                        // Act::Ask(LineCall::CloseHandle { thread: 1, handle: 4 })
-//! act_of::<0>(&ScriptLine::of(b"pin s0.1"), &mut handles); // Act::Pin(Id { slot: 0, generation: 1 })
-//! act_of::<0>(&ScriptLine::of(b"wait t1 all 5 h8 h4"), &mut handles);
-//! handles.len();                                           // 2
-//! act_of::<0>(&ScriptLine::of(b"close t1"), &mut handles); // Act::Bad
+//! act_of(&line, &mut handles);                        // Act::Ask(LineCall::CloseHandle { thread: 1, handle: 4 })
+//! act_of(&ScriptLine::of(b"pin s0.1"), &mut handles); // Act::Pin(Id { slot: 0, generation: 1 })
+//! act_of(&ScriptLine::of(b"wait t1 all 5 h8 h4"), &mut handles);
+//! handles.len();                                      // 2
+//! act_of(&ScriptLine::of(b"close t1"), &mut handles); // Act::Bad
 //! # assert!(rt; rest == b"pin s0.1\n".as_slice() && handles.as_slice() == [8, 4].as_slice());
 //! ```
 //!

@@ -1,7 +1,8 @@
 ghost use Rattle.std.specs.Prelude.{◌≡◌, ◌≤◌, IfSome, List, ℕ};
 ghost use Rattle.ob_console.specs.Lines.{IsOfLane, behind_prefix, in_lane, is_marked, lane_of, line_in};
 ghost use Rattle.ob_console.specs.Lines.{line_of, with_prefix, without_prefix};
-ghost use Rattle.ob_script.specs.Acts.{act_in};
+ghost use Rattle.ob_script.specs.Acts.{act_in, shortened};
+ghost use Rattle.ob_script.specs.Grammar.{act_of};
 
 use ob_script::{
     Act, Handles, LineCall, ScriptLine, act_of, cut_far, is_too_long, labelled, text_of,
@@ -48,7 +49,14 @@ pub fn line_of<'a>(lanes: u32, is_prologue: bool, line: &'a [u8], handles: &mut 
     if is_marked(line) {
         return with_prefix(lanes, line, handles);
     }
-    without_prefix(is_prologue, act_of::<1>(&ScriptLine::of(line), handles))
+    without_prefix(is_prologue, read(line, handles))
+}
+
+/// What a line is behind its prefix, or where it has none.
+fn read<'a>(line: &'a [u8], handles: &mut Handles) -> Act<'a>
+    ensures { act_in handles.new.items result ≡ shortened (act_of line.now) }
+{
+    act_of(&ScriptLine::of(line), handles)
 }
 
 /// Whether a line begins with an @.
@@ -123,7 +131,7 @@ fn behind_prefix<'a>(number: u32, line: &'a [u8], handles: &mut Handles) -> Line
     if text_of(line) == b"block".as_slice() {
         return Line::Acts(number, Request::Block);
     }
-    match act_of::<1>(&ScriptLine::of(line), handles) {
+    match read(line, handles) {
         Act::Nothing => Line::Bad,
         act => in_lane(number, act),
     }
