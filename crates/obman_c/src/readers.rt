@@ -1,7 +1,9 @@
 //! Readers: pins without the manager's lock, on any thread.
-ghost use Rattle.std.specs.Prelude.{◌≡◌, ◌<◌, [], ◌↔◌, IfNone, IfSome, IsTrue};
+ghost use Rattle.std.specs.Prelude.{◌≡◌, ◌×◌, ◌<◌, [], ◌↔◌, IfNone, IfSome, IsTrue};
 ghost use Rattle.pin_core.specs.Holds.{same_id, tally};
 ghost use Rattle.pin_words.specs.Seats.{ReaderState};
+ghost use Rattle.pin_core.specs.declared.descr.Descr.{Descr};
+ghost use Rattle.pin_words.specs.Stepped.{DescrStep, IsHold, ReleaseStep};
 ghost use Rattle.ob_store.specs.State.{Whole};
 ghost use Rattle.ob_manager.specs.Steps.{Step};
 ghost use Rattle.ob_manager.specs.Calls.{Call};
@@ -89,6 +91,7 @@ fn one_of(held: &[Id]) -> Option<Id>
 #[unsafe(no_mangle)]
 pub extern "C" fn om_reader_pin(owner: &mut ReaderOwner, slot: u32, generation: u32) -> u32
     ensures told { PinTold (id_at slot generation) owner.old.value.reader result owner.new.value.reader }
+    ensures hold { result ≡ 0 → IsHold owner.new.value.reader.view (id_at slot generation) }
     ensures table { owner.new.value.reader.table ≡ owner.old.value.reader.table }
 {
     match owner.lend().reader.try_pin(id_at(slot, generation)) {
@@ -102,6 +105,7 @@ pub extern "C" fn om_reader_pin(owner: &mut ReaderOwner, slot: u32, generation: 
 #[unsafe(no_mangle)]
 pub extern "C" fn om_reader_unpin(owner: &mut ReaderOwner, slot: u32, generation: u32) -> u32
     ensures told { UnpinTold (id_at slot generation) owner.old.value.reader result owner.new.value.reader }
+    ensures step { result ≡ 0 → ReleaseStep owner.old.value.reader.view (id_at slot generation) }
     ensures table { owner.new.value.reader.table ≡ owner.old.value.reader.table }
 {
     if !owner.lend().reader.release_if_held(id_at(slot, generation)) {
@@ -141,6 +145,8 @@ pub extern "C" fn om_reader_describe(
 ) -> u32
     ensures told { DescribeTold (id_at slot generation) owner.old.value.reader result owner.new.value.reader
         descriptor.old descriptor.new }
+    ensures step { result ≡ 0 → (d : Descr) × (descriptor.new ≡ descriptor_of d)
+        × DescrStep owner.old.value.reader.view (id_at slot generation) d }
     ensures table { owner.new.value.reader.table ≡ owner.old.value.reader.table }
 {
     let id = id_at(slot, generation);

@@ -5,3 +5,4 @@ pub mod PinLaws
 pub mod Histories
 pub mod Running
 pub mod Saving
+pub mod Recorded

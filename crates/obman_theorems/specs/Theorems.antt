@@ -33,13 +33,15 @@ use Rattle.ob_manager.specs.Steps.{Step, is_lack, next, outcome_of, reclaim_in, 
 use Rattle.ob_script.specs.Acts.{Act, Asks}
 use Rattle.ob_script.specs.Grammar.{act_of}
 use Rattle.ob_script.specs.Printed.{printed}
+use Rattle.ob_script.specs.Recording.{Notes, Recording}
+use Rattle.ob_script.specs.Telling.{text_for}
 use Rattle.ob_console.specs.Pinning.{phase_at}
 use Rattle.ob_console.specs.Runs.{AnswersTo, IsOpening, Point, last_line}
 use Rattle.ob_shared.specs.Closing.{IsPart, has_number}
 use Rattle.ob_shared.specs.Journal.{IsHistory, Replays, replay}
 use Rattle.ob_shared.specs.Lanes.{LaneState}
 use Rattle.ob_shared.specs.declared.book.Entry.{Entry}
-use Rattle.ob_console.specs.Retelling.{RetellsTo}
+use Rattle.ob_console.specs.Retelling.{RetellsTo, script_of}
 use Rattle.obman_theorems.specs.Refusals.{IsAmong, refusals_of}
 
 -- 1. TOTAL
@@ -200,3 +202,13 @@ pub record IsSaved (w : Whole) (bytes : List ℕ) : Type 0 where
 -- has every call since a state, that the run begins in that state, and that the numbers of its calls fit their types.
 pub record IsReplayed (journal : List Entry) (w : Whole) (output : List ℕ) (last : Point) : Type 0 where
   pub retells : RetellsTo journal output (last.whole.state ≡ w.state)
+
+-- what a recorder notes on its way from one text to another: these entries, in their order
+abbrev pub AreNoted : Recording → List Entry → Recording → Type 0
+AreNoted r [] t = t ≡ r
+AreNoted r (entry ∷ entries) t = (s : Recording) × Notes r (text_for entry.call entry.reply) s × AreNoted s entries t
+
+-- A record of C's calls is the script of these entries, as long as it is on: so a run of it prints what `IsReplayed`
+-- says. Where memory was wanting it is off, and ends in a line that says so. C takes it line by line, from its front.
+abbrev pub IsRecord : List Entry → Recording → Type 0
+IsRecord journal r = r.is_on ≡ true → r.text ≡ script_of journal

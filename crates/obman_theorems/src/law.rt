@@ -1,4 +1,4 @@
-ghost use Rattle.std.specs.Prelude.{◌≡◌, ◌++◌, false, ℕ, List, [], All, IfNone, IfOk, IfSome, OnOk};
+ghost use Rattle.std.specs.Prelude.{◌≡◌, ◌++◌, false, true, ℕ, List, [], All, IfNone, IfOk, IfSome, OnOk};
 ghost use Rattle.pin_core.specs.Worlds.{WorldState};
 ghost use Rattle.pin_core.specs.Safety.{AreEvents, IsSafe, reached};
 ghost use Rattle.pin_core.specs.declared.event.Event.{Event};
@@ -16,6 +16,7 @@ ghost use Rattle.ob_manager.specs.Savestates.{saved};
 ghost use Rattle.ob_manager.specs.Steps.{Step, is_lack, reclaim_in};
 ghost use Rattle.ob_manager.specs.declared.reply.Reply.{Reply};
 ghost use Rattle.ob_manager.specs.declared.reply.Reply.TheVariants.{Refused};
+ghost use Rattle.ob_script.specs.Recording.{Recording, recording};
 ghost use Rattle.ob_console.specs.Runs.{AnswersAll, AnswersTo, IsEnded, Point};
 ghost use Rattle.ob_shared.specs.Closing.{AreWhole, IsCause};
 ghost use Rattle.ob_shared.specs.Journal.{IsHistory, IsHistoryFrom, IsOrigin};
@@ -23,6 +24,7 @@ ghost use Rattle.ob_shared.specs.Lanes.{LaneState, Lists};
 ghost use Rattle.ob_shared.specs.declared.book.Entry.{Entry};
 ghost use Rattle.ob_console.specs.Retelling.{FitsEntry, script_of};
 ghost use Rattle.obman_theorems.specs.Theorems.{AreAlike, AreOneHistory, IsHeld, IsHeldInWords, IsLeftOpen, IsMade, IsPinned, IsRecounted, IsRefused, IsReplayed, IsRun, IsSaved};
+ghost use Rattle.obman_theorems.specs.Theorems.{AreNoted, IsRecord};
 
 use ob_console::{RunFault, Sink, Source, run};
 use ob_manager::{Call, Limits, Manager, Reply, Stored};
@@ -180,4 +182,10 @@ pub fn law_of_replay()
     ensures { (from : State) (journal : List Entry) (w : Whole) (output : List ℕ) (first last : Point)
         → IsHistoryFrom from journal w → All FitsEntry journal → first.whole.state ≡ from
         → AnswersTo first (script_of journal) output last → IsReplayed journal w output last }
+{}
+
+/// Of a record that is begun and told of each call with its reply, as C's functions tell it (`Makes` of `obman_c`).
+#[tactic(auto, using(crate::proofs::Recorded::record_is))]
+pub fn law_of_records()
+    ensures { (journal : List Entry) (r : Recording) → AreNoted (recording [] true) journal r → IsRecord journal r }
 {}
