@@ -28,6 +28,7 @@ use Rattle.ob_manager.specs.declared.reply.Reply.{Reply}
 use Rattle.ob_manager.specs.declared.reply.Reply.TheVariants as reply
 use Rattle.ob_manager.specs.Outcomes.{Outcome, ◌>>=◌, or_refuse, refuse_if}
 use Rattle.ob_manager.specs.Checks.{caller, found, if_kind, same_kind}
+use Rattle.ob_manager.specs.Signaling.{modified}
 use Rattle.ob_manager.specs.Creating.{create, created, name_in, named_object, new_event, new_handle, new_mutex, new_object, new_semaphore, new_timer, own_name, room_for, semaphore_of}
 use Rattle.ob_manager.specs.Copying.{admitted, asked_rights, copied_to, copy_rights, is_stuck, is_wrong, keeps_rights, leaves, with_source, without_source}
 use Rattle.ob_manager.specs.Reaping.{if_ended}
@@ -78,6 +79,9 @@ kind_wants k (Some b) = by (same_kind (kind_of b) k)
     by : (c : Bool) → wants (cond c (Ok b) (Err fault.Handle)) ≡ false
     by true = refl
     by false = refl
+
+modified_wants : (s : State) (t h : ℕ) (k : Kind) → wants (modified s t h k) ≡ false
+modified_wants s t h k = search (then_wants, caller_wants, found_wants, kind_wants, refuse_wants)
 
 post_wants : (n : ℕ) (b : Body) → wants (post_answer n b) ≡ false
 post_wants n (Semaphore s) = by (semaphore.is_past n s)
@@ -242,6 +246,7 @@ outcome_answers s (calls.ReleaseSemaphore t h count) reply =
 outcome_answers s call reply =
     search (
       andThen,
+      modified_wants,
       caller_wants,
       found_wants,
       kind_wants,

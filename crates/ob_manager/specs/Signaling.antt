@@ -1,5 +1,5 @@
 -- Setting and resetting events, and releasing semaphores and mutexes.
-use Rattle.std.specs.Prelude.{◌×◌, ℕ, Result, Ok, ℤ}
+use Rattle.std.specs.Prelude.{ℕ, Result, Ok, ℤ}
 use Rattle.pin_core.specs.declared.id.Id.{Id}
 use Rattle.ob_rights.specs.declared.fault.Fault.{Fault}
 use Rattle.ob_rights.specs.declared.fault.Fault.TheVariants as fault

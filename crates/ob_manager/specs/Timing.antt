@@ -16,7 +16,8 @@ moment_of now (pos n) = n
 moment_of now (negsuc n) = now + suc n
 
 abbrev pub set_timer : State → ℕ → ℕ → ℤ → Result Outcome Fault
-set_timer s thread handle due = modify s thread handle kind.Timer (after_arm (moment_of s.clock due) s.clock)
+set_timer s thread handle due =
+    modify s thread handle kind.Timer (λ timer. after_arm (moment_of s.clock due) s.clock timer)
 
 abbrev pub cancel_timer : State → ℕ → ℕ → Result Outcome Fault
 cancel_timer s thread handle = modify s thread handle kind.Timer after_disarm

@@ -1,5 +1,5 @@
 //! Readers: pins without the manager's lock, on any thread.
-ghost use Rattle.std.specs.Prelude.{◌≡◌, ◌×◌, ◌<◌, [], ◌↔◌, IfNone, IfSome, IsTrue};
+ghost use Rattle.std.specs.Prelude.{◌≡◌, ◌<◌, [], ◌↔◌, IfNone, IfSome, IsTrue};
 ghost use Rattle.pin_core.specs.Holds.{same_id, tally};
 ghost use Rattle.pin_words.specs.Seats.{ReaderState};
 ghost use Rattle.pin_core.specs.declared.descr.Descr.{Descr};

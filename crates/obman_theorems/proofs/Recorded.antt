@@ -1,5 +1,5 @@
 -- What a recorder has noted is the script of what it was told.
-use Rattle.std.proofs.Common.{Bool, ◌≡◌, ◌×◌, ◌⊎◌, inl, inr, List, [], ◌∷◌, ◌++◌, ℕ, true, false, ap, absurd, refl, sym, subst, ◌∙◌, append-nil, append-assoc}
+use Rattle.std.proofs.Common.{Bool, ◌≡◌, ◌⊎◌, inl, inr, List, [], ◌∷◌, ◌++◌, ℕ, true, false, ap, absurd, refl, sym, subst, ◌∙◌, append-nil, append-assoc}
 use Rattle.ob_script.specs.Recording.{Adds, AddsWhere, Recording, recording, last_line}
 use Rattle.ob_script.specs.Telling.{text_for}
 use Rattle.ob_shared.specs.declared.book.Entry.{Entry}
