@@ -1,9 +1,9 @@
 -- What the tree of least moments says of all places, and how it changes.
-use Rattle.std.proofs.Common.{◌≡◌, ◌≢◌, ◌∙◌, sym, ap, refl, subst, ℕ, zero, suc, ◌+◌, ◌*◌, ◌-◌, ◌/◌, ◌<◌, ◌≤◌, List, [], ◌∷◌, ◌++◌, length, arith, set, Option, Some, None, inl, inr}
+use Rattle.std.proofs.Common.{◌≡◌, ◌≢◌, ◌∙◌, sym, ap, refl, subst, ℕ, zero, suc, ◌+◌, ◌*◌, ◌-◌, ◌/◌, ◌<◌, ◌≤◌, List, [], ◌∷◌, ◌++◌, length, arith, set, Option, Some, None, inl, inr, false}
 use Rattle.std.specs.Prelude.{◌⊎◌, IfSome, IsSome}
 use Rattle.std.proofs.lemmas.Bool.{cases_eq, cases_lt}
 use Rattle.std.proofs.lemmas.List.{get_or_past, get_or-set_same, get_or-set_other, get_or_append_left, get_or-append-add}
-use Rattle.least.specs.Dues.{due_at, since, NotAfter, IsLeast}
+use Rattle.least.specs.Dues.{due_at, is_by, since, NotAfter, IsLeast}
 use Rattle.least.specs.Best.{sooner, best_below, IsBest, IsBestBut}
 
 -- the moment, if there is one, is that of some place
@@ -58,6 +58,17 @@ least_at_root dues best all = record {
     by : (x : Option ℕ) → due_at best 0 ≡ x → IfSome x (λ moment. (place : ℕ) × (due_at dues place ≡ Some moment))
     by None e = tt
     by (Some m) e = from_place dues best m (length best) 0 (omega arith) all e
+
+-- where the least comes later, each does
+pub none_by : (now : ℕ) (dues best : List (Option ℕ)) → IsBest dues best → is_by now (due_at best 0) ≡ false → (k : ℕ)
+    → is_by now (due_at dues k) ≡ false
+none_by now dues best all late k = by (due_at dues k) (due_at best 0) late ((least_at_root dues best all).first k)
+  where
+    by : (x least : Option ℕ) → is_by now least ≡ false → ((m : ℕ) → x ≡ Some m → NotAfter least m)
+        → is_by now x ≡ false
+    by None least late first = refl
+    by (Some m) None late first = absurd (first m refl)
+    by (Some m) (Some l) late first = let le : l ≤ m = first m refl in grind arith
 
 -- one place is written, as it has to be
 pub written : (dues best : List (Option ℕ)) (place : ℕ) (due : Option ℕ) → place < length best

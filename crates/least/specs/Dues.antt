@@ -1,5 +1,5 @@
 -- Due moments by place, and the least of them. A place past the end has none.
-use Rattle.std.specs.Prelude.{◌≡◌, ℕ, ◌≤◌, nat_le, if◌then◌else◌, List, Option, Some, None, IfSome, slice_index_or}
+use Rattle.std.specs.Prelude.{◌≡◌, ℕ, ◌≤◌, nat_le, Bool, false, if◌then◌else◌, List, Option, Some, None, IfSome, slice_index_or}
 
 -- the moment at a place, or none
 abbrev pub due_at : List (Option ℕ) → ℕ → Option ℕ
@@ -9,6 +9,11 @@ due_at dues place = slice_index_or dues place None
 abbrev pub NotAfter : Option ℕ → ℕ → Type 0
 NotAfter None moment = ⊥
 NotAfter (Some least) moment = least ≤ moment
+
+-- the same as a test
+abbrev pub is_by : ℕ → Option ℕ → Bool
+is_by now None = false
+is_by now (Some due) = nat_le due now
 
 -- a moment that stands at some place and is after none; or none, where no place has one
 pub record IsLeast (dues : List (Option ℕ)) (least : Option ℕ) : Type 0 where

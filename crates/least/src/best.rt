@@ -1,11 +1,13 @@
 // The tree of least moments.
 ghost use Rattle.std.specs.Prelude.{◌≡◌, ◌≢◌, ℕ, ◌-◌, ◌/◌, ◌<◌, ◌≤◌, true, false, length, List, Option, IsSome, OnOk};
 ghost use Rattle.std.specs.Prelude.{◌+◌, ◌*◌};
-ghost use Rattle.least.specs.Best.{sooner, best_below, IsBest, IsBestBut};
+ghost use Rattle.least.specs.Best.{sooner, best_below, IsBest, IsBestBut, IsWhole};
 ghost use Rattle.least.specs.Dues.{due_at, since, IsLeastSince};
 
-use crate::PLACES_MAX;
 use std::alloc::AllocError;
+
+/// The greatest length of a list: each place has a number of 32 bits.
+const PLACES_MAX: usize = 4_294_967_296;
 
 /// The moment at a place, or none past the end.
 pub(crate) fn moment_at(moments: &Vec<Option<u64>>, place: usize) -> Option<u64>
@@ -133,17 +135,36 @@ pub(crate) fn place_of_least(dues: &Vec<Option<u64>>, best: &Vec<Option<u64>>) -
 
 /// Makes the tree longer than the list.
 #[tactic(auto, using(crate::proofs::BestLemmas::no_more))]
-pub(crate) fn cover(dues: &Vec<Option<u64>>, best: &mut Vec<Option<u64>>) -> Result<(), AllocError>
+fn cover(dues: &Vec<Option<u64>>, best: &mut Vec<Option<u64>>) -> Result<(), AllocError>
     requires places { length dues.now.items < PLACES_MAX }
-    requires room { length dues.now.items ≤ length best.old.items }
-    requires at_most { length best.old.items ≤ PLACES_MAX }
+    requires whole { IsWhole dues.now.items best.old.items }
+    ensures whole { IsWhole dues.now.items best.new.items }
     ensures longer { OnOk result (length dues.now.items < length best.new.items) }
-    ensures room { length dues.now.items ≤ length best.new.items }
-    ensures at_most { length best.new.items ≤ PLACES_MAX }
-    ensures same { (place : ℕ) → due_at best.new.items place ≡ due_at best.old.items place }
 {
     if best.len() <= dues.len() {
         best.push(None)?;
+    }
+    Ok(())
+}
+
+/// Makes both longer, until there is a place of this number.
+#[inline(never)]
+#[tactic(auto, using(crate::proofs::BestLemmas::no_more))]
+pub(crate) fn grow(
+    dues: &mut Vec<Option<u64>>,
+    best: &mut Vec<Option<u64>>,
+    place: usize,
+) -> Result<(), AllocError>
+    requires fits { place < PLACES_MAX }
+    requires whole { IsWhole dues.old.items best.old.items }
+    ensures whole { IsWhole dues.new.items best.new.items }
+    ensures room { OnOk result (place < length dues.new.items) }
+    ensures same { (k : ℕ) → due_at dues.new.items k ≡ due_at dues.old.items k }
+    ensures longer { length dues.old.items ≤ length dues.new.items }
+{
+    while dues.len() <= place {
+        cover(dues, best)?;
+        dues.push(None)?;
     }
     Ok(())
 }

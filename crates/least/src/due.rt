@@ -1,13 +1,10 @@
-ghost use Rattle.std.specs.Prelude.{◌≡◌, ◌<◌, ◌≤◌, length, List, [], ◌∷◌, ◌++◌, None, replicate, slice_set};
-ghost use Rattle.std.specs.Prelude.{IfOk, IfSome, IfNone, IsSome, OnOk, OnErr};
-ghost use Rattle.least.specs.Dues.{due_at, IsLeast, IsLeastSince};
+ghost use Rattle.std.specs.Prelude.{◌≡◌, ℕ, ◌<◌, ◌≤◌, length, [], None, false, true, replicate, slice_set};
+ghost use Rattle.std.specs.Prelude.{IfOk, IfSome, IfNone, OnOk};
+ghost use Rattle.least.specs.Dues.{due_at, is_by, IsLeast, IsLeastSince};
 
-use crate::best::{cover, least_since, moment_at, place_of_least, raise};
+use crate::best::{grow, least_since, moment_at, place_of_least, raise};
 use std::alloc::{AllocError, Global};
 use std::marker::Model;
-
-/// The greatest length of a list.
-pub const PLACES_MAX: usize = 4_294_967_296;
 
 /// Due moments by place: from the outside the list that has for each place its moment or none.
 // The places are a tree too, in which places 2 * n + 1 and 2 * n + 2 stand below place n. For each the least moment at
@@ -41,28 +38,34 @@ impl Dues {
     }
 
     /// A list of so many places, of which none has a moment. Setting their moments takes no memory.
-    pub fn with_places(alloc: Global, n: usize) -> Result<Dues, AllocError>
-        requires { n ≤ PLACES_MAX }
+    pub fn with_places(alloc: Global, n: u32) -> Result<Dues, AllocError>
         ensures { IfOk result (λ dues. dues ≡ replicate n None) }
     {
         Ok(Dues {
-            dues: vec![in alloc; None; n]?,
-            best: vec![in alloc; None; n]?,
+            dues: vec![in alloc; None; n as usize]?,
+            best: vec![in alloc; None; n as usize]?,
         })
     }
 
-    /// How many places there are.
-    pub fn len(&self) -> usize
-        ensures { result ≡ length self.now }
+    /// Makes a list longer that has no such place. This is the one call that takes memory of a list that stands, and
+    /// the moments stay.
+    #[inline]
+    pub fn make_room(&mut self, place: u32) -> Result<(), AllocError>
+        ensures room { OnOk result (place < length self.new) }
+        ensures same { (k : ℕ) → due_at self.new k ≡ due_at self.old k }
+        ensures longer { length self.old ≤ length self.new }
     {
-        self.dues.len()
+        if (place as usize) < self.dues.len() {
+            return Ok(());
+        }
+        grow(&mut self.dues, &mut self.best, place as usize)
     }
 
     /// The moment at a place, or none past the end.
-    pub fn get(&self, place: usize) -> Option<u64>
+    pub fn get(&self, place: u32) -> Option<u64>
         ensures { result ≡ due_at self.now place }
     {
-        moment_at(&self.dues, place)
+        moment_at(&self.dues, place as usize)
     }
 
     /// The least moment, or none where no place has one.
@@ -85,37 +88,55 @@ impl Dues {
         least_since(self.dues.as_slice(), from)
     }
 
-    /// A place whose moment is the least, or none where no place has one.
-    pub fn least_place(&self) -> Option<usize>
-        ensures place { IfSome result (λ place. place < length self.now) }
-        ensures found { IfSome result (λ place. IsSome (due_at self.now place)) }
+    /// A place whose moment is the least, where that isn't after `now`. Where none is, that is known at once.
+    pub fn due_by(&self, now: u64) -> Option<u32>
+        ensures found { IfSome result (λ place. is_by now (due_at self.now place) ≡ true) }
         ensures least { IfSome result (λ place. IsLeast self.now (due_at self.now place)) }
-        ensures none { IfNone result (IsLeast self.now None) }
+        ensures none { IfNone result ((place : ℕ) → is_by now (due_at self.now place) ≡ false) }
     {
-        match moment_at(&self.best, 0) {
-            Some(_) => Some(place_of_least(&self.dues, &self.best)),
-            None => None,
+        let due = moment_at(&self.best, 0)?;
+        if due > now {
+            return None;
         }
+        Some(place_of_least(&self.dues, &self.best) as u32)
     }
 
-    /// Writes the moment at a place, or takes it away.
-    pub fn set(&mut self, place: usize, due: Option<u64>)
+    fn write(&mut self, place: u32, due: Option<u64>)
         requires { place < length self.old }
         ensures { self.new ≡ slice_set self.old place due }
     {
-        self.dues[place] = due;
-        raise(&self.dues, &mut self.best, place);
+        self.dues[place as usize] = due;
+        raise(&self.dues, &mut self.best, place as usize);
     }
 
-    /// Adds a place that has no moment. This is the one call that takes memory, and a list that lacks it stays as it
-    /// was.
-    pub fn push(&mut self) -> Result<(), AllocError>
-        requires { length self.old < PLACES_MAX }
-        ensures ok { OnOk result (self.new ≡ self.old ++ None ∷ []) }
-        ensures err { OnErr result (self.new ≡ self.old) }
+    /// Writes the moment at a place, or takes it away, where what stands there is known. Where that stays, no more is
+    /// done.
+    #[inline(always)]
+    pub fn moved(&mut self, place: u32, before: Option<u64>, after: Option<u64>)
+        requires within { place < length self.old }
+        requires before { due_at self.old place ≡ before }
+        ensures { self.new ≡ slice_set self.old place after }
     {
-        cover(&self.dues, &mut self.best)?;
-        self.dues.push(None)?;
-        Ok(())
+        if before != after {
+            self.write(place, after);
+        }
+    }
+
+    /// Writes the moment at a place, or takes it away. Where it stays, no more is done.
+    #[inline]
+    pub fn set(&mut self, place: u32, due: Option<u64>)
+        requires { place < length self.old }
+        ensures { self.new ≡ slice_set self.old place due }
+    {
+        self.moved(place, self.get(place), due);
+    }
+
+    /// Takes the moment at a place away, if there is such a place.
+    pub fn clear(&mut self, place: u32)
+        ensures { self.new ≡ slice_set self.old place None }
+    {
+        if (place as usize) < self.dues.len() {
+            self.write(place, None);
+        }
     }
 }

@@ -143,19 +143,19 @@ impl Levels {
     }
 
     /// The least free number from `from` on, of those below the length, found in a few word operations.
-    pub fn next_free(&self, from: usize) -> Option<usize>
+    pub fn next_free(&self, from: u32) -> Option<u32>
         ensures { IsLeastFrom from (is_free_within self.now) result }
     {
-        if let Some(n) = rest_of_word(&self.leaves, from) {
-            return Some(n);
+        if let Some(n) = rest_of_word(&self.leaves, from as usize) {
+            return Some(n as u32);
         }
-        let w = next_word(self.top, &self.middle, from / 64 + 1)?;
-        Some(lowest_in(&self.leaves, w))
+        let w = next_word(self.top, &self.middle, from as usize / 64 + 1)?;
+        Some(lowest_in(&self.leaves, w) as u32)
     }
 
     /// The least number that is taken, from `from` on. It looks at 64 numbers at a time, one after another.
     #[tactic(auto, using(crate::proofs::NextLemmas::taken_test))]
-    pub fn next_taken(&self, from: usize) -> Option<usize>
+    pub fn next_taken(&self, from: u32) -> Option<u32>
         ensures least { IsLeastFrom from (is_taken self.now) result }
         ensures within { IfSome result (λ n. n < NUMBERS_MAX) }
     {

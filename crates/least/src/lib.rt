@@ -15,17 +15,16 @@
 //! ```
 //!
 //! [`Dues`] has for each place of a list a moment at which something is due there, or none. The least moment is read in
-//! constant time, and a moment is written in a time that grows with the logarithm of the list's length. Only a new
-//! place takes memory.
+//! constant time, and a moment is written in a time that grows with the logarithm of the list's length. Only room for
+//! a place takes memory.
 //!
 //! ```rust
 //! # use least::Dues;
 //! let mut dues = Dues::new(alloc);
-//! dues.push()?;                 // place 0
-//! dues.push()?;                 // place 1
+//! dues.make_room(1)?;           // places 0 and 1
 //! dues.set(1, Some(50));
 //! dues.least();                 // Some(50)
-//! dues.least_place();           // Some(1)
+//! dues.due_by(50);              // Some(1)
 //! ```
 #![tactic(auto)]
 
@@ -36,6 +35,6 @@ mod levels;
 mod words;
 
 pub use best::sooner;
-pub use due::{Dues, PLACES_MAX};
+pub use due::Dues;
 pub use free::{LeastFree, NUMBERS_MAX};
 pub use levels::Levels;

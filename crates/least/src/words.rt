@@ -100,16 +100,16 @@ fn rest_clear(words: &Vec<u64>, from: usize) -> Option<usize>
 }
 
 /// The least number below `len` whose bit is clear, from one on. It looks at one word after another.
-pub(crate) fn next_clear(words: &Vec<u64>, from: usize, len: usize) -> Option<usize>
+pub(crate) fn next_clear(words: &Vec<u64>, from: u32, len: usize) -> Option<u32>
     requires room { len ≤ 64 * length words.now.items }
     requires at_most { length words.now.items ≤ 1024 }
     ensures least { IsLeastFrom from (λ k. nat_lt k len && bit words.now.items k == 0) result }
     ensures within { IfSome result (λ n. n < len) }
 {
-    let mut n = from;
+    let mut n = from as usize;
     while n < len {
         if let Some(at) = rest_clear(words, n) {
-            return if at < len { Some(at) } else { None };
+            return if at < len { Some(at as u32) } else { None };
         }
         n = 64 * (n / 64 + 1);
     }

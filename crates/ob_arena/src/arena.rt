@@ -28,13 +28,13 @@ pub struct Arena<B> {
 }
 
 /// The least slot that is occupied, from one on.
-fn next_body(free: &Levels, phases: &Vec<Phase>, from: usize) -> Option<usize>
+fn next_body(free: &Levels, phases: &Vec<Phase>, from: u32) -> Option<u32>
     requires { free.now ≡ map is_in_use phases.now.items }
     ensures { IsLeastFrom from (λ k. is_occupied (slice_index_or phases.now.items k Phase.Vacant)) result }
 {
     let mut at = from;
     while let Some(slot) = free.next_taken(at) {
-        if phases[slot].is_occupied() {
+        if phases[slot as usize].is_occupied() {
             return Some(slot);
         }
         at = slot + 1;
@@ -116,10 +116,7 @@ impl<B> Arena<B> {
     pub fn next_occupied(&self, from: u32) -> Option<u32>
         ensures { IsLeastFrom from (λ slot. is_some (body_at self.now slot)) result }
     {
-        match next_body(&self.free, &self.phases, from as usize) {
-            Some(at) => Some(at as u32),
-            None => None,
-        }
+        next_body(&self.free, &self.phases, from)
     }
 
     /// The body of a slot that has one.

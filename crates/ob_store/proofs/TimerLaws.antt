@@ -2,7 +2,7 @@
 use Rattle.std.proofs.Common.{◌≡◌, ℕ, [], ◌∷◌, ◌<◌, List, length, Option, Some, None, refl, ap, ◌∙◌, sym, arith, get_or, set, map, Bool, true, false, cond}
 use Rattle.std.specs.Prelude.{IfNone, IfSome}
 use Rattle.std.proofs.lemmas.List.{length-map}
-use Rattle.least.specs.Dues.{IsLeast}
+use Rattle.least.specs.Dues.{is_by, IsLeast}
 use Rattle.ob_body.specs.declared.body.Body.{Body}
 use Rattle.ob_body.specs.declared.body.Body.TheVariants.{Event}
 use Rattle.ob_body.specs.Timer.{is_due}
@@ -63,14 +63,19 @@ due_of_slot : (xs : List (Option Seat)) (dues : List (Option ℕ)) (k : ℕ) →
     → get_or dues k None ≡ slot_due (get_or (map seat_body xs) k None)
 due_of_slot xs dues k timed = search (arith, due_read)
 
+by_due : (now : ℕ) (due : Option ℕ) → is_due now due ≡ is_by now due
+by_due now None = refl
+by_due now (Some due) = refl
+
 pub some_due : (now : ℕ) (xs : List (Option Seat)) (dues : List (Option ℕ)) (r : Option ℕ) → dues ≡ map seat_due xs
-    → IfSome r (λ slot. is_due now (get_or dues slot None) ≡ true)
+    → IfSome r (λ slot. is_by now (get_or dues slot None) ≡ true)
     → IfSome r (λ slot. slot_is_due now (get_or (map seat_body xs) slot None) ≡ true)
 some_due now xs dues None timed h = tt
-some_due now xs dues (Some slot) timed h = search (arith, due_read)
+some_due now xs dues (Some slot) timed h = search (arith, due_read, by_due)
 
 pub none_due_slot : (now : ℕ) (xs : List (Option Seat)) (dues : List (Option ℕ)) (r : Option ℕ) → dues ≡ map seat_due xs
-    → IfNone r ((k : ℕ) → is_due now (get_or dues k None) ≡ false)
+    → IfNone r ((k : ℕ) → is_by now (get_or dues k None) ≡ false)
     → IfNone r ((k : ℕ) → slot_is_due now (get_or (map seat_body xs) k None) ≡ false)
-none_due_slot now xs dues None timed h = λ k. ap (is_due now) (sym (due_of_slot xs dues k timed)) ∙ h k
+none_due_slot now xs dues None timed h =
+    λ k. by_due now _ ∙ ap (is_by now) (sym (due_of_slot xs dues k timed)) ∙ h k
 none_due_slot now xs dues (Some slot) timed h = tt

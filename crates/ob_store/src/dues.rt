@@ -5,7 +5,6 @@ ghost use Rattle.ob_store.specs.Dues.{dues_of, reached};
 
 use crate::seats::Seats;
 use crate::store::Store;
-use crate::timers::Timers;
 use least::sooner;
 use ob_waits::LAST_MOMENT;
 use pin_words::PinKeeper;
@@ -17,14 +16,6 @@ fn reached(moment: Option<u64>) -> Option<u64>
     match moment {
         Some(moment) if moment <= LAST_MOMENT => Some(moment),
         _ => None,
-    }
-}
-
-impl Timers {
-    fn least(&self) -> Option<u64>
-        ensures { IsLeast self.now result }
-    {
-        self.dues.least()
     }
 }
 

@@ -25,7 +25,6 @@
 mod answers;
 mod births;
 mod checking_waits;
-mod closing;
 mod counting;
 mod creation;
 mod dues;
@@ -62,7 +61,6 @@ mod store;
 mod stored;
 mod thread_lists;
 mod ticking;
-mod timers;
 mod waiting;
 mod walking;
 mod writing_objects;

@@ -1,5 +1,6 @@
 ghost use Rattle.std.specs.Prelude.{◌≡◌, ◌<◌, ◌≤◌, ◌&&◌, ℕ, false, true, IfNone, IfOk, IfSome, IsSome, IsTrue};
-ghost use Rattle.std.specs.Prelude.{None, Err, Ok, Some, is_some, length, slice_index_or, slice_set};
+ghost use Rattle.std.specs.Prelude.{None, Err, Ok, Some, is_some, if◌then◌else◌, length, slice_get, slice_index_or};
+ghost use Rattle.std.specs.Prelude.{slice_set};
 ghost use Rattle.std.specs.Option.{option_map};
 ghost use Rattle.least.specs.From.{IsLeastFrom};
 ghost use Rattle.ob_waits.specs.Form.{slot_due, slot_owner};
@@ -9,6 +10,7 @@ ghost use Rattle.ob_waits.specs.Waits.{is_abandoned, is_signaled, with_acquired}
 ghost use Rattle.ob_store.specs.Closing.{is_closing_in};
 ghost use Rattle.ob_store.specs.Owners.{owns_at};
 ghost use Rattle.ob_store.specs.Ticks.{slot_is_due};
+ghost use Rattle.ob_store.specs.Timers.{due_left};
 ghost use Rattle.ob_store.specs.Objects.{name_in, object_of, tag_of, tags_in, rest_of, vacant_places, vacancy};
 ghost use Rattle.ob_store.specs.Objects.{with_handle, without_handle, is_last_handle, with_block, is_last_block};
 ghost use Rattle.ob_store.specs.Objects.{without_seat, with_retired, with_seated};
@@ -17,12 +19,11 @@ ghost use Rattle.ob_store.specs.SavedObjects.{are_bodied, is_bodied};
 ghost use Rattle.ob_store.specs.SavedWaits.{object_blocks, with_blocks_at};
 ghost use Rattle.ob_codec.specs.declared.fault.TextFault.TheVariants.{Value};
 
-use crate::closing::ClosingSlots;
 use crate::found::Found;
 use crate::label::Label;
 use crate::owners::Owners;
 use crate::seat::Seat;
-use crate::timers::Timers;
+use least::{Dues, Levels};
 use ob_arena::{Arena, SLOTS_MAX};
 use ob_body::{Body, RECURSION_MAX};
 use ob_name::Name;
@@ -41,8 +42,10 @@ pub(crate) struct Seats {
     // By slot, where the label says that there is a name. What an object had stays until a name comes to its slot.
     names: Vec<Option<Name>>,
     owners: Owners,
-    pub(crate) timers: Timers,
-    closing: ClosingSlots,
+    // By slot, when its timer is due.
+    pub(crate) timers: Dues,
+    // The slots whose objects ended are the free numbers.
+    closing: Levels,
 }
 
 impl Model for Seats {
@@ -76,6 +79,27 @@ fn due_of(body: Option<Body>) -> Option<u64>
     match body {
         Some(body) => body.due(),
         None => None,
+    }
+}
+
+/// Forgets the timer of a slot whose body went, if it was set.
+#[inline]
+fn due_left(timers: &mut Dues, slot: u32, due: Option<u64>)
+    ensures { timers.new ≡ due_left timers.old slot due }
+{
+    if due.is_some() {
+        timers.clear(slot);
+    }
+}
+
+/// Adds the slot of an object, if that has ended.
+#[inline]
+fn close(closing: &mut Levels, slot: u32, ended: bool)
+    requires { ended ≡ true → slice_get closing.old slot ≡ Some true }
+    ensures { closing.new ≡ if ended then slice_set closing.old slot false else closing.old }
+{
+    if ended {
+        closing.give_back(slot as usize);
     }
 }
 
@@ -133,8 +157,8 @@ impl Seats {
             labels,
             names,
             owners: Owners::new(alloc, slots, threads)?,
-            timers: Timers::new(alloc, slots)?,
-            closing: ClosingSlots::new(alloc, slots)?,
+            timers: Dues::with_places(alloc, slots)?,
+            closing: Levels::with_taken(alloc, slots as usize)?,
         })
     }
 
@@ -160,14 +184,14 @@ impl Seats {
         ensures found { IfSome result (λ slot. slot_is_due now (slice_index_or self.now.seen.bodies slot None) ≡ true) }
         ensures none { IfNone result ((k : ℕ) → slot_is_due now (slice_index_or self.now.seen.bodies k None) ≡ false) }
     {
-        self.timers.next_due(now)
+        self.timers.due_by(now)
     }
 
     /// The least slot whose object ended, from `from` on.
     pub(crate) fn next_closing(&self, from: u32) -> Option<u32>
         ensures { IsLeastFrom from (is_closing_in self.now.objects self.now.seen.bodies) result }
     {
-        self.closing.next(from)
+        self.closing.next_free(from)
     }
 
     /// The least slot with an object, from `from` on.
@@ -267,7 +291,7 @@ impl Seats {
         );
         self.owners.came(id.slot, owner_of(body));
         self.timers.moved(id.slot, None, due_of(body));
-        self.closing.came(id.slot, body.is_none());
+        close(&mut self.closing, id.slot, body.is_none());
     }
 
     /// Counts a further handle.
@@ -350,8 +374,8 @@ impl Seats {
     {
         let gone = self.arena.get_mut(slot).handle_left();
         self.owners.left(slot, owner_of(gone));
-        self.timers.left(slot, due_of(gone));
-        self.closing.came(slot, gone.is_some());
+        due_left(&mut self.timers, slot, due_of(gone));
+        close(&mut self.closing, slot, gone.is_some());
         gone.is_some()
     }
 
@@ -384,7 +408,7 @@ impl Seats {
         ensures vacant { is_vacant_at (vacancy self.new) slot ≡ true }
     {
         let _ = self.arena.take(slot);
-        self.closing.left(slot);
+        self.closing.take(slot as usize);
     }
 
     /// Gives a vacant slot up: it never gets an object again.
@@ -448,8 +472,8 @@ impl Seats {
         }
         let gone = self.arena.get_mut(id.slot).block_left();
         self.owners.left(id.slot, owner_of(gone));
-        self.timers.left(id.slot, due_of(gone));
-        self.closing.came(id.slot, gone.is_some());
+        due_left(&mut self.timers, id.slot, due_of(gone));
+        close(&mut self.closing, id.slot, gone.is_some());
         gone.is_some()
     }
 }

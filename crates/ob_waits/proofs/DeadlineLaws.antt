@@ -5,7 +5,7 @@ use Rattle.std.specs.Prelude.{IfSome, is_some, map}
 use Rattle.std.proofs.Math.ListN.{get_or-map}
 use Rattle.std.proofs.lemmas.List.{get_or-set_same, get_or-set_other}
 use Rattle.std.proofs.lemmas.Bool.{cases_eq}
-use Rattle.least.specs.Dues.{IsLeast, NotAfter}
+use Rattle.least.specs.Dues.{is_by, IsLeast, NotAfter}
 use Rattle.ob_body.specs.Timer.{is_due}
 use Rattle.pin_core.specs.declared.id.Id.{Id}
 use Rattle.ob_waits.specs.declared.wait.Mode.{Mode}
@@ -91,7 +91,7 @@ timely_answered clock ws t code d dues alone timely =
 
 -- where none that is listed is due, no wait is overdue
 pub none_overdue : (now : ℕ) (ws : List (Option Wait)) (dues : List (Option ℕ))
-    → ((t : ℕ) → is_due now (get_or dues t None) ≡ false) → AreListed ws dues → (n : ℕ)
+    → ((t : ℕ) → is_by now (get_or dues t None) ≡ false) → AreListed ws dues → (n : ℕ)
     → is_overdue now (get_or ws n None) ≡ false
 none_overdue now ws dues none listed n = by (get_or ws n None) refl
   where
@@ -101,14 +101,8 @@ none_overdue now ws dues none listed n = by (get_or ws n None) refl
       where
         due : (d : Option ℕ) → deadline_of (Some w) ≡ d → is_due now d ≡ false
         due None is = refl
-        due (Some d) is = ap (is_due now) (sym (listed.each n w.thread d (ap thread_of at) (ap deadline_of at ∙ is)))
+        due (Some d) is = ap (is_by now) (sym (listed.each n w.thread d (ap thread_of at) (ap deadline_of at ∙ is)))
             ∙ none w.thread
-
--- what isn't after the least is due where the least is
-pub due_too : (now due : ℕ) (dues : List (Option ℕ)) (x : Option ℕ) → IsLeast dues (Some due) → due ≤ now
-    → IsLeast dues x → is_due now x ≡ true
-due_too now due dues None is soon other = absurd (other.first is.stands.0 due is.stands.1)
-due_too now due dues (Some moment) is soon other = search arith
 
 -- what is listed for a deadline that some wait has
 listed_at : (ws : List (Option Wait)) (dues : List (Option ℕ)) (n d : ℕ) → AreListed ws dues

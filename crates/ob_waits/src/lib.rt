@@ -24,7 +24,6 @@ mod open;
 mod overdue;
 mod pass;
 mod pending;
-mod per_thread;
 mod reading;
 mod roster;
 mod seats;

@@ -8,7 +8,7 @@ ghost use Rattle.ob_waits.specs.Rules.{thread_of};
 use crate::fresh::Fresh;
 use crate::merge::lesser;
 use crate::numbered::Numbered;
-use crate::per_thread::PerThread;
+use least::Dues;
 use std::alloc::{AllocError, Global};
 use std::marker::Model;
 
@@ -19,7 +19,7 @@ use std::marker::Model;
 #[derive(Drop)]
 pub(crate) struct Untaken {
     fresh: Fresh,
-    late: PerThread,
+    late: Dues,
 }
 
 impl Model for Untaken {
@@ -36,7 +36,7 @@ impl Untaken {
     {
         Untaken {
             fresh: Fresh::new(alloc),
-            late: PerThread::new(alloc),
+            late: Dues::new(alloc),
         }
     }
 

@@ -23,11 +23,11 @@ use crate::live::Live;
 use crate::overdue::{next_due, next_overdue};
 use crate::pass::{pass, pass_each, pass_slot};
 use crate::pending::Pending;
-use crate::per_thread::PerThread;
 use crate::reading::{put_all, read_rows, rows_within};
 use crate::roster::Roster;
 use crate::wait::{Mode, State, Wait, WaitState};
 use crate::writing::write_rows;
+use least::Dues;
 use ob_body::RECURSION_MAX;
 use ob_codec::{Cursor, ReadFault, Spelled, TextFault};
 use ob_rights::Fault;
@@ -58,7 +58,8 @@ pub struct Waits {
     alloc: Global,
     live: Live,
     roster: Roster,
-    deadlines: PerThread,
+    // For each thread the deadline of its wait.
+    deadlines: Dues,
 }
 
 impl Model for Waits {
@@ -84,7 +85,7 @@ impl Waits {
             alloc,
             live: Live::new(alloc),
             roster: Roster::new(alloc),
-            deadlines: PerThread::new(alloc),
+            deadlines: Dues::new(alloc),
         }
     }
 

@@ -1,32 +1,26 @@
-ghost use Rattle.std.specs.Prelude.{◌≡◌, ◌≤◌, []};
-
 use crate::tests::same;
-use least::{Dues, PLACES_MAX};
+use least::Dues;
 use std::alloc::{AllocError, Global};
 use std::process::Abort;
 use std::test::Fail;
 
 /// Fewer than there may be, since so many take gigabytes.
-const MANY: usize = 5_000;
+const MANY: u32 = 5_000;
 
-fn grows_to(rt: &impl Abort, dues: &mut Dues, most: usize) -> Result<(), Fail>
-    requires small { most ≤ PLACES_MAX }
-    requires none { dues.old ≡ [] }
-{
-    for place in 0..most {
-        if dues.push().is_err() {
-            same(rt, dues.len(), place);
-            dues.push()?;
-        }
+/// Makes room for a place, which has a moment then. What was given serves a second try.
+fn grows_to(rt: &impl Abort, dues: &mut Dues, last: u32) -> Result<(), Fail> {
+    let least = dues.least();
+    if dues.make_room(last).is_err() {
+        same(rt, dues.least(), least);
+        dues.make_room(last)?;
     }
-    same(rt, dues.len(), most);
+    dues.set(last, Some(7));
+    same(rt, dues.due_by(7), Some(last));
     Ok(())
 }
 
 /// So many places from the first. What was given serves a second try.
-fn made(alloc: Global, most: usize) -> Result<Dues, AllocError>
-    requires { most ≤ PLACES_MAX }
-{
+fn made(alloc: Global, most: u32) -> Result<Dues, AllocError> {
     match Dues::with_places(alloc, most) {
         Ok(dues) => Ok(dues),
         Err(_) => Dues::with_places(alloc, most),
@@ -35,6 +29,6 @@ fn made(alloc: Global, most: usize) -> Result<Dues, AllocError>
 
 #[test]
 fn places_are_made_and_added_though_memory_fails(rt: HostRuntime) -> Result<(), Fail> {
-    same(&rt, made(rt.alloc(), MANY)?.len(), MANY);
+    grows_to(&rt, &mut made(rt.alloc(), MANY)?, 2 * MANY)?;
     grows_to(&rt, &mut Dues::new(rt.alloc()), MANY)
 }

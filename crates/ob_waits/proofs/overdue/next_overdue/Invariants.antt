@@ -1,5 +1,5 @@
 use Rattle.std.specs.Prelude.{count_by}
-use Rattle.ob_body.specs.Timer.{is_due}
+use Rattle.least.specs.Dues.{is_by}
 use Rattle.ob_waits.specs.Deadlines.{AreListed}
 use Rattle.ob_waits.proofs.overdue.next_overdue.Given as goal
 
@@ -7,4 +7,4 @@ abbrev pub invariant-loop-thread : goal.invariant-loop-thread
 invariant-loop-thread l = AreListed l.live l.deadlines
 
 abbrev pub decreases-loop-thread : goal.decreases-loop-thread
-decreases-loop-thread l = count_by (is_due l.now) l.deadlines
+decreases-loop-thread l = count_by (is_by l.now) l.deadlines

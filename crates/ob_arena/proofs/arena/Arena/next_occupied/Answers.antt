@@ -1,4 +1,4 @@
-use Rattle.std.proofs.Common.{get_or, ℕ, Some, None}
+use Rattle.std.proofs.Common.{get_or, ℕ}
 use Rattle.std.proofs.Common.{arith}
 use Rattle.std.specs.Prelude.{is_some}
 use Rattle.least.proofs.NextLemmas.{same_test}
@@ -8,18 +8,10 @@ use Rattle.ob_arena.specs.Slots.{body_at}
 use Rattle.ob_arena.proofs.Phasing.{occupied_at}
 use Rattle.ob_arena.proofs.arena.Arena.next_occupied.Goals as goal
 
-pub returns-in-Some : goal.returns-in-Some
-returns-in-Some g c =
+pub returns : goal.returns
+returns g c =
     let i = c.self.inside in
     same_test (λ (k : ℕ). is_occupied (get_or i.phases.items k Vacant))
-    (λ (k : ℕ). is_some (body_at c.args.self.now k)) c.args.from (Some c.in-Some.at)
+    (λ (k : ℕ). is_some (body_at c.args.self.now k)) c.args.from c.next_body.result
     (λ k. search (arith, occupied_at))
-    c.in-Some.ensures
-
-pub returns-in-None : goal.returns-in-None
-returns-in-None g c =
-    let i = c.self.inside in
-    same_test (λ (k : ℕ). is_occupied (get_or i.phases.items k Vacant))
-    (λ (k : ℕ). is_some (body_at c.args.self.now k)) c.args.from None
-    (λ k. search (arith, occupied_at))
-    c.in-None.ensures
+    c.next_body.ensures

@@ -45,8 +45,8 @@ moved-requires-clause-before c = timed_vacant c.self.inside.arena.bodies c.self.
     c.self.invariant.timed (vacant_seat c.self.inside.arena
     (tags_in c.self.inside.labels.items c.self.inside.names.items) _ c.args.id.slot c.self.view_is c.requires).1
 
-pub came-requires-2 : goal.came-requires-2
-came-requires-2 c = λ ended.
+pub close-requires : goal.close-requires
+close-requires c = λ ended.
     let vacant = (vacant_seat c.self.inside.arena
     (tags_in c.self.inside.labels.items c.self.inside.names.items) _ c.args.id.slot c.self.view_is c.requires) in
     vacant_open c.self.inside.arena.bodies c.self.inside.closing c.args.id.slot
@@ -86,8 +86,8 @@ pub invariant_of-self : goal.invariant_of-self
 invariant_of-self c =
     let vacant = (vacant_seat c.self.inside.arena
     (tags_in c.self.inside.labels.items c.self.inside.names.items) _ c.args.id.slot c.self.view_is c.requires) in
-    subst (λ (s : Slots Seat). AreNoted s.bodies c.came.new.self c.moved.new.self c.came-2.new.self
+    subst (λ (s : Slots Seat). AreNoted s.bodies c.came.new.self c.moved.new.self c.close.new.closing
     c.relabel.new.labels.items c.relabel.new.names.items) (sym c.put.ensures)
-    (rw c.came.ensures (rw c.owner_of.ensures (rw c.moved.ensures (rw c.due_of.ensures (rw c.came-2.ensures
+    (rw c.came.ensures (rw c.owner_of.ensures (rw c.moved.ensures (rw c.due_of.ensures (rw c.close.ensures
     (noted_came _ _ _ _ _ _ c.self.invariant c.args.id.slot _ c.is_none.result _ _ vacant.0 vacant.1
     c.is_none.ensures c.relabel.ensures.labels c.relabel.ensures.names))))))

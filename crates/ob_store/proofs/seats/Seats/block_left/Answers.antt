@@ -30,14 +30,14 @@ returns-then-not-is_occupied-clause-objects c =
     ∙ ap (λ (p : Places). without_block p.seen c.args.id) c.self.view_is
 
 pub invariant_of-self : goal.invariant_of-self
-invariant_of-self c = rw c.left.ensures (rw c.owner_of.ensures (rw c.left-2.ensures (rw c.due_of.ensures
-    (rw c.came.ensures (rw c.is_some.ensures
+invariant_of-self c = rw c.left.ensures (rw c.owner_of.ensures (rw c.due_left.ensures (rw c.due_of.ensures
+    (rw c.close.ensures (rw c.is_some.ensures
     (noted_left _ _ _ _ _ _ c.self.invariant c.args.id.slot c.get_mut.result.now
     c.block_left-gone.new.self c.get_mut.ensures.value _ c.block_left-gone.result c.block_left-gone.ensures.gone
     (ap (λ (x : Seat). x.body) c.block_left-gone.ensures.value)))))))
 
-pub came-requires : goal.came-requires
-came-requires c = λ some. gone_was_there c.self.inside.arena.bodies c.self.inside.closing c.args.id.slot
+pub close-requires : goal.close-requires
+close-requires c = λ some. gone_was_there c.self.inside.arena.bodies c.self.inside.closing c.args.id.slot
     c.get_mut.result.now _ c.block_left-gone.result c.self.invariant.opened c.get_mut.ensures.value
     c.block_left-gone.ensures.gone
     (sym c.is_some.ensures ∙ some)

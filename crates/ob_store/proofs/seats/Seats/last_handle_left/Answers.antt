@@ -18,14 +18,14 @@ returns-clause-value c =
     ∙ ap (λ (p : Places). without_handle p c.args.slot) c.self.view_is
 
 pub invariant_of-self : goal.invariant_of-self
-invariant_of-self c = rw c.left.ensures (rw c.owner_of.ensures (rw c.left-2.ensures (rw c.due_of.ensures
-    (rw c.came.ensures (rw c.is_some.ensures
+invariant_of-self c = rw c.left.ensures (rw c.owner_of.ensures (rw c.due_left.ensures (rw c.due_of.ensures
+    (rw c.close.ensures (rw c.is_some.ensures
     (noted_left _ _ _ _ _ _ c.self.invariant c.args.slot c.get_mut.result.now
     c.handle_left-gone.new.self c.get_mut.ensures.value _ c.handle_left-gone.result c.handle_left-gone.ensures.gone
     (ap (λ (x : Seat). x.body) c.handle_left-gone.ensures.value)))))))
 
-pub came-requires : goal.came-requires
-came-requires c = λ some. gone_was_there c.self.inside.arena.bodies c.self.inside.closing c.args.slot
+pub close-requires : goal.close-requires
+close-requires c = λ some. gone_was_there c.self.inside.arena.bodies c.self.inside.closing c.args.slot
     c.get_mut.result.now _ c.handle_left-gone.result c.self.invariant.opened c.get_mut.ensures.value
     c.handle_left-gone.ensures.gone
     (sym c.is_some.ensures ∙ some)

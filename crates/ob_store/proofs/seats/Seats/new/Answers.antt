@@ -24,8 +24,8 @@ invariant_of-result c = record {
       ∙ length-replicate c.args.slots None);
   labelled = search rules ∙ sym (ap (λ (s : Slots Seat). length s.bodies) c.in_ok-new.ensures
       ∙ length-replicate c.args.slots None);
-  opened = subst (λ (s : Slots Seat). c.in_ok-new-4.field-0 ≡ map is_open s.bodies) (sym c.in_ok-new.ensures)
-      (c.in_ok-new-4.ensures ∙ sym (map-replicate is_open None c.args.slots));
-  timed = subst (λ (s : Slots Seat). c.in_ok-new-3.field-0 ≡ map seat_due s.bodies) (sym c.in_ok-new.ensures)
-      (c.in_ok-new-3.ensures ∙ sym (map-replicate seat_due None c.args.slots));
+  opened = subst (λ (s : Slots Seat). c.in_ok-with_taken.field-0 ≡ map is_open s.bodies) (sym c.in_ok-new.ensures)
+      (c.in_ok-with_taken.ensures ∙ sym (map-replicate is_open None c.args.slots));
+  timed = subst (λ (s : Slots Seat). c.in_ok-with_places.field-0 ≡ map seat_due s.bodies) (sym c.in_ok-new.ensures)
+      (c.in_ok-with_places.ensures ∙ sym (map-replicate seat_due None c.args.slots));
 }

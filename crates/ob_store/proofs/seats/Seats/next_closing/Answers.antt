@@ -10,7 +10,7 @@ pub returns : goal.returns
 returns c =
     let i = c.self.inside in
     same_test (is_free_within i.closing) (is_closing_in c.args.self.now.objects c.args.self.now.seen.bodies) c.args.from
-    c.next.result
+    c.next_free.result
     (λ k. closing_read i.arena.bodies (tags_in i.labels.items i.names.items) i.closing k c.self.invariant.opened
     ∙ ap (λ (p : Places). is_closing_in p.objects p.seen.bodies k) c.self.view_is)
-    c.next.ensures
+    c.next_free.ensures

@@ -7,14 +7,14 @@ use Rattle.ob_store.proofs.seats.Seats.next_due.Goals as goal
 
 pub returns-clause-found : goal.returns-clause-found
 returns-clause-found c =
-    subst (λ (p : Places). IfSome c.next_due.result
+    subst (λ (p : Places). IfSome c.due_by.result
     (λ slot. slot_is_due c.args.now (get_or p.seen.bodies slot None) ≡ true)) c.self.view_is
-    (some_due c.args.now c.self.inside.arena.bodies c.self.inside.timers c.next_due.result c.self.invariant.timed
-    c.next_due.ensures.found)
+    (some_due c.args.now c.self.inside.arena.bodies c.self.inside.timers c.due_by.result c.self.invariant.timed
+    c.due_by.ensures.found)
 
 pub returns-clause-none : goal.returns-clause-none
 returns-clause-none c =
-    subst (λ (p : Places). IfNone c.next_due.result ((k : ℕ)
+    subst (λ (p : Places). IfNone c.due_by.result ((k : ℕ)
     → slot_is_due c.args.now (get_or p.seen.bodies k None) ≡ false)) c.self.view_is
-    (none_due_slot c.args.now c.self.inside.arena.bodies c.self.inside.timers c.next_due.result c.self.invariant.timed
-    c.next_due.ensures.none)
+    (none_due_slot c.args.now c.self.inside.arena.bodies c.self.inside.timers c.due_by.result c.self.invariant.timed
+    c.due_by.ensures.none)

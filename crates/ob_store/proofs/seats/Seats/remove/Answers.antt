@@ -42,15 +42,15 @@ invariant_of-self c =
           (owned_removed c.self.inside.arena.bodies c.self.inside.owners c.args.slot c.self.invariant.owned ended
           (object_within c.self.inside.arena (tags_in c.self.inside.labels.items c.self.inside.names.items)
           c.args.slot there));
-      opened = subst (λ (s : Slots Seat). c.left.new.self ≡ map is_open s.bodies) (sym c.take.ensures.after)
-          (c.left.ensures ∙ mapped_set is_open c.self.inside.arena.bodies c.self.inside.closing c.args.slot None true
+      opened = subst (λ (s : Slots Seat). c.take-2.new.self ≡ map is_open s.bodies) (sym c.take.ensures.after)
+          (c.take-2.ensures ∙ mapped_set is_open c.self.inside.arena.bodies c.self.inside.closing c.args.slot None true
           c.self.invariant.opened refl);
       timed = subst (λ (s : Slots Seat). c.self.inside.timers ≡ map seat_due s.bodies) (sym c.take.ensures.after)
           (timed_removed c.self.inside.arena.bodies c.self.inside.timers c.args.slot c.self.invariant.timed ended);
     }
 
-pub left-requires : goal.left-requires
-left-requires c =
+pub take-requires-2 : goal.take-requires-2
+take-requires-2 c =
     let there = subst (λ (p : Places). IsSome (get_or p.objects c.args.slot None))
     (sym c.self.view_is) c.requires.object in
     let ended = subst (λ (p : Places). get_or p.seen.bodies c.args.slot None ≡ None)
