@@ -1,12 +1,8 @@
 -- Lists of what stands at each place.
 use Rattle.std.proofs.Common.{◌≡◌, arith, None, set, ℕ, List, [], ◌∷◌, ◌++◌, Option}
-use Rattle.std.proofs.lemmas.List.{get_or-set_other, get_or-set_same, length-append, length-set, same_from_push}
+use Rattle.std.proofs.lemmas.List.{get_or-set_other, get_or-set_same, length-append, length-set}
 use Rattle.std.proofs.Math.ListN.{get_or-append}
 use Rattle.ob_store.specs.Processes.{IsFromOne}
-
--- two lists that are one with their last elements have one front
-pub same_front : (xs ys : List (Option ℕ)) (x y : Option ℕ) → xs ++ x ∷ [] ≡ ys ++ y ∷ [] → xs ≡ ys
-same_front xs ys x y same = (same_from_push xs ys x y same).0
 
 -- number 0 stays nobody's where one more number is given, or one is gone
 pub from_one_more : (xs : List (Option ℕ)) (x : Option ℕ) → IsFromOne xs → IsFromOne (xs ++ x ∷ [])

@@ -1,36 +1,21 @@
 -- The threads of each process, counted and linked, while threads come and end.
 use Rattle.ob_codec.proofs.AtPlace.{at_place}
 use Rattle.std.proofs.Common.{◌≡◌, ◌≢◌, ℕ, zero, suc, ◌-◌, ◌+◌, ◌<◌, ◌≤◌, List, [], ◌∷◌, ◌++◌, length, Option, Some, None, refl, ap, ◌∙◌, sym, subst, arith, get_or, set, Bool, true, false, cond, inl, inr}
-use Rattle.std.specs.Prelude.{◌⊎◌, IfSome, Result, Ok, Err, OnOk, ◌||◌, is_some, count_by, nat_lt}
-use Rattle.std.specs.Result.{is_err}
+use Rattle.std.specs.Prelude.{◌⊎◌, IfSome, ◌||◌, count_by, nat_lt}
 use Rattle.std.specs.List.{list_any}
-use Rattle.std.specs.Option.{option_to_list}
-use Rattle.std.proofs.lemmas.List.{length-set, length-append, get_or_past, get_or-set_same, get_or-set_other}
+use Rattle.std.proofs.lemmas.List.{length-set, length-append, length-replicate, get_or-replicate, get_or_past, get_or-set_same, get_or-set_other}
 use Rattle.std.proofs.Math.ListN.{get_or-append}
 use Rattle.std.proofs.Math.Seq.{get_or-append_seam}
 use Rattle.std.proofs.lemmas.List.Sums.{sum_by-set, sum_by-append, sum_by-cons}
 use Rattle.std.proofs.lemmas.Bool.{cases_eq, cases_lt, ltb-false, ltb-true}
-use Rattle.ob_tables.specs.declared.entry.Entry.{Entry}
-use Rattle.ob_store.specs.declared.limits.Limits.{Limits}
-use Rattle.ob_store.specs.Kept.{ProcessesKept}
 use Rattle.ob_store.specs.declared.thread_lists.ThreadList.{ThreadList}
 use Rattle.ob_store.specs.declared.thread_lists.ThreadLink.{ThreadLink}
-use Rattle.ob_store.specs.Processes.{ProcessesState, is_of, with_process}
-use Rattle.ob_store.specs.ThreadLists.{ThreadListsState, AreThreadLists, IsNewest, IsPopped, is_empty, link_at, list_at, no_link, no_list, with_empty, with_link, with_list, with_place, without_live}
+use Rattle.ob_store.specs.Processes.{is_of}
+use Rattle.ob_store.specs.ThreadLists.{ThreadListsState, AreThreadLists, is_empty, link_at, list_at, no_link, no_list, no_threads, with_link, with_list, with_place, without_live}
 use Rattle.ob_store.proofs.EndLaws.{some_set}
-
--- a list that lost its last element
-pub popped : {A : Type 0} (none : A) (xs ys : List A) (r : Option A) → xs ≡ ys ++ option_to_list r
-    → length xs ≡ length ys + 1 → IsPopped none xs ys
-popped none xs ys r is long = search (arith, get_or-append)
 
 abbrev one_in : ℕ → Option ℕ → ℕ
 one_in p x = cond (is_of p x) 1 0
-
--- what holds where there was no error
-pub unless_err : {A E P : Type 0} (r : Result A E) (b : Bool) → b ≡ is_err r → b ≡ false → OnOk r P → P
-unless_err (Ok x) b is not p = p
-unless_err (Err e) b is not p = absurd (cc (is, not))
 
 -- one more number
 module _ (ts : List (Option ℕ)) (n : ℕ) where
@@ -162,42 +147,27 @@ module _ (n : ℕ) (ts : List (Option ℕ)) (m : ThreadListsState) (are : AreThr
     ];
   }
 
--- the next process, without a thread, while only number 0 is given of threads
-module _ (n first : ℕ) (m : ThreadListsState) (are : AreThreadLists n (None ∷ []) m) (past : 0 < first) where
-  abbrev empty : ThreadList
-  empty = record { live = 0; first = first; last = 0 }
+-- processes without a thread
+pub no_threads_are : (n : ℕ) → AreThreadLists n (None ∷ []) (no_threads n)
+no_threads_are n = record {
+  lists_long = search length-replicate;
+  links_long = refl;
+  at_most = search arith;
+  counted = λ p lt. ap (λ (g : ThreadList). g.live) (list_none p lt);
+  given = λ t p h. absurd (none_given t p h);
+  next = λ p t u below small mine same since less. absurd (omega arith);
+  ending = λ p below some. absurd (let a = ap (λ (g : ThreadList). g.first) (list_none p below) in
+      let b = ap (λ (g : ThreadList). g.last) (list_none p below) in omega arith);
+  last = λ p t below small mine. omega arith;
+}
+  where
+    list_none : (p : ℕ) → p < n
+        → list_at (no_threads n) p ≡ record { live = 0; first = 4294967295; last = 0 }
+    list_none p lt = get_or-replicate n p _ no_list lt
 
-  empty_old : (p : ℕ) → p < n → list_at (with_empty m first) p ≡ list_at m p
-  empty_old p lt = search (arith, get_or-append)
-
-  empty_new : (p : ℕ) → n ≤ p → p < n + 1 → list_at (with_empty m first) p ≡ empty
-  empty_new p le lt = grind (arith, at_place)
-
-  none_given : (t p : ℕ) → get_or {A = Option ℕ} (None ∷ []) t None ≡ Some p → ⊥
-  none_given zero p h = cc (h)
-  none_given (suc t) p h = cc (h)
-
-  pub threads_with_empty : AreThreadLists (n + 1) (None ∷ []) (with_empty m first)
-  threads_with_empty = record {
-    lists_long = search (arith, length-append);
-    links_long = are.links_long;
-    at_most = are.at_most;
-    counted = λ p lt. elim (cases_lt p n) [
-      | inl old ↦ ap (λ (g : ThreadList). g.live) (empty_old p old) ∙ are.counted p old
-      | inr le ↦ ap (λ (g : ThreadList). g.live) (empty_new p le lt)
-          ∙ sym (search arith)
-    ];
-    given = λ t p h. absurd (none_given t p h);
-    next = search arith;
-    ending = λ p below some. elim (cases_lt p n) [
-      | inl old ↦ (let a = empty_old p old in let b = ap (λ (g : ThreadList). g.last) a in
-          let d = ap (λ (g : ThreadList). g.first) a in let c = are.ending p old (omega arith) in
-          search arith)
-      | inr le ↦ absurd (let a = empty_new p le below in let b = ap (λ (g : ThreadList). g.last) a in
-          let d = ap (λ (g : ThreadList). g.first) a in omega arith)
-    ];
-    last = search arith;
-  }
+    none_given : (t p : ℕ) → get_or {A = Option ℕ} (None ∷ []) t None ≡ Some p → ⊥
+    none_given zero p h = cc (h)
+    none_given (suc t) p h = cc (h)
 
 -- the next thread of a process, with the first that the process then has and with links of which only those of the
 -- process changed
@@ -485,82 +455,6 @@ module _ (n : ℕ) (ts : List (Option ℕ)) (m : ThreadListsState) (are : AreThr
       (gone_at_end ts 0) (search (arith, threads_grown, threads_less, get_or-append_seam))
   threads_placed (Some p) some known = threads_grown n ts m p are known few
 
--- the process that was added last is taken back, with its thread
-module _ (n n' : ℕ) (ts ts' : List (Option ℕ)) (m m' : ThreadListsState) (are : AreThreadLists n ts m)
-    (one : n ≡ n' + 1) (is : ts ≡ ts' ++ Some n' ∷ [])
-    (alone : (t : ℕ) → get_or ts' t None ≡ Some n'
-    → ⊥) (lists : IsPopped no_list m.lists m'.lists) (links : IsPopped no_link m.links m'.links) where
-  long_back : length ts ≡ length ts' + 1
-  long_back = search (arith, length-append)
-
-  lists_back : length m'.lists ≡ n'
-  lists_back = search arith
-
-  links_back : length m'.links ≡ length ts'
-  links_back = search (arith, length-append)
-
-  list_back : (p : ℕ) → p < n' → list_at m' p ≡ list_at m p
-  list_back p lt = search arith
-
-  link_back : (t : ℕ) → t < length ts' → link_at m' t ≡ link_at m t
-  link_back t lt = search (arith, length-append)
-
-  of_back : (t p : ℕ) → t < length ts' → (link_at m' t).process ≡ p → (link_at m t).process ≡ p
-  of_back t p lt h = sym (ap (λ (x : ThreadLink). x.process) (link_back t lt)) ∙ h
-
-  live_back : (t p : ℕ) → t < length ts' → get_or ts' t None ≡ Some p → get_or ts t None ≡ Some p
-  live_back t p lt h = search (arith, get_or-append)
-
-  within_back : (t p : ℕ) → get_or ts' t None ≡ Some p → t < length ts'
-  within_back t p h = search (arith, get_or_past)
-
-  newest_is : (link_at m (length ts')).process ≡ n'
-  newest_is = (are.given (length ts') n' (search (arith, get_or-append_seam))).1
-
-  last_back : (p : ℕ) → p < n' → (list_at m p).first ≤ (list_at m p).last → (list_at m p).last < length ts'
-  last_back p below some = let e = are.ending p (omega arith) some in
-      elim (cases_eq (list_at m p).last (length ts')) [
-        | inl same ↦ absurd (let a : p ≡ n' = search (arith, newest_is) in
-            omega arith)
-        | inr other ↦ omega (arith, long_back)
-      ]
-
-  pub threads_taken : AreThreadLists n' ts' m'
-  threads_taken = record {
-    lists_long = lists_back;
-    links_long = links_back;
-    at_most = search (arith, length-append);
-    counted = λ p below. (let a = ap (λ (g : ThreadList). g.live) (list_back p below) in
-        let b = are.counted p (omega arith) in
-        let c = counted_more ts' n' p in let d = one_other ts' n' p (omega arith) in
-        let e = ap (λ (l : List (Option ℕ)). count_by (is_of p) l) is in omega arith);
-    given = λ t p h. (let lt = within_back t p h in let was = are.given t p (live_back t p lt h) in
-        let below : p < n' = elim (cases_eq p n') [
-          | inl same ↦ absurd (alone t (h ∙ ap Some same))
-          | inr other ↦
-              (let a = was.0 in omega arith)
-        ] in
-        let f = ap (λ (g : ThreadList). g.first) (list_back p below) in
-        (below, ap (λ (x : ThreadLink). x.process) (link_back t lt) ∙ was.1, omega arith));
-    next = λ p t u below small mine same since less. (let before : t < length ts' = omega arith in
-        let f = ap (λ (g : ThreadList). g.first) (list_back p below) in
-        let a = ap (λ (x : ThreadLink). x.next) (link_back t before) in
-        let b = are.next p t u (omega arith) (omega (arith, long_back)) (of_back t p before mine)
-        (of_back u p small same) (omega arith) less in
-        (omega arith, omega arith));
-    ending = λ p below some. (let f = ap (λ (g : ThreadList). g.first) (list_back p below) in
-        let l = ap (λ (g : ThreadList). g.last) (list_back p below) in
-        let there : (list_at m p).first ≤ (list_at m p).last = omega arith in
-        let e = are.ending p (omega arith) there in let lt = last_back p below there in (
-          omega arith,
-          ap (λ i. (link_at m' i).process) l
-              ∙ ap (λ (x : ThreadLink). x.process) (link_back (list_at m p).last lt) ∙ e.1,
-        ));
-    last = λ p t below small mine. (let l = ap (λ (g : ThreadList). g.last) (list_back p below) in
-        let a = are.last p t (omega arith) (omega (arith, long_back)) (of_back t p small mine) in
-        omega arith);
-  }
-
 -- an element passes where one is counted
 any_counted : (p : Option ℕ → Bool) (xs : List (Option ℕ)) → nat_lt 0 (count_by p xs) ≡ list_any p xs
 any_counted p [] = refl
@@ -593,15 +487,3 @@ module _ (n : ℕ) (ts : List (Option ℕ)) (m : ThreadListsState) (are : AreThr
         | inr le ↦
             absurd (let a = get_or_past ts u None le in cc (a, h))
       ]) mine was.1 since less
-
--- a new process is the newest
-pub newest : (limits : Limits) (l : ProcessesState) (tables : List (List (Option Entry))) (session : ℕ)
-    → ProcessesKept limits l tables → IsNewest (with_process l session)
-newest limits l tables session kept = record {
-  before = l;
-  session = session;
-  is = refl;
-  alone = λ t h. let live = kept.live t (length l.processes) h in
-      let past = get_or_past l.processes (length l.processes) None (omega arith) in let a = ap is_some past in
-      cc (live, a);
-}

@@ -1,6 +1,8 @@
 -- The live processes and threads. A number is a place of a list; place 0 has nothing, since number 0 is never given,
 -- and the next number is the length.
 use Rattle.std.specs.Prelude.{◌≡◌, ℕ, ◌==◌, ◌<◌, Bool, false, List, [], ◌∷◌, ◌++◌, Option, Some, None, length, slice_index_or}
+use Rattle.ob_tables.specs.declared.entry.Entry.{Entry}
+use Rattle.ob_tables.specs.Tables as tables
 
 pub record ProcessesState : Type 0 where
   pub processes : List (Option ℕ)  -- the session of each live process
@@ -20,6 +22,11 @@ with_process l session = record {
   processes = l.processes ++ Some session ∷ [];
   threads = l.threads ++ Some (length l.processes) ∷ [];
 }
+
+-- the table of the next process: an empty one, or one with what it inherits of a parent
+abbrev pub with_table : List (List (Option Entry)) → Option ℕ → List (List (Option Entry))
+with_table ts None = tables.with_process ts
+with_table ts (Some parent) = tables.with_child ts parent
 
 -- the next thread, of a process
 abbrev pub with_thread : ProcessesState → ℕ → ProcessesState

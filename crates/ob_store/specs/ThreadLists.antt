@@ -1,12 +1,16 @@
 -- The threads of each process: how many are live, and those that it was given, by rising number.
-use Rattle.std.specs.Prelude.{◌≡◌, ℕ, ◌+◌, ◌-◌, ◌<◌, ◌≤◌, nat_lt, Bool, if◌then◌else◌, List, [], ◌∷◌, ◌++◌, Option, Some, None, length, count_by, slice_index_or, slice_set}
+use Rattle.std.specs.Prelude.{◌≡◌, ℕ, ◌+◌, ◌-◌, ◌<◌, ◌≤◌, nat_lt, Bool, if◌then◌else◌, List, [], ◌∷◌, ◌++◌, Option, Some, None, length, count_by, replicate, slice_index_or, slice_set}
 use Rattle.ob_store.specs.declared.thread_lists.ThreadList.{ThreadList}
 use Rattle.ob_store.specs.declared.thread_lists.ThreadLink.{ThreadLink}
-use Rattle.ob_store.specs.Processes.{ProcessesState, is_of, with_process}
+use Rattle.ob_store.specs.declared.thread_lists.ThreadLists.{ThreadLists}
+use Rattle.ob_store.specs.Processes.{is_of}
 
 pub record ThreadListsState : Type 0 where
   pub lists : List ThreadList  -- by process
   pub links : List ThreadLink  -- by thread
+
+abbrev pub state_of : ThreadLists → ThreadListsState
+state_of m = record { lists = m.lists.items; links = m.links.items }
 
 abbrev pub no_list : ThreadList
 no_list = record { live = 0; first = 0; last = 0 }
@@ -20,8 +24,12 @@ list_at m p = slice_index_or m.lists p no_list
 abbrev pub link_at : ThreadListsState → ℕ → ThreadLink
 link_at m t = slice_index_or m.links t no_link
 
-abbrev pub no_lists : ThreadListsState
-no_lists = record { lists = no_list ∷ []; links = no_link ∷ [] }
+-- so many processes without a thread: the first of each is past each that is there
+abbrev pub no_threads : ℕ → ThreadListsState
+no_threads n = record {
+  lists = replicate n (record { live = 0; first = 4294967295; last = 0 });
+  links = no_link ∷ [];
+}
 
 -- the next process, with the next thread
 abbrev pub with_list : ThreadListsState → ThreadListsState
@@ -29,10 +37,6 @@ with_list m = record {
   lists = m.lists ++ (record { live = 1; first = length m.links; last = length m.links }) ∷ [];
   links = m.links ++ (record { process = length m.lists; next = 0 }) ∷ [];
 }
-
--- the next process, without a thread: its first is past each that is there
-abbrev pub with_empty : ThreadListsState → ℕ → ThreadListsState
-with_empty m first = record m { lists = m.lists ++ (record { live = 0; first = first; last = 0 }) ∷ [] }
 
 abbrev pub is_empty : ThreadList → Bool
 is_empty list = nat_lt list.last list.first
@@ -85,15 +89,3 @@ pub record AreThreadLists (processes : ℕ) (threads : List (Option ℕ)) (m : T
   pub ending : (p : ℕ) → p < processes → (list_at m p).first ≤ (list_at m p).last
       → ((list_at m p).last < length threads) × ((link_at m (list_at m p).last).process ≡ p)
   pub last : (p t : ℕ) → p < processes → t < length threads → (link_at m t).process ≡ p → t ≤ (list_at m p).last
-
--- without its last element
-pub record IsPopped {A : Type 0} (none : A) (xs ys : List A) : Type 0 where
-  pub length_is : length xs ≡ length ys + 1
-  pub same : (k : ℕ) → k < length ys → slice_index_or ys k none ≡ slice_index_or xs k none
-
--- the last process was added last, and the last thread is its only live one
-pub record IsNewest (l : ProcessesState) : Type 0 where
-  pub before : ProcessesState
-  pub session : ℕ
-  pub is : l ≡ with_process before session
-  pub alone : (t : ℕ) → slice_index_or before.threads t None ≡ Some (length before.processes) → ⊥

@@ -1,35 +1,22 @@
 // The threads of each process are counted and linked again, from the process of each live thread.
-ghost use Rattle.std.specs.Prelude.{◌≡◌, ◌∷◌, ◌+◌, ◌<◌, ◌≤◌, ℕ, [], IfOk, IfSome, None, OnOk, length};
+ghost use Rattle.std.specs.Prelude.{◌≡◌, ◌+◌, ◌<◌, ◌≤◌, ℕ, IfOk, IfSome, None, OnOk, length};
 ghost use Rattle.std.specs.Prelude.{slice_index_or, take};
 ghost use Rattle.ob_store.specs.Processes.{IsFromOne};
 ghost use Rattle.ob_store.specs.SavedProcesses.{are_of_live};
-ghost use Rattle.ob_store.specs.ThreadLists.{AreThreadLists};
+ghost use Rattle.ob_store.specs.ThreadLists.{AreThreadLists, state_of};
 
-use crate::numbers::Numbers;
+use crate::numbers::number_at;
 use crate::thread_lists::ThreadLists;
 use std::alloc::{AllocError, Global};
 
 /// Whether each live thread is of a live process.
-pub(crate) fn are_of_live(processes: &Numbers, threads: &Numbers) -> bool
-    ensures { result ≡ are_of_live (processes.now, threads.now) }
+pub(crate) fn are_of_live(processes: &Vec<Option<u32>>, threads: &Vec<Option<u32>>) -> bool
+    ensures { result ≡ are_of_live (processes.now.items, threads.now.items) }
 {
-    threads.places().iter().all(|place| match place {
-        Some(process) => processes.get(*process).is_some(),
+    threads.as_slice().iter().all(|place| match place {
+        Some(process) => number_at(processes, *process).is_some(),
         None => true,
     })
-}
-
-/// The thread lists of so many processes without threads, but for number 0, which has thread 0. The first thread of
-/// each other is a number past every thread.
-fn empty_lists(alloc: Global, processes: u32) -> Result<ThreadLists, AllocError>
-    requires { 0 < processes }
-    ensures { IfOk result (λ lists. AreThreadLists processes (None ∷ []) lists) }
-{
-    let mut lists = ThreadLists::new(alloc)?;
-    for _ in 1..processes {
-        lists.add_empty(u32::MAX)?;
-    }
-    Ok(lists)
 }
 
 /// Links the next thread number to its process.
@@ -43,10 +30,12 @@ fn link_next(
     requires at_most { length threads.now ≤ 65537 }
     requires thread { thread < length threads.now }
     requires process { IfSome (slice_index_or threads.now thread None) (λ process. process < processes) }
-    requires so_far { AreThreadLists processes (take thread threads.now) lists.old }
-    ensures { OnOk result (AreThreadLists processes (take (thread + 1) threads.now) lists.new) }
+    requires so_far { AreThreadLists processes (take thread threads.now) (state_of lists.old) }
+    ensures { OnOk result (AreThreadLists processes (take (thread + 1) threads.now) (state_of lists.new)) }
 {
-    lists.add_place(threads[thread])
+    lists.links.reserve(1)?;
+    lists.add_place(threads[thread]);
+    Ok(())
 }
 
 /// The thread lists of so many processes, made from the process of each live thread.
@@ -59,9 +48,9 @@ pub(crate) fn link_threads(
     requires at_most { length threads.now ≤ 65537 }
     requires from_one { IsFromOne threads.now }
     requires known { (t : ℕ) → IfSome (slice_index_or threads.now t None) (λ process. process < processes) }
-    ensures { IfOk result (λ lists. AreThreadLists processes threads.now lists) }
+    ensures { IfOk result (λ lists. AreThreadLists processes threads.now (state_of lists)) }
 {
-    let mut lists = empty_lists(alloc, processes)?;
+    let mut lists = ThreadLists::new(alloc, processes)?;
     for thread in 1..threads.len() {
         link_next(&mut lists, processes, threads, thread)?;
     }

@@ -1,27 +1,29 @@
-ghost use Rattle.std.specs.Prelude.{ℕ, List, Option, [], ◌≡◌, ◌+◌, ◌++◌, ◌<◌, ◌≤◌, None, Some, IfOk, OnOk, OnErr};
+ghost use Rattle.std.specs.Prelude.{ℕ, List, Option, [], ◌≡◌, ◌+◌, ◌++◌, ◌<◌, ◌≤◌, None, IfOk, IfSome, OnOk, OnErr};
 ghost use Rattle.std.specs.Prelude.{is_some, length, slice_index_or, slice_set, true};
 ghost use Rattle.std.specs.List.{list_any};
 ghost use Rattle.least.specs.From.{IsLeastFrom};
 ghost use Rattle.ob_codec.specs.Reading.{Gives};
+ghost use Rattle.ob_tables.specs.Tables.{IsBounded};
 ghost use Rattle.ob_tables.specs.declared.entry.Entry.{Entry};
 ghost use Rattle.ob_store.specs.declared.limits.Limits.{Limits};
 ghost use Rattle.ob_store.specs.Kept.{ProcessesKept};
-ghost use Rattle.ob_store.specs.Processes.{ProcessesState, is_of, no_processes, with_process, with_thread};
+ghost use Rattle.ob_store.specs.Processes.{ProcessesState, is_of, no_processes, with_process, with_table, with_thread};
 ghost use Rattle.ob_store.specs.SavedProcesses.{ListsFit, are_populated, is_populated, processes_at, processes_text};
-ghost use Rattle.ob_store.specs.ThreadLists.{IsNewest};
 
+use crate::finding::next_place;
 use crate::linking_threads::{are_of_live, link_threads};
-use crate::numbers::Numbers;
+use crate::numbers::{leave, number_at, read_numbers};
 use crate::thread_lists::ThreadLists;
-use ob_codec::{Cursor, ReadFault, TextFault};
+use ob_codec::{Cursor, ReadFault, TextFault, write_list};
+use ob_tables::Tables;
 use std::alloc::{AllocError, Global};
 use std::marker::Model;
 
 /// The live processes and threads, by their numbers.
 #[derive(Drop)]
 pub(crate) struct Processes {
-    processes: Numbers,
-    threads: Numbers,
+    processes: Vec<Option<u32>>,
+    threads: Vec<Option<u32>>,
     lists: ThreadLists,
 }
 
@@ -30,22 +32,42 @@ impl Model for Processes {
 
     ghost Value = { ProcessesState };
 
-    ghost use Rattle.std.specs.Prelude.{length};
-    ghost use Rattle.ob_store.specs.ThreadLists.{AreThreadLists};
+    ghost use Rattle.std.specs.Prelude.{length, ◌≤◌};
+    ghost use Rattle.ob_store.specs.ThreadLists.{AreThreadLists, state_of};
 
-    ghost view = { λ l. record { processes = l.processes; threads = l.threads } };
+    ghost view = { λ l. record { processes = l.processes.items; threads = l.threads.items } };
 
     // Hidden from the value: how many live threads each process has, and which it was given.
-    ghost invariant = { λ l. AreThreadLists (length l.processes) l.threads l.lists };
+    ghost invariant = { λ l. AreThreadLists (length l.processes.items) l.threads.items (state_of l.lists)
+        × (length l.processes.items ≤ 65537) };
+}
+
+/// Adds the table of the next process: an empty one, or one with what it inherits of a parent.
+fn add_table(tables: &mut Tables, parent: Option<u32>) -> Result<u32, AllocError>
+    requires { IfSome parent (λ process. process < length tables.old.tables) }
+    ensures number { IfOk result (λ process. process ≡ length tables.old.tables) }
+    ensures ok { OnOk result (tables.new ≡ record tables.old { tables = with_table tables.old.tables parent }) }
+    ensures err { OnErr result (tables.new ≡ tables.old) }
+    ensures bounded { OnOk result (IfSome parent (λ _.
+        IsBounded tables.old.process_limit tables.old.handle_limit tables.old.tables)) }
+{
+    let added = match parent {
+        Some(process) => tables.copy_inheritable(process),
+        None => tables.add_process(),
+    };
+    match added {
+        Ok(process) => Ok(process),
+        Err(_) => Err(AllocError),
+    }
 }
 
 impl Processes {
     pub(crate) fn new(alloc: Global) -> Result<Processes, AllocError>
         ensures { IfOk result (λ processes. processes ≡ no_processes) }
     {
-        let processes = Numbers::new(alloc)?;
-        let threads = Numbers::new(alloc)?;
-        let lists = ThreadLists::new(alloc)?;
+        let processes = vec![in alloc; None]?;
+        let threads = vec![in alloc; None]?;
+        let lists = ThreadLists::new(alloc, 1)?;
         Ok(Processes {
             processes,
             threads,
@@ -58,8 +80,8 @@ impl Processes {
         ensures text { OnOk result (out.new.items ≡ out.old.items ++ processes_text self.now) }
         ensures fits { OnOk result (ListsFit self.now) }
     {
-        self.processes.write(out)?;
-        self.threads.write(out)
+        write_list(out, self.processes.as_slice())?;
+        write_list(out, self.threads.as_slice())
     }
 
     /// Reads processes and threads of at most so many numbers. [`TextFault::Value`] where there are more, where number
@@ -81,12 +103,12 @@ impl Processes {
             → ProcessesKept limits l tables) }
         ensures populated { IfOk result (λ l. are_populated l ≡ true) }
     {
-        let sessions = Numbers::read(alloc, processes, from)?;
-        let owners = Numbers::read(alloc, threads, from)?;
+        let sessions = read_numbers(alloc, processes, from)?;
+        let owners = read_numbers(alloc, threads, from)?;
         if !are_of_live(&sessions, &owners) {
             return Err(ReadFault::Text(TextFault::Value));
         }
-        let lists = link_threads(alloc, sessions.next(), owners.places())?;
+        let lists = link_threads(alloc, sessions.len() as u32, owners.as_slice())?;
         let read = Processes {
             processes: sessions,
             threads: owners,
@@ -116,73 +138,73 @@ impl Processes {
     pub(crate) fn next_process(&self) -> u32
         ensures { result ≡ length self.now.processes }
     {
-        self.processes.next()
+        self.processes.len() as u32
     }
 
     /// The next thread number.
     pub(crate) fn next_thread(&self) -> u32
         ensures { result ≡ length self.now.threads }
     {
-        self.threads.next()
+        self.threads.len() as u32
     }
 
     /// The session of a live process.
     pub(crate) fn session(&self, process: u32) -> Option<u32>
         ensures { result ≡ slice_index_or self.now.processes process None }
     {
-        self.processes.get(process)
+        number_at(&self.processes, process)
     }
 
     /// The process of a live thread.
     pub(crate) fn process(&self, thread: u32) -> Option<u32>
         ensures { result ≡ slice_index_or self.now.threads thread None }
     {
-        self.threads.get(thread)
+        number_at(&self.threads, thread)
     }
 
-    /// Adds a process of a session, with its first thread.
-    pub(crate) fn add_process(&mut self, session: u32) -> Result<(), AllocError>
+    /// Adds a process of a session, with its first thread, and its handle table: an empty one, or one with what it
+    /// inherits of a parent. Answers its number.
+    pub(crate) fn add_process(
+        &mut self,
+        session: u32,
+        tables: &mut Tables,
+        parent: Option<u32>,
+    ) -> Result<u32, AllocError>
         requires processes { length self.old.processes ≤ 65536 }
         requires threads { length self.old.threads ≤ 65536 }
+        requires parent { IfSome parent (λ process. process < length tables.old.tables) }
+        ensures number { IfOk result (λ process. process ≡ length tables.old.tables) }
         ensures ok { OnOk result (self.new ≡ with_process self.old session) }
+        ensures table { OnOk result (tables.new ≡ record tables.old { tables = with_table tables.old.tables parent }) }
         ensures err { OnErr result (self.new ≡ self.old) }
+        ensures same_tables { OnErr result (tables.new ≡ tables.old) }
+        ensures bounded { OnOk result (IfSome parent (λ _.
+            IsBounded tables.old.process_limit tables.old.handle_limit tables.old.tables)) }
     {
-        let process = self.processes.next();
-        self.processes.give(session)?;
-        if self.threads.give(process).is_err() {
-            self.processes.take_back();
-            return Err(AllocError);
-        }
-        if self.lists.add_process().is_err() {
-            self.processes.take_back();
-            self.threads.take_back();
-            return Err(AllocError);
-        }
-        Ok(())
-    }
-
-    /// Takes back the process that was added last, with its first thread, which is its only one.
-    pub(crate) fn take_back(&mut self)
-        requires { IsNewest self.old }
-        ensures { (before : ProcessesState) (session : ℕ) → self.old ≡ with_process before session → self.new ≡ before }
-    {
-        self.processes.take_back();
-        self.threads.take_back();
-        self.lists.take_back();
+        let process = self.next_process();
+        self.processes.reserve(1)?;
+        self.threads.reserve(1)?;
+        self.lists.lists.reserve(1)?;
+        self.lists.links.reserve(1)?;
+        let added = add_table(tables, parent)?;
+        self.processes.push_reserved(Some(session));
+        self.threads.push_reserved(Some(process));
+        self.lists.add_process();
+        Ok(added)
     }
 
     /// Whether a process has live threads.
     pub(crate) fn has_threads(&self, process: u32) -> bool
         ensures { result ≡ list_any (is_of process) self.now.threads }
     {
-        self.lists.has_live(process)
+        self.lists.list(process).live > 0
     }
 
     /// A number below which the process has no live thread.
     pub(crate) fn first_of(&self, process: u32) -> u32
         ensures { (t : ℕ) → slice_index_or self.now.threads t None ≡ Some process → result ≤ t }
     {
-        self.lists.first(process)
+        self.lists.list(process).first
     }
 
     /// A greater number, such that no live thread of the process is between. Behind a thread of the process it is the
@@ -193,30 +215,33 @@ impl Processes {
         ensures none { (t : ℕ) → slice_index_or self.now.threads t None ≡ Some process → thread < t → result ≤ t }
     {
         let link = self.lists.link(thread);
-        if link.process != process || thread < self.lists.first(process) {
+        if link.process != process || thread < self.lists.list(process).first {
             return thread + 1;
         }
         if thread < link.next {
             return link.next;
         }
-        self.threads.next()
+        self.threads.len() as u32
     }
 
     /// The least live process whose number is above `after`.
     pub(crate) fn next_live(&self, after: u32) -> Option<u32>
         ensures { IsLeastFrom (after + 1) (λ process. is_some (slice_index_or self.now.processes process None)) result }
     {
-        self.processes.next_after(after)
+        match next_place(self.processes.as_slice(), after as usize + 1) {
+            Some(process) => Some(process as u32),
+            None => None,
+        }
     }
 
     /// The least live thread of a process, from `from` on, which is a thread of it.
     fn live_from(&self, process: u32, from: u32) -> Option<u32>
         ensures { IsLeastFrom from (λ thread. is_of process (slice_index_or self.now.threads thread None)) result }
     {
-        let end = self.threads.next();
+        let end = self.threads.len() as u32;
         let mut thread = from;
         while thread < end {
-            if self.threads.get(thread) == Some(process) {
+            if self.process(thread) == Some(process) {
                 return Some(thread);
             }
             thread = self.next_of(process, thread);
@@ -233,7 +258,7 @@ impl Processes {
         if after < first {
             return self.live_from(process, first);
         }
-        if after >= self.threads.next() {
+        if after >= self.threads.len() as u32 {
             return None;
         }
         self.live_from(process, self.next_of(process, after))
@@ -243,18 +268,18 @@ impl Processes {
     pub(crate) fn end_thread(&mut self, thread: u32)
         ensures { self.new ≡ record self.old { threads = slice_set self.old.threads thread None } }
     {
-        let Some(process) = self.threads.get(thread) else {
+        let Some(process) = number_at(&self.threads, thread) else {
             return;
         };
         self.lists.end_thread(process);
-        self.threads.leave(thread);
+        leave(&mut self.threads, thread);
     }
 
     /// Takes away the number of a process that ends.
     pub(crate) fn end_process(&mut self, process: u32)
         ensures { self.new ≡ record self.old { processes = slice_set self.old.processes process None } }
     {
-        self.processes.leave(process);
+        leave(&mut self.processes, process);
     }
 
     /// Adds a thread of a process.
@@ -264,11 +289,10 @@ impl Processes {
         ensures ok { OnOk result (self.new ≡ with_thread self.old process) }
         ensures err { OnErr result (self.new ≡ self.old) }
     {
-        self.threads.give(process)?;
-        if self.lists.add_thread(process).is_err() {
-            self.threads.take_back();
-            return Err(AllocError);
-        }
+        self.threads.reserve(1)?;
+        self.lists.links.reserve(1)?;
+        self.threads.push_reserved(Some(process));
+        self.lists.add_thread(process);
         Ok(())
     }
 }

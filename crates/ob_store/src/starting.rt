@@ -17,14 +17,11 @@ impl<K: PinKeeper> Store<K> {
         ensures err { OnErr result (self.new ≡ self.old) }
     {
         self.parts.objects.kept();
-        self.parts.processes.add_process(session)?;
-        match self.parts.tables.add_process() {
-            Ok(_) => return Ok(()),
-            Err(_) => {
-                self.parts.processes.take_back();
-                return Err(AllocError);
-            }
-        }
+        let _ = self
+            .parts
+            .processes
+            .add_process(session, &mut self.parts.tables, None)?;
+        Ok(())
     }
 
     /// Adds the next thread number, of a live process.
@@ -52,19 +49,14 @@ impl<K: PinKeeper> Store<K> {
         ensures err { OnErr result (self.new ≡ self.old) }
     {
         self.parts.objects.kept();
-        self.parts.processes.add_process(session)?;
-        match self.parts.tables.copy_inheritable(parent) {
-            Ok(child) => {
-                self.parts
-                    .objects
-                    .handles_came(self.parts.tables.entries(child));
-                self.parts.objects.kept();
-                return Ok(());
-            }
-            Err(_) => {
-                self.parts.processes.take_back();
-                return Err(AllocError);
-            }
-        }
+        let child = self
+            .parts
+            .processes
+            .add_process(session, &mut self.parts.tables, Some(parent))?;
+        self.parts
+            .objects
+            .handles_came(self.parts.tables.entries(child));
+        self.parts.objects.kept();
+        Ok(())
     }
 }

@@ -1,21 +1,28 @@
-use Rattle.std.proofs.Common.{◌≡◌, ◌≤◌, ℕ, [], ◌∷◌, ◌++◌, Some, sym, subst, length}
+use Rattle.std.proofs.Common.{◌≡◌, ◌≤◌, [], ◌∷◌, Some, ap, arith, length, sym, ◌∙◌, subst}
 use Rattle.std.proofs.lemmas.List.{length-append}
 use Rattle.ob_store.specs.Processes.{ProcessesState}
-use Rattle.ob_store.specs.ThreadLists.{AreThreadLists, with_list}
-use Rattle.ob_store.proofs.ThreadListLaws.{threads_born, unless_err}
+use Rattle.ob_store.specs.ThreadLists.{state_of}
+use Rattle.ob_store.proofs.ThreadListLaws.{threads_born}
 use Rattle.ob_store.proofs.processes.Processes.add_process.Goals as goal
 
-pub invariant_of-self-else-is_err-2 : goal.invariant_of-self-else-is_err-2
-invariant_of-self-else-is_err-2 c =
+pub invariant_of-self-2 : goal.invariant_of-self-2
+invariant_of-self-2 c =
     let s = c.self.inside in
-    let threads : c.give-2.new.self ≡ s.threads ++ Some c.next-process.result ∷ [] =
-    unless_err c.give-2.result c.is_err.result c.is_err.ensures.value c.if-is_err.false c.give-2.ensures.ok in
-    let few : length s.threads ≤ 65536 = subst (λ (l : ProcessesState). length l.threads ≤ 65536)
-    (sym c.self.view_is) c.requires.threads in
-    let lists : c.add_process.new.self ≡ with_list s.lists =
-    unless_err c.add_process.result c.is_err-2.result c.is_err-2.ensures.value c.if-is_err-2.false
-    c.add_process.ensures.ok in
-    rw (c.in_ok-give.ensures.ok, threads, lists, c.next-process.ensures.value)
-    (subst (λ (n : ℕ). AreThreadLists n (s.threads ++ Some (length s.processes) ∷ []) (with_list s.lists))
-    (sym (length-append s.processes (Some c.args.session ∷ [])))
-    (threads_born (length s.processes) s.threads s.lists c.self.invariant few))
+    let processes : length s.processes.items ≤ 65536 = rw (← c.self.view_is) at c.requires.processes in
+    let threads : length s.threads.items ≤ 65536 = rw (← c.self.view_is) at c.requires.threads in
+    let number : c.next_process-process.result ≡ length s.processes.items =
+    c.next_process-process.ensures ∙ ap (λ (l : ProcessesState). length l.processes) (sym c.self.view_is) in
+    rw (
+      c.push_reserved.ensures.items,
+      c.push_reserved-2.ensures.items,
+      c.add_process.ensures,
+      c.reserve.ensures.items,
+      c.reserve-2.ensures.items,
+      c.reserve-3.ensures.items,
+      c.reserve-4.ensures.items,
+      number,
+      length-append s.processes.items (Some c.args.session ∷ []),
+    ) (
+      threads_born (length s.processes.items) s.threads.items (state_of s.lists) c.self.invariant.0 threads,
+      omega (arith, processes),
+    )

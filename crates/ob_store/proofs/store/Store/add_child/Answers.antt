@@ -6,7 +6,6 @@ use Rattle.ob_store.specs.Parts.{parts_of}
 use Rattle.ob_store.specs.State.{Whole, settled, with_child}
 use Rattle.ob_store.proofs.ChildLaws.{child_read, kept_child, settled_child, inherited_live, inherited_few}
 use Rattle.ob_store.proofs.KeptLaws.{whole_kept}
-use Rattle.ob_store.proofs.ThreadListLaws.{newest}
 use Rattle.ob_store.proofs.store.Store.add_child.Goals as goal
 
 pub handles_came-requires-clause-live : goal.handles_came-requires-clause-live
@@ -14,39 +13,35 @@ handles_came-requires-clause-live g c =
     let p = parts_of c.self.inside.parts in
     inherited_live p c.self.invariant c.args.parent _ c.self.view_is c.requires.parent c.kept.ensures _
     (child_read p c.self.invariant c.args.parent _ c.self.view_is c.requires.parent _ _ _ c.entries.ensures.places
-    c.in-Ok.ensures.number c.in-Ok.ensures.ok)
+    c.in_ok-child.ensures.number c.in_ok-child.ensures.table)
 
 pub handles_came-requires-clause-room : goal.handles_came-requires-clause-room
 handles_came-requires-clause-room g c = inherited_few (parts_of c.self.inside.parts) c.self.invariant c.args.parent _
-    c.self.view_is c.requires.parent c.copy_inheritable.ensures.bounded
+    c.self.view_is c.requires.parent c.in_ok-child.ensures.bounded
 
-pub invariant_of-self-in-Ok : goal.invariant_of-self-in-Ok
-invariant_of-self-in-Ok g c =
+pub invariant_of-self-2 : goal.invariant_of-self-2
+invariant_of-self-2 g c =
     let p = parts_of c.self.inside.parts in
     let came : c.handles_came.new.self ≡ with_handles_of p.objects (inherited (table_of p.tables.tables c.args.parent))
     = c.handles_came.ensures ∙ ap (with_handles_of p.objects) (child_read p c.self.invariant c.args.parent _
-    c.self.view_is c.requires.parent _ _ _ c.entries.ensures.places c.in-Ok.ensures.number c.in-Ok.ensures.ok) in
-    rw (c.in_ok-add_process.ensures.ok, c.in-Ok.ensures.ok, came)
+    c.self.view_is c.requires.parent _ _ _ c.entries.ensures.places c.in_ok-child.ensures.number
+    c.in_ok-child.ensures.table) in
+    rw (c.in_ok-child.ensures.ok, c.in_ok-child.ensures.table, came)
     (kept_child p c.self.invariant c.args.parent _ c.self.view_is c.requires.parent c.args.session
     c.requires.processes c.requires.threads)
 
-pub returns-in-Ok-clause-ok : goal.returns-in-Ok-clause-ok
-returns-in-Ok-clause-ok g c =
+pub returns-clause-ok : goal.returns-clause-ok
+returns-clause-ok g c =
     let p = parts_of c.self.inside.parts in
     let came : c.handles_came.new.self ≡ with_handles_of p.objects (inherited (table_of p.tables.tables c.args.parent))
     = c.handles_came.ensures ∙ ap (with_handles_of p.objects) (child_read p c.self.invariant c.args.parent _
-    c.self.view_is c.requires.parent _ _ _ c.entries.ensures.places c.in-Ok.ensures.number c.in-Ok.ensures.ok) in
+    c.self.view_is c.requires.parent _ _ _ c.entries.ensures.places c.in_ok-child.ensures.number
+    c.in_ok-child.ensures.table) in
     whole_kept (record p {
       processes = c.add_process.new.self;
-      tables = c.copy_inheritable.new.self;
+      tables = c.add_process.new.tables;
       objects = c.handles_came.new.self;
-    }) (invariant_of-self-in-Ok g c) c.kept-in-Ok.ensures
-    ∙ rw (c.in_ok-add_process.ensures.ok, c.in-Ok.ensures.ok, came)
+    }) (invariant_of-self-2 g c) c.kept-2.ensures
+    ∙ rw (c.in_ok-child.ensures.ok, c.in_ok-child.ensures.table, came)
     (settled_child p c.self.invariant c.args.parent _ c.self.view_is c.requires.parent c.args.session)
     ∙ ap (λ (w : Whole). record w { state = settled (with_child w.state c.args.parent c.args.session) }) c.self.view_is
-
-pub take_back-requires : goal.take_back-requires
-take_back-requires g c =
-    let s = c.self.inside.parts in
-    rw c.in_ok-add_process.ensures.ok (newest s.limits s.processes
-    s.tables.tables c.args.session c.self.invariant.sound.processes_kept)
