@@ -1,5 +1,5 @@
 -- Lists of what stands at each place.
-use Rattle.std.proofs.Common.{◌≡◌, arith, None, set, ℕ, List, [], ◌∷◌, ◌++◌, Option}
+use Rattle.std.proofs.Common.{arith, None, set, ℕ, List, [], ◌∷◌, ◌++◌, Option}
 use Rattle.std.proofs.lemmas.List.{get_or-set_other, get_or-set_same, length-append, length-set}
 use Rattle.std.proofs.Math.ListN.{get_or-append}
 use Rattle.ob_store.specs.Processes.{IsFromOne}

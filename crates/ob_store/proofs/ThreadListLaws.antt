@@ -1,9 +1,9 @@
 -- The threads of each process, counted and linked, while threads come and end.
 use Rattle.ob_codec.proofs.AtPlace.{at_place}
 use Rattle.std.proofs.Common.{◌≡◌, ◌≢◌, ℕ, zero, suc, ◌-◌, ◌+◌, ◌<◌, ◌≤◌, List, [], ◌∷◌, ◌++◌, length, Option, Some, None, refl, ap, ◌∙◌, sym, subst, arith, get_or, set, Bool, true, false, cond, inl, inr}
-use Rattle.std.specs.Prelude.{◌⊎◌, IfSome, ◌||◌, count_by, nat_lt}
+use Rattle.std.specs.Prelude.{◌⊎◌, ◌||◌, count_by, nat_lt}
 use Rattle.std.specs.List.{list_any}
-use Rattle.std.proofs.lemmas.List.{length-set, length-append, length-replicate, get_or-replicate, get_or_past, get_or-set_same, get_or-set_other}
+use Rattle.std.proofs.lemmas.List.{length-set, length-append, length-replicate, get_or-replicate, get_or_past, get_or_read, get_or-set_same, get_or-set_other}
 use Rattle.std.proofs.Math.ListN.{get_or-append}
 use Rattle.std.proofs.Math.Seq.{get_or-append_seam}
 use Rattle.std.proofs.lemmas.List.Sums.{sum_by-set, sum_by-append, sum_by-cons}
@@ -11,7 +11,7 @@ use Rattle.std.proofs.lemmas.Bool.{cases_eq, cases_lt, ltb-false, ltb-true}
 use Rattle.ob_store.specs.declared.thread_lists.ThreadList.{ThreadList}
 use Rattle.ob_store.specs.declared.thread_lists.ThreadLink.{ThreadLink}
 use Rattle.ob_store.specs.Processes.{is_of}
-use Rattle.ob_store.specs.ThreadLists.{ThreadListsState, AreThreadLists, is_empty, link_at, list_at, no_link, no_list, no_threads, with_link, with_list, with_place, without_live}
+use Rattle.ob_store.specs.ThreadLists.{ThreadListsState, AreThreadLists, is_empty, link_at, list_at, no_link, no_list, no_threads, with_link, with_list, without_live}
 use Rattle.ob_store.proofs.EndLaws.{some_set}
 
 abbrev one_in : ℕ → Option ℕ → ℕ
@@ -48,7 +48,7 @@ no_live (x ∷ ts) p none = let a = sum_by-cons (one_in p) x ts in let b = no_li
 module _ (n : ℕ) (ts : List (Option ℕ)) (m : ThreadListsState) (are : AreThreadLists n ts m)
     (few : length ts ≤ 65536) where
   abbrev born : ThreadListsState
-  born = with_list m
+  born = with_list m n (length ts)
 
   abbrev started : List (Option ℕ)
   started = ts ++ Some n ∷ []
@@ -66,11 +66,7 @@ module _ (n : ℕ) (ts : List (Option ℕ)) (m : ThreadListsState) (are : AreThr
   link_old t lt = search (arith, get_or-append)
 
   link_new : (t : ℕ) → t ≡ length ts → (link_at born t).process ≡ n
-  link_new t same = ap (λ i. (link_at born i).process) (same ∙ sym are.links_long)
-      ∙ ap (λ (x : ThreadLink). x.process) (get_or-append_seam m.links (record {
-        process = length m.lists;
-        next = 0;
-      }) [] no_link) ∙ are.lists_long
+  link_new t same = search (arith, get_or-append_seam)
 
   process_old : (t p : ℕ) → t < length ts → (link_at born t).process ≡ p → (link_at m t).process ≡ p
   process_old t p lt h = sym (ap (λ (x : ThreadLink). x.process) (link_old t lt)) ∙ h
@@ -81,7 +77,7 @@ module _ (n : ℕ) (ts : List (Option ℕ)) (m : ThreadListsState) (are : AreThr
   none_yet : (t : ℕ) → get_or ts t None ≡ Some n → ⊥
   none_yet t h = search (arith, are.given)
 
-  pub threads_born : AreThreadLists (n + 1) (ts ++ Some n ∷ []) (with_list m)
+  pub threads_born : AreThreadLists (n + 1) (ts ++ Some n ∷ []) (with_list m n (length ts))
   threads_born = record {
     lists_long = search (arith, length-append);
     links_long = search (arith, length-append);
@@ -442,18 +438,17 @@ module _ (n : ℕ) (ts : List (Option ℕ)) (m : ThreadListsState) (t0 p0 : ℕ)
     last = search (arith, get_or-set_same, get_or-set_other, length-set);
   }
 
--- the next thread number, of a live process or gone
+-- the next thread number, gone
 module _ (n : ℕ) (ts : List (Option ℕ)) (m : ThreadListsState) (are : AreThreadLists n ts m)
     (few : length ts ≤ 65536) where
   gone_at_end : (xs : List (Option ℕ)) (p : ℕ) → set (xs ++ Some p ∷ []) (length xs) None ≡ xs ++ None ∷ []
   gone_at_end [] p = refl
   gone_at_end (x ∷ xs) p = search (arith, gone_at_end xs p)
 
-  pub threads_placed : (x : Option ℕ) → 0 < n → IfSome x (λ p. p < n)
-      → AreThreadLists n (ts ++ x ∷ []) (with_place m x)
-  threads_placed None some known = subst (λ (l : List (Option ℕ)). AreThreadLists n l (with_place m None))
+  pub threads_gone : 0 < n → AreThreadLists n (ts ++ None ∷ []) (without_live (with_link m 0) 0)
+  threads_gone some =
+      subst (λ (l : List (Option ℕ)). AreThreadLists n l (without_live (with_link m 0) 0))
       (gone_at_end ts 0) (search (arith, threads_grown, threads_less, get_or-append_seam))
-  threads_placed (Some p) some known = threads_grown n ts m p are known few
 
 -- an element passes where one is counted
 any_counted : (p : Option ℕ → Bool) (xs : List (Option ℕ)) → nat_lt 0 (count_by p xs) ≡ list_any p xs
@@ -478,12 +473,17 @@ module _ (n : ℕ) (ts : List (Option ℕ)) (m : ThreadListsState) (are : AreThr
   pub has_live_is : (p : ℕ) → nat_lt 0 (list_at m p).live ≡ list_any (is_of p) ts
   has_live_is p = search (arith, any_counted, live_is)
 
-  pub past_next : (p t u : ℕ) → (link_at m t).process ≡ p → (list_at m p).first ≤ t → get_or ts u None ≡ Some p → t < u
-      → (t < (link_at m t).next) × ((link_at m t).next ≤ u)
-  past_next p t u mine since h less =
-      let was = are.given u p h in
-      are.next p t u was.0 (elim (cases_lt u (length ts)) [
-        | inl lt ↦ lt
-        | inr le ↦
-            absurd (let a = get_or_past ts u None le in cc (a, h))
-      ]) mine was.1 since less
+  pub past_next : (p t u : ℕ) (link : ThreadLink) (list : ThreadList) → link ≡ get_or m.links t link → t < length ts
+      → link.process ≡ p → list ≡ list_at m p → list.first ≤ t → get_or ts u None ≡ Some p → t < u
+      → (t < link.next) × (link.next ≤ u)
+  past_next p t u link list read lt mine is since h less = search (arith, past, get_or_read)
+    where
+      past : (link_at m t).process ≡ p → (list_at m p).first ≤ t
+          → (t < (link_at m t).next) × ((link_at m t).next ≤ u)
+      past mine since =
+          let was = are.given u p h in
+          are.next p t u was.0 (elim (cases_lt u (length ts)) [
+            | inl lt ↦ lt
+            | inr le ↦
+                absurd (let a = get_or_past ts u None le in cc (a, h))
+          ]) mine was.1 since less

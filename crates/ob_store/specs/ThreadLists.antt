@@ -32,10 +32,10 @@ no_threads n = record {
 }
 
 -- the next process, with the next thread
-abbrev pub with_list : ThreadListsState → ThreadListsState
-with_list m = record {
-  lists = m.lists ++ (record { live = 1; first = length m.links; last = length m.links }) ∷ [];
-  links = m.links ++ (record { process = length m.lists; next = 0 }) ∷ [];
+abbrev pub with_list : ThreadListsState → ℕ → ℕ → ThreadListsState
+with_list m p t = record {
+  lists = m.lists ++ (record { live = 1; first = t; last = t }) ∷ [];
+  links = m.links ++ (record { process = p; next = 0 }) ∷ [];
 }
 
 abbrev pub is_empty : ThreadList → Bool
@@ -62,16 +62,6 @@ with_link m p = record {
 -- a live thread of a process ends
 abbrev pub without_live : ThreadListsState → ℕ → ThreadListsState
 without_live m p = record m { lists = slice_set m.lists p (record (list_at m p) { live = (list_at m p).live - 1 }) }
-
--- whose a thread number is: one that is gone comes to process 0, over whose threads nobody walks
-abbrev pub process_of : Option ℕ → ℕ
-process_of None = 0
-process_of (Some p) = p
-
--- the next thread number
-abbrev pub with_place : ThreadListsState → Option ℕ → ThreadListsState
-with_place m None = without_live (with_link m 0) 0
-with_place m (Some p) = with_link m p
 
 -- what the counts and links are worth, beside the process of each live thread
 pub record AreThreadLists (processes : ℕ) (threads : List (Option ℕ)) (m : ThreadListsState) : Type 0 where

@@ -19,7 +19,7 @@ pub(crate) fn are_of_live(processes: &Vec<Option<u32>>, threads: &Vec<Option<u32
     })
 }
 
-/// Links the next thread number to its process.
+/// Links the next thread number to its process. One that is gone comes to process 0, over whose threads nobody walks.
 fn link_next(
     lists: &mut ThreadLists,
     processes: u32,
@@ -34,7 +34,13 @@ fn link_next(
     ensures { OnOk result (AreThreadLists processes (take (thread + 1) threads.now) (state_of lists.new)) }
 {
     lists.links.reserve(1)?;
-    lists.add_place(threads[thread]);
+    match threads[thread] {
+        Some(process) => lists.add_thread(process),
+        None => {
+            lists.add_thread(0);
+            lists.end_thread(0);
+        }
+    }
     Ok(())
 }
 

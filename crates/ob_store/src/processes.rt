@@ -13,7 +13,7 @@ ghost use Rattle.ob_store.specs.SavedProcesses.{ListsFit, are_populated, is_popu
 use crate::finding::next_place;
 use crate::linking_threads::{are_of_live, link_threads};
 use crate::numbers::{leave, number_at, read_numbers};
-use crate::thread_lists::ThreadLists;
+use crate::thread_lists::{ThreadLink, ThreadList, ThreadLists};
 use ob_codec::{Cursor, ReadFault, TextFault, write_list};
 use ob_tables::Tables;
 use std::alloc::{AllocError, Global};
@@ -55,10 +55,7 @@ fn add_table(tables: &mut Tables, parent: Option<u32>) -> Result<u32, AllocError
         Some(process) => tables.copy_inheritable(process),
         None => tables.add_process(),
     };
-    match added {
-        Ok(process) => Ok(process),
-        Err(_) => Err(AllocError),
-    }
+    added.map_err(|_| AllocError)
 }
 
 impl Processes {
@@ -182,6 +179,7 @@ impl Processes {
             IsBounded tables.old.process_limit tables.old.handle_limit tables.old.tables)) }
     {
         let process = self.next_process();
+        let thread = self.next_thread();
         self.processes.reserve(1)?;
         self.threads.reserve(1)?;
         self.lists.lists.reserve(1)?;
@@ -189,7 +187,14 @@ impl Processes {
         let added = add_table(tables, parent)?;
         self.processes.push_reserved(Some(session));
         self.threads.push_reserved(Some(process));
-        self.lists.add_process();
+        self.lists.lists.push_reserved(ThreadList {
+            live: 1,
+            first: thread,
+            last: thread,
+        });
+        self.lists
+            .links
+            .push_reserved(ThreadLink { process, next: 0 });
         Ok(added)
     }
 
@@ -214,7 +219,7 @@ impl Processes {
         ensures greater { thread < result }
         ensures none { (t : ℕ) → slice_index_or self.now.threads t None ≡ Some process → thread < t → result ≤ t }
     {
-        let link = self.lists.link(thread);
+        let link = self.lists.links[thread as usize];
         if link.process != process || thread < self.lists.list(process).first {
             return thread + 1;
         }

@@ -1,6 +1,6 @@
 ghost use Rattle.std.specs.Prelude.{◌≡◌, ◌<◌, ◌≤◌, IfOk, length, vec_capacity, vec_len};
-ghost use Rattle.ob_store.specs.ThreadLists.{is_empty, link_at, linked, list_at, no_threads, process_of};
-ghost use Rattle.ob_store.specs.ThreadLists.{state_of, with_last, with_link, with_list, with_place, without_live};
+ghost use Rattle.ob_store.specs.ThreadLists.{is_empty, linked, list_at, no_threads, state_of, with_last, with_link};
+ghost use Rattle.ob_store.specs.ThreadLists.{without_live};
 
 use std::alloc::{AllocError, Global};
 
@@ -79,24 +79,6 @@ impl ThreadLists {
         })
     }
 
-    /// Adds the next process, with the next thread. It takes no memory.
-    pub(crate) fn add_process(&mut self)
-        requires lists { vec_len self.old.lists < vec_capacity self.old.lists }
-        requires links { vec_len self.old.links < vec_capacity self.old.links }
-        requires few_lists { length self.old.lists.items ≤ 65536 }
-        requires few_links { length self.old.links.items ≤ 65536 }
-        ensures { state_of self.new ≡ with_list (state_of self.old) }
-    {
-        let process = self.lists.len() as u32;
-        let thread = self.links.len() as u32;
-        self.lists.push_reserved(ThreadList {
-            live: 1,
-            first: thread,
-            last: thread,
-        });
-        self.links.push_reserved(ThreadLink { process, next: 0 });
-    }
-
     /// Adds the next thread, of a process. It takes no memory.
     pub(crate) fn add_thread(&mut self, process: u32)
         requires room { vec_len self.old.links < vec_capacity self.old.links }
@@ -112,26 +94,6 @@ impl ThreadLists {
         let list = self.lists[process as usize];
         link_last(&mut self.links, list, thread);
         self.lists[process as usize] = list.with_last(thread);
-    }
-
-    /// Adds the next thread number: a live thread of a process, or one that is gone. It takes no memory.
-    pub(crate) fn add_place(&mut self, place: Option<u32>)
-        requires room { vec_len self.old.links < vec_capacity self.old.links }
-        requires process { process_of place < length self.old.lists.items }
-        requires count { (list_at (state_of self.old) (process_of place)).live ≤ 65537 }
-        requires last { (list_at (state_of self.old) (process_of place)).first
-            ≤ (list_at (state_of self.old) (process_of place)).last
-            → (list_at (state_of self.old) (process_of place)).last < length self.old.links.items }
-        requires links { length self.old.links.items ≤ 65536 }
-        ensures { state_of self.new ≡ with_place (state_of self.old) place }
-    {
-        match place {
-            Some(process) => self.add_thread(process),
-            None => {
-                self.add_thread(0);
-                self.end_thread(0);
-            }
-        }
     }
 
     /// Counts one live thread of a process fewer: it ends.
@@ -156,21 +118,6 @@ impl ThreadLists {
                 live: 0,
                 first: 0,
                 last: 0,
-            }
-        }
-    }
-
-    /// The process of a thread, and the next thread that the process was given.
-    pub(crate) fn link(&self, thread: u32) -> ThreadLink
-        ensures { result ≡ link_at (state_of self.now) thread }
-    {
-        let at = thread as usize;
-        if at < self.links.len() {
-            self.links[at]
-        } else {
-            ThreadLink {
-                process: 0,
-                next: 0,
             }
         }
     }
