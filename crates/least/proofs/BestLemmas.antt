@@ -60,15 +60,10 @@ least_at_root dues best all = record {
     by (Some m) e = from_place dues best m (length best) 0 (omega arith) all e
 
 -- where the least comes later, each does
-pub none_by : (now : ℕ) (dues best : List (Option ℕ)) → IsBest dues best → is_by now (due_at best 0) ≡ false → (k : ℕ)
-    → is_by now (due_at dues k) ≡ false
-none_by now dues best all late k = by (due_at dues k) (due_at best 0) late ((least_at_root dues best all).first k)
-  where
-    by : (x least : Option ℕ) → is_by now least ≡ false → ((m : ℕ) → x ≡ Some m → NotAfter least m)
-        → is_by now x ≡ false
-    by None least late first = refl
-    by (Some m) None late first = absurd (first m refl)
-    by (Some m) (Some l) late first = let le : l ≤ m = first m refl in grind arith
+pub none_by : (now : ℕ) (dues : List (Option ℕ)) (least : Option ℕ) → IsLeast dues least → is_by now least ≡ false
+    → (k : ℕ) → is_by now (due_at dues k) ≡ false
+none_by now dues None is late k = search (arith, is.first k)
+none_by now dues (Some l) is late k = search (arith, is.first k)
 
 -- one place is written, as it has to be
 pub written : (dues best : List (Option ℕ)) (place : ℕ) (due : Option ℕ) → place < length best

@@ -47,8 +47,8 @@ impl Dues {
         })
     }
 
-    /// Makes a list longer that has no such place. This is the one call that takes memory of a list that stands, and
-    /// the moments stay.
+    /// Adds places without a moment, up to this one. This is the one call that takes memory of a list that stands, and
+    /// where that is wanting no moment changes.
     #[inline]
     pub fn make_room(&mut self, place: u32) -> Result<(), AllocError>
         ensures room { OnOk result (place < length self.new) }
@@ -101,7 +101,8 @@ impl Dues {
         Some(place_of_least(&self.dues, &self.best) as u32)
     }
 
-    fn write(&mut self, place: u32, due: Option<u64>)
+    /// Writes the moment at a place, or takes it away.
+    pub fn set(&mut self, place: u32, due: Option<u64>)
         requires { place < length self.old }
         ensures { self.new ≡ slice_set self.old place due }
     {
@@ -109,8 +110,7 @@ impl Dues {
         raise(&self.dues, &mut self.best, place as usize);
     }
 
-    /// Writes the moment at a place, or takes it away, where what stands there is known. Where that stays, no more is
-    /// done.
+    /// The same, where it is known what stands there: no more is done where that stays.
     #[inline(always)]
     pub fn moved(&mut self, place: u32, before: Option<u64>, after: Option<u64>)
         requires within { place < length self.old }
@@ -118,17 +118,8 @@ impl Dues {
         ensures { self.new ≡ slice_set self.old place after }
     {
         if before != after {
-            self.write(place, after);
+            self.set(place, after);
         }
-    }
-
-    /// Writes the moment at a place, or takes it away. Where it stays, no more is done.
-    #[inline]
-    pub fn set(&mut self, place: u32, due: Option<u64>)
-        requires { place < length self.old }
-        ensures { self.new ≡ slice_set self.old place due }
-    {
-        self.moved(place, self.get(place), due);
     }
 
     /// Takes the moment at a place away, if there is such a place.
@@ -136,7 +127,7 @@ impl Dues {
         ensures { self.new ≡ slice_set self.old place None }
     {
         if (place as usize) < self.dues.len() {
-            self.write(place, None);
+            self.set(place, None);
         }
     }
 }

@@ -85,10 +85,11 @@ fn due_of(body: Option<Body>) -> Option<u64>
 /// Forgets the timer of a slot whose body went, if it was set.
 #[inline]
 fn due_left(timers: &mut Dues, slot: u32, due: Option<u64>)
+    requires { slot < length timers.old }
     ensures { timers.new ≡ due_left timers.old slot due }
 {
     if due.is_some() {
-        timers.clear(slot);
+        timers.set(slot, None);
     }
 }
 

@@ -247,7 +247,9 @@ impl Waits {
             deadline,
             state: State::Pending(mode, list),
         })?;
-        self.deadlines.set(thread, deadline);
+        // Most waits have no deadline.
+        let before = self.deadlines.get(thread);
+        self.deadlines.moved(thread, before, deadline);
         Ok(number)
     }
 

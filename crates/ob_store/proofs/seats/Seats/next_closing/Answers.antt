@@ -1,16 +1,13 @@
-use Rattle.std.proofs.Common.{◌∙◌, ap}
 use Rattle.least.specs.Taken.{is_free_within}
 use Rattle.least.proofs.NextLemmas.{same_test}
 use Rattle.ob_store.specs.Closing.{is_closing_in}
-use Rattle.ob_store.specs.Objects.{Places, tags_in}
+use Rattle.ob_store.specs.Objects.{tags_in}
 use Rattle.ob_store.proofs.ClosingLaws.{closing_read}
 use Rattle.ob_store.proofs.seats.Seats.next_closing.Goals as goal
 
 pub returns : goal.returns
 returns c =
     let i = c.self.inside in
-    same_test (is_free_within i.closing) (is_closing_in c.args.self.now.objects c.args.self.now.seen.bodies) c.args.from
-    c.next_free.result
-    (λ k. closing_read i.arena.bodies (tags_in i.labels.items i.names.items) i.closing k c.self.invariant.opened
-    ∙ ap (λ (p : Places). is_closing_in p.objects p.seen.bodies k) c.self.view_is)
-    c.next_free.ensures
+    rw (← c.self.view_is) (same_test (is_free_within i.closing) (is_closing_in _ _) c.args.from c.next_free.result
+    (λ k. closing_read i.arena.bodies (tags_in i.labels.items i.names.items) i.closing k c.self.invariant.opened)
+    c.next_free.ensures)

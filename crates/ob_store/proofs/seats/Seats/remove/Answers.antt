@@ -1,8 +1,7 @@
-use Rattle.std.proofs.Common.{true, ◌≡◌, ◌∙◌, ap, refl, sym, subst, get_or, length, map, None}
+use Rattle.std.proofs.Common.{true, ◌≡◌, ◌∙◌, ap, refl, sym, subst, length, map, None}
 use Rattle.std.proofs.lemmas.List.{length-set}
 use Rattle.ob_store.specs.Objects.{tags_in, Places, places_of, without_seat}
 use Rattle.ob_store.proofs.SeatLaws.{seat_of, places_removed, vacant_same, mapped_set}
-use Rattle.std.specs.Prelude.{IsSome}
 use Rattle.ob_arena.specs.Slots.{Slots}
 use Rattle.ob_store.specs.declared.seat.Seat.{Seat}
 use Rattle.ob_store.specs.Owners.{IsOwned}
@@ -29,10 +28,8 @@ returns-clause-value c = ap (λ (s : Slots Seat). places_of s
 
 pub invariant_of-self : goal.invariant_of-self
 invariant_of-self c =
-    let there = subst (λ (p : Places). IsSome (get_or p.objects c.args.slot None))
-    (sym c.self.view_is) c.requires.object in
-    let ended = subst (λ (p : Places). get_or p.seen.bodies c.args.slot None ≡ None)
-    (sym c.self.view_is) c.requires.ended in
+    let there = rw (← c.self.view_is) at c.requires.object in
+    let ended = rw (← c.self.view_is) at c.requires.ended in
     record {
       labelled = c.self.invariant.labelled ∙ sym (ap (λ (s : Slots Seat). length s.bodies) c.take.ensures.after
           ∙ length-set c.self.inside.arena.bodies c.args.slot None);
@@ -51,9 +48,7 @@ invariant_of-self c =
 
 pub take-requires-2 : goal.take-requires-2
 take-requires-2 c =
-    let there = subst (λ (p : Places). IsSome (get_or p.objects c.args.slot None))
-    (sym c.self.view_is) c.requires.object in
-    let ended = subst (λ (p : Places). get_or p.seen.bodies c.args.slot None ≡ None)
-    (sym c.self.view_is) c.requires.ended in
+    let there = rw (← c.self.view_is) at c.requires.object in
+    let ended = rw (← c.self.view_is) at c.requires.ended in
     ended_here c.self.inside.arena.bodies (tags_in c.self.inside.labels.items c.self.inside.names.items)
     c.self.inside.closing c.args.slot c.self.invariant.opened there ended

@@ -21,13 +21,13 @@ invariant_of-self-2 c =
     ++ Some (new_wait c.args.thread c.args.mode c.args.ids.now c.args.deadline) ∷ [] =
     search arith in
     subst (λ (ws : List (Option Wait)). IsTracked c.self.inside.limit ws c.make_room.new.self
-    × AreTimely c.self.inside.clock ws c.set.new.self) (sym waits) (
+    × AreTimely c.self.inside.clock ws c.moved.new.self) (sym waits) (
       tracked_added c.self.inside.limit c.self.inside.live c.self.inside.roster c.make_room.new.self number
           c.args.thread c.args.mode c.args.ids.now c.args.deadline
           len (omega arith) below c.requires.waitable alone c.self.invariant.0 c.in_ok-make_room.ensures.right
           c.in_ok-make_room.ensures.place,
       subst (AreTimely c.self.inside.clock (c.self.inside.live
-          ++ Some (new_wait c.args.thread c.args.mode c.args.ids.now c.args.deadline) ∷ [])) (sym c.set.ensures)
+          ++ Some (new_wait c.args.thread c.args.mode c.args.ids.now c.args.deadline) ∷ [])) (sym c.moved.ensures)
           (timely_added c.self.inside.clock c.self.inside.live c.args.thread c.args.mode c.args.ids.now c.args.deadline
           c.self.inside.deadlines c.make_room-2.new.self alone
           (subst (λ (l : WaitList). IsAfter l.clock c.args.deadline) (sym c.self.view_is) c.requires.ahead)
