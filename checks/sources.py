@@ -1,4 +1,5 @@
-"""What the sources have by which name, for the checks of pages: the functions of crates/*/src with their clauses, and what each type has."""
+"""What the sources have by which name, for the checks of pages: the functions of crates/*/src with their clauses, what each type has, and
+the definitions of crates/*/specs with what they stand on."""
 
 import re
 
@@ -77,3 +78,75 @@ class Sources:
         """The first part of a path that the part before it, where that is one of these sources, doesn't have."""
         parts = path.split("::")
         return next((f"{one}::{other}" for one, other in zip(parts, parts[1:]) if one in self.members and other not in self.members[one]), None)
+
+
+class Definitions:
+    """The definitions of crates/*/specs, each by its file and its name with its lines, and by file the names that are used there."""
+
+    def __init__(self):
+        self.lines, self.scopes, self.files = {}, {}, {}
+        for file in sorted(ROOT.glob("crates/*/specs/*.antt")):
+            at, key, is_data, pad = f"{file.parent.parent.name}/{file.stem}", None, False, ""
+            self.scopes[at], self.files[at] = {}, []
+            for line in (re.sub(r"\s*--( .*)?$", "", it) for it in file.read_text().splitlines()):
+                if used := re.match(r"use Rattle\.(\w+)\.specs\.([\w.]+?)(?:\.\{(.*)\})?(?: as (\w+))?$", line):
+                    self.use(at, *used.groups())
+                pad = "  " if line.startswith("module ") else pad if line.startswith(" ") or not line else ""
+                if not line or re.match(r"(use|infix\w*|module) ", line):
+                    continue
+                if head := re.match(rf"{pad}(?:(?:abbrev|unfoldable|pub) )+(?:record |(data ))?([^\s({{]+)|{pad}([^\s({{]+)(?: \{{.*?\}})* :", line):
+                    key, is_data = (at, head[2] or head[3]), head[1]
+                    self.lines[key] = []
+                elif is_data and (case := re.match(rf"{pad}  (?:pub )?([^\s({{]+) :", line)):
+                    self.scopes[at][case[1]] = key
+                if key:
+                    self.lines[key].append(line)
+
+    def use(self, at, crate, path, words, alias):
+        of = f"{crate}/{path}"
+        self.files[at].append(of)
+        self.scopes[at] |= {new or old: (of, old) for old, new in re.findall(r"([^\s,]+)(?: as ([^\s,]+))?", words or "")}
+        self.scopes[at][f"{alias or path.split('.')[-1]}."] = of, ""
+
+    def found(self, at, word):
+        """The definition that a word of a file stands for, or nothing."""
+        one, dot, rest = word.partition(".")
+        key = (self.scopes[at][f"{one}."][0], rest.split(".")[0]) if dot and f"{one}." in self.scopes[at] else self.scopes[at].get(one, (at, one))
+        # (a case of a definition stands for the whole)
+        key = self.scopes.get(key[0], {}).get(key[1], key) if key not in self.lines else key
+        return key if key in self.lines else None
+
+    def closure(self, *keys):
+        """What these stand on, with themselves."""
+        left, all = list(keys), set()
+        while left:
+            if (key := left.pop()) and key not in all:
+                all.add(key)
+                words = set(re.findall(r"[^\s(){}\[\],;]+", "\n".join(self.lines[key])))
+                # (a `do` is read by this operator)
+                left += [self.found(key[0], it) for it in words | ({"◌>>=◌"} if words & {"do", ">>="} else set())]
+        return all
+
+    def parts(self):
+        """What the theorems and the clauses of their laws stand on: first all that has nothing to do with savestates, then the rest."""
+        seeds = [it for it in self.lines if it[0] == "obman_theorems/Theorems"]
+        for of, words in re.findall(r"^ghost use Rattle\.([\w.]+)\.\{(.*)\};$", (ROOT / "crates/obman_theorems/src/law.rt").read_text(), re.M):
+            seeds += [it for word in words.split(", ") if (it := (of.replace(".specs.", "/"), word)) in self.lines]
+        saves = {it for it in self.lines if it[0] == "ob_manager/Savestates"}
+        first = self.closure(*(it for it in seeds if not self.closure(it) & saves))
+        return [first, self.closure(*seeds) - first]
+
+    def in_order(self, keys):
+        """The files of these, each behind those that it uses, and lower crates first."""
+        order = []
+
+        def put(file):
+            if file in self.files and file not in order:
+                for it in self.files[file]:
+                    put(it)
+                order.append(file)
+
+        crates = re.findall(r"^(\w+).*:", (ROOT / "crates.txt").read_text(), re.M)
+        for file in sorted({at for at, _ in keys}, key=lambda it: (crates.index(it.split("/")[0]), it)):
+            put(file)
+        return [it for it in order if any(at == it for at, _ in keys)]
