@@ -1,6 +1,6 @@
 -- The threads of each process, counted and linked, while threads come and end.
 use Rattle.ob_codec.proofs.AtPlace.{at_place}
-use Rattle.std.proofs.Common.{◌≡◌, ◌≢◌, ℕ, zero, suc, ◌-◌, ◌+◌, ◌<◌, ◌≤◌, List, [], ◌∷◌, ◌++◌, length, Option, Some, None, refl, ap, ◌∙◌, sym, subst, arith, get_or, set, Bool, true, false, cond, inl, inr}
+use Rattle.std.proofs.Common.{◌≡◌, ◌≢◌, ℕ, suc, ◌-◌, ◌+◌, ◌<◌, ◌≤◌, List, [], ◌∷◌, ◌++◌, length, Option, Some, None, refl, ap, ◌∙◌, sym, subst, arith, get_or, set, Bool, true, false, cond, inl, inr}
 use Rattle.std.specs.Prelude.{◌⊎◌, ◌||◌, count_by, nat_lt}
 use Rattle.std.specs.List.{list_any}
 use Rattle.std.proofs.lemmas.List.{length-set, length-append, length-replicate, get_or-replicate, get_or_past, get_or_read, get_or-set_same, get_or-set_other}
@@ -83,87 +83,50 @@ module _ (n : ℕ) (ts : List (Option ℕ)) (m : ThreadListsState) (are : AreThr
     links_long = search (arith, length-append);
     at_most = omega (arith, long_started);
     counted = λ p lt. elim (cases_lt p n) [
-      | inl old ↦ (let a = ap (λ (g : ThreadList). g.live) (list_old p old) in let b = are.counted p old in
-          let c = counted_more ts n p in let d = one_other ts n p (omega arith) in omega arith)
+      | inl old ↦
+          let other = one_other ts n p (omega arith) in search (arith, list_old, are.counted, counted_more)
       | inr le ↦ (let same = at_last p le lt in let a = ap (λ (g : ThreadList). g.live) (list_new p same) in
           let c = counted_more ts n n in let d = one_same ts n in let e = no_live ts n none_yet in
           let f : (list_at born p).live ≡ count_by (is_of n) started = omega arith in
           search arith)
     ];
     given = λ t p h. elim (live_more ts n t p h) [
-      | inl old ↦ (let was = are.given t p old.1 in (
-        omega arith,
-        ap (λ (x : ThreadLink). x.process) (link_old t old.0)
-            ∙ was.1,
-        (let a = ap (λ (g : ThreadList). g.first) (list_old p was.0) in omega arith),
-      ))
-      | inr new ↦ (
-        omega arith,
-        link_new t new.0
-            ∙ sym new.1,
-        (let a = ap (λ (g : ThreadList). g.first) (list_new p new.1) in omega arith),
-      )
+      | inl old ↦
+          let was = are.given t p old.1 in
+          let list = list_old p was.0 in
+          let link = link_old t old.0 in search arith
+      | inr new ↦ search (arith, list_new, link_new)
     ];
     next = λ p t u below small mine same since less. elim (cases_lt p n) [
       | inl old ↦ elim (cases_eq u (length ts)) [
         | inl is ↦ search (arith, get_or-append_seam)
-        | inr other ↦
-            let within : u < length ts = search (arith, length-append) in
-            let before : t < length ts = omega arith in
-            let a = ap (λ (g : ThreadList). g.first) (list_old p old) in
-            let b = ap (λ (x : ThreadLink). x.next) (link_old t before) in
-            let c = are.next p t u old within (process_old t p before mine) (process_old u p within same)
-            (omega arith) less in
-            search arith
+        | inr other ↦ search (arith, long_started, list_old, link_old, are.next, process_old)
       ]
-      | inr le ↦ absurd (let a = ap (λ (g : ThreadList). g.first) (list_new p (at_last p le below)) in
-          search (arith, length-append))
+      | inr le ↦ absurd (search (arith, list_new, at_last, long_started))
     ];
     ending = λ p below some. elim (cases_lt p n) [
-      | inl old ↦ (let a = list_old p old in let b = ap (λ (g : ThreadList). g.last) a in
-          let d = ap (λ (g : ThreadList). g.first) a in let c = are.ending p old (omega arith) in (
-            omega (arith, long_started),
-            ap (λ i. (link_at born i).process) b
-                ∙ ap (λ (x : ThreadLink). x.process) (link_old (list_at m p).last c.0) ∙ c.1,
-          ))
-      | inr le ↦ (let is = at_last p le below in let a = list_new p is in let b = ap (λ (g : ThreadList). g.last) a in
-          search (arith, length-append, get_or-append_seam))
+      | inl old ↦ search (arith, long_started, list_old, link_old, are.ending)
+      | inr le ↦ search (arith, long_started, list_new, link_new, at_last)
     ];
     last = λ p t below small mine. elim (cases_lt p n) [
       | inl old ↦ elim (cases_eq t (length ts)) [
         | inl is ↦ search (arith, get_or-append_seam)
-        | inr other ↦
-            let within : t < length ts = search (arith, length-append) in
-            let a = ap (λ (g : ThreadList). g.last) (list_old p old) in
-            let c = are.last p t old within (process_old t p within mine) in
-            omega arith
+        | inr other ↦ search (arith, long_started, list_old, are.last, process_old)
       ]
-      | inr le ↦ (let a = ap (λ (g : ThreadList). g.last) (list_new p (at_last p le below)) in
-          omega (arith, long_started))
+      | inr le ↦ search (arith, list_new, at_last, long_started)
     ];
   }
 
 -- processes without a thread
 pub no_threads_are : (n : ℕ) → AreThreadLists n (None ∷ []) (no_threads n)
-no_threads_are n = record {
-  lists_long = search length-replicate;
-  links_long = refl;
-  at_most = search arith;
-  counted = λ p lt. ap (λ (g : ThreadList). g.live) (list_none p lt);
-  given = λ t p h. absurd (none_given t p h);
-  next = λ p t u below small mine same since less. absurd (omega arith);
-  ending = λ p below some. absurd (let a = ap (λ (g : ThreadList). g.first) (list_none p below) in
-      let b = ap (λ (g : ThreadList). g.last) (list_none p below) in omega arith);
-  last = λ p t below small mine. omega arith;
-}
+no_threads_are n = search (arith, length-replicate, list_none, none_given)
   where
     list_none : (p : ℕ) → p < n
         → list_at (no_threads n) p ≡ record { live = 0; first = 4294967295; last = 0 }
     list_none p lt = get_or-replicate n p _ no_list lt
 
     none_given : (t p : ℕ) → get_or {A = Option ℕ} (None ∷ []) t None ≡ Some p → ⊥
-    none_given zero p h = cc (h)
-    none_given (suc t) p h = cc (h)
+    none_given t p h = grind (arith, at_place)
 
 -- the next thread of a process, with the first that the process then has and with links of which only those of the
 -- process changed
@@ -211,11 +174,7 @@ module _ (n : ℕ) (ts : List (Option ℕ)) (m : ThreadListsState) (p0 : ℕ) (a
     still_of t p lt h = is.process t ∙ ap (λ (x : ThreadLink). x.process) (longer_at t lt) ∙ h
 
     newest_of : (t : ℕ) → t ≡ length ts → process_of t ≡ p0
-    newest_of t same = is.process t ∙ ap (λ i. (get_or longer i no_link).process) (same ∙ sym are.links_long)
-        ∙ ap (λ (x : ThreadLink). x.process) (get_or-append_seam m.links (record {
-          process = p0;
-          next = 0;
-        }) [] no_link)
+    newest_of t same = search (arith, is.process, get_or-append_seam)
 
     -- a thread of another process was there before
     older : (t p : ℕ) → p ≢ p0 → t < length (ts ++ Some p0 ∷ []) → process_of t ≡ p → t < length ts
@@ -235,21 +194,19 @@ module _ (n : ℕ) (ts : List (Option ℕ)) (m : ThreadListsState) (p0 : ℕ) (a
       ]);
       given = λ t p h. elim (cases_eq p p0) [
         | inl same ↦ (let f = ap (λ (g : ThreadList). g.first) (list_grown p same) in elim (live_more ts p0 t p h) [
-          | inl old ↦ (let was = are.given t p old.1 in let s = is.since t (old.1 ∙ ap Some same) in
-              (was.0, still_of t p old.0 was.1, omega arith))
-          | inr new ↦ (let w = is.within in
-              (omega arith, newest_of t new.0 ∙ sym same, omega arith))
+          | inl old ↦
+              let was = are.given t p old.1 in let s = is.since t (old.1 ∙ ap Some same) in
+              search (arith, still_of)
+          | inr new ↦ search (arith, newest_of, is.within)
         ])
         | inr other ↦ (let f = ap (λ (g : ThreadList). g.first) (list_stays p other) in
             elim (live_more ts p0 t p h) [
-              | inl old ↦ (let was = are.given t p old.1 in
-                  (was.0, still_of t p old.0 was.1, omega arith))
+              | inl old ↦ let was = are.given t p old.1 in search (arith, still_of)
               | inr new ↦ absurd (other new.1)
             ])
       ];
       next = λ p t u below small mine same since less. elim (cases_eq p p0) [
-        | inl here ↦ is.own t u (omega (arith, long_more)) (mine ∙ here) (same ∙ here)
-            (let f = ap (λ (g : ThreadList). g.first) (list_grown p here) in omega arith) less
+        | inl here ↦ search (arith, long_more, list_grown, is.own)
         | inr other ↦ (let f = ap (λ (g : ThreadList). g.first) (list_stays p other) in
             let later = older u p other small same in
             let before : t < length ts = omega arith in
@@ -260,15 +217,11 @@ module _ (n : ℕ) (ts : List (Option ℕ)) (m : ThreadListsState) (p0 : ℕ) (a
       ];
       ending = λ p below some. elim (cases_eq p p0) [
         | inl same ↦ search (arith, length-append, get_or-set_same, get_or-append_seam)
-        | inr other ↦ (let a = list_stays p other in let f = ap (λ (g : ThreadList). g.first) a in
-            let l = ap (λ (g : ThreadList). g.last) a in let e = are.ending p below (omega arith) in
-            search (arith, length-append, get_or-append))
+        | inr other ↦ search (arith, list_stays, long_more, still_of, are.ending)
       ];
       last = λ p t below small mine. elim (cases_eq p p0) [
         | inl same ↦ search (arith, length-append, get_or-set_same)
-        | inr other ↦ (let before = older t p other small mine in
-            let a = ap (λ (g : ThreadList). g.last) (list_stays p other) in
-            let b = are.last p t below before (was_of t p before mine) in omega arith)
+        | inr other ↦ search (arith, list_stays, older, was_of, are.last)
       ];
     }
 
@@ -429,12 +382,9 @@ module _ (n : ℕ) (ts : List (Option ℕ)) (m : ThreadListsState) (t0 p0 : ℕ)
       | inr other ↦ (let a = ap (λ (g : ThreadList). g.live) (list_kept p other) in let d = one_other ts p0 p other in
           omega arith)
     ]);
-    given = λ t p h. (let was = are.given t p (some_set ts t0 t p h) in let f = first_kept p in
-        (was.0, was.1, omega arith));
+    given = λ t p h. (let was = are.given t p (some_set ts t0 t p h) in search (arith, first_kept));
     next = search (arith, get_or-set_same, get_or-set_other, length-set);
-    ending = λ p below some. (let f = first_kept p in let l = last_kept p in
-        let e = are.ending p below (omega arith) in
-        search (arith, length-set));
+    ending = search (arith, first_kept, last_kept, long_ended, are.ending);
     last = search (arith, get_or-set_same, get_or-set_other, length-set);
   }
 

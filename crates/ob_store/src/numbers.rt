@@ -6,13 +6,6 @@ ghost use Rattle.ob_store.specs.SavedProcesses.{are_numbers, numbers_at};
 use ob_codec::{Cursor, ReadFault, TextFault, read_list};
 use std::alloc::Global;
 
-/// Whether numbers may stand so: 0 is nobody's.
-fn are_numbers(places: &Vec<Option<u32>>) -> bool
-    ensures { result ≡ are_numbers places.now.items }
-{
-    !places.is_empty() && places[0].is_none()
-}
-
 /// Reads what stands at each number, from 0 on. [`TextFault::Value`] where more numbers are given than the limit lets,
 /// before any of them is read, or 0 is.
 pub(crate) fn read_numbers(
@@ -26,7 +19,7 @@ pub(crate) fn read_numbers(
     ensures from_one { IfOk result (λ numbers. are_numbers numbers.items ≡ true) }
 {
     let places = read_list::<Option<u32>>(alloc, from, limit + 1)?;
-    if !are_numbers(&places) {
+    if places.is_empty() || places[0].is_some() {
         return Err(ReadFault::Text(TextFault::Value));
     }
     Ok(places)
