@@ -15,9 +15,9 @@ use Rattle.ob_arena.specs.declared.phase.Phase.{Phase}
 use Rattle.ob_arena.specs.declared.phase.Phase.TheVariants.{Vacant, Occupied, Retired}
 use Rattle.ob_arena.specs.Phases.{is_vacant, is_occupied, is_retired, is_in_use}
 use Rattle.ob_arena.specs.Slots.{IsFilled, is_vacant_at, least_vacant, with_body, without_body, with_retired, vacant_slots}
-use Rattle.ob_arena.specs.Arena.{slots_shown, IsTied}
+use Rattle.ob_arena.specs.Arena.{slots_shown, ArenaInvariant}
 
-module _ {B : Type 0} (ss : List (Option B)) (ps : List Phase) (taken : List Bool) (tied : IsTied ss ps taken) where
+module _ {B : Type 0} (ss : List (Option B)) (ps : List Phase) (taken : List Bool) (tied : ArenaInvariant ss ps taken) where
   pub length_phases : length ps ≡ length ss
   length_phases = search (arith, length-map)
 
@@ -102,7 +102,7 @@ module _ {B : Type 0} (ss : List (Option B)) (ps : List Phase) (taken : List Boo
   held_number k held = search (arith, length-taken)
 
   -- a body comes to a vacant slot
-  pub tied_put : (k : ℕ) (x : B) → IsFree k → IsTied (set ss k (Some x)) (set ps k Occupied) (set taken k true)
+  pub tied_put : (k : ℕ) (x : B) → IsFree k → ArenaInvariant (set ss k (Some x)) (set ps k Occupied) (set taken k true)
   tied_put k x free = search (arith, length-set, map-set)
 
   pub shown_put : (k : ℕ) (x : B) → IsFree k → slots_shown (set ss k (Some x)) (set ps k Occupied)
@@ -110,7 +110,7 @@ module _ {B : Type 0} (ss : List (Option B)) (ps : List Phase) (taken : List Boo
   shown_put k x free = search (arith, map-set_same)
 
   -- a body leaves its slot
-  pub tied_take : (k : ℕ) → IsHeld k → IsTied (set ss k None) (set ps k Vacant) (set taken k false)
+  pub tied_take : (k : ℕ) → IsHeld k → ArenaInvariant (set ss k None) (set ps k Vacant) (set taken k false)
   tied_take k held = search (arith, length-set, map-set)
 
   pub shown_take : (k : ℕ) → IsHeld k → slots_shown (set ss k None) (set ps k Vacant)
@@ -122,11 +122,11 @@ module _ {B : Type 0} (ss : List (Option B)) (ps : List Phase) (taken : List Boo
   vacant_take k held = search (arith, length_phases, get_or-set_same, length-set)
 
   -- a body changes in its slot
-  pub tied_changed : (k : ℕ) (x : B) → IsHeld k → IsTied (set ss k (Some x)) ps taken
+  pub tied_changed : (k : ℕ) (x : B) → IsHeld k → ArenaInvariant (set ss k (Some x)) ps taken
   tied_changed k x held = search (arith, length-set, map-set_same)
 
   -- a vacant slot is retired
-  pub tied_retire : (k : ℕ) → IsFree k → IsTied ss (set ps k Retired) (set taken k true)
+  pub tied_retire : (k : ℕ) → IsFree k → ArenaInvariant ss (set ps k Retired) (set taken k true)
   tied_retire k free = search (arith, map-set, map-set_same)
 
   pub shown_retire : (k : ℕ) → slots_shown ss (set ps k Retired) ≡ with_retired (slots_shown ss ps) k
@@ -174,10 +174,11 @@ map-replicate f x (suc n) = ap (λ l. f x ∷ l) (map-replicate f x n)
 -- a new arena, and what is equal to the parts of one
 module _ {B : Type 0} where
   pub retied : (ss ss' : List (Option B)) (ps ps' : List Phase) (taken taken' : List Bool) → ss' ≡ ss → ps' ≡ ps
-      → taken' ≡ taken → IsTied ss ps taken → IsTied ss' ps' taken'
+      → taken' ≡ taken → ArenaInvariant ss ps taken → ArenaInvariant ss' ps' taken'
   retied ss ss' ps ps' taken taken' es ep et tied = search arith
 
-  pub tied_new : (n : ℕ) → n ≤ 65536 → IsTied {B = B} (replicate n None) (replicate n Vacant) (replicate n false)
+  pub tied_new : (n : ℕ) → n ≤ 65536
+      → ArenaInvariant {B = B} (replicate n None) (replicate n Vacant) (replicate n false)
   tied_new n few = search (arith, map-replicate, length-replicate)
 
   pub shown_new : (n : ℕ) → slots_shown {B = B} (replicate n None) (replicate n Vacant) ≡ vacant_slots n
@@ -191,7 +192,7 @@ all_none ss n long none = ext_get_or None ss (replicate n None) (long ∙ sym (l
 
 -- a slot whose body was taken is vacant
 pub vacant_taken_from : {B : Type 0} (ss : List (Option B)) (ps : List Phase) (taken : List Bool)
-    (tied : IsTied ss ps taken) (k : ℕ) → IsHeld ss ps taken tied k
+    (tied : ArenaInvariant ss ps taken) (k : ℕ) → IsHeld ss ps taken tied k
     → is_vacant_at (slots_shown (set ss k None) (set ps k Vacant)) k ≡ true
 vacant_taken_from ss ps taken tied k held =
     vacant_phase (set ss k None) (set ps k Vacant) (set taken k false) (tied_take ss ps taken tied k held) k

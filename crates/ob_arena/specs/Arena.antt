@@ -13,7 +13,7 @@ module _ {B : Type 0} where
   slots_of a = slots_shown a.storage.slots a.phases.items
 
   -- the occupied slots have bodies, and the numbers that are taken are those of the slots that aren't vacant
-  pub record IsTied (slots : List (Option B)) (phases : List Phase) (taken : List Bool) : Type 0 where
+  pub record ArenaInvariant (slots : List (Option B)) (phases : List Phase) (taken : List Bool) : Type 0 where
     pub at_most : length slots ≤ 65536
     pub occupied : map is_occupied phases ≡ map is_some slots
     pub in_use : taken ≡ map is_in_use phases
@@ -24,4 +24,4 @@ module _ {B : Type 0} where
     pub title_front : a.title.front ≡ a.front.first
     pub title_len : a.title.len ≡ length a.storage.slots
     pub title_alloc : a.title.alloc ≡ a.alloc
-    pub tied : IsTied a.storage.slots a.phases.items a.free
+    pub tied : ArenaInvariant a.storage.slots a.phases.items a.free

@@ -4,24 +4,25 @@ use Rattle.std.specs.List.{concat}
 use Rattle.std.proofs.lemmas.List.{append_assoc, append-nil, length-append}
 use Rattle.std.proofs.lemmas.List.Folds.{concat-append}
 use Rattle.pin_core.specs.declared.shape.Shape.{Shape}
-use Rattle.ob_script.specs.Acts.{Act}
-use Rattle.ob_script.specs.Grammar.{act_of}
+use Rattle.ob_script.specs.Commands.{Command}
+use Rattle.ob_script.specs.Grammar.{command_of}
 use Rattle.ob_script.specs.Printed.{line_end}
 use Rattle.ob_console.specs.Runs.{Point, Prints, Run, Splits, IsWithin, AnswersLines, AnswersTo, AnswersPart, last_line}
-use Rattle.ob_script.specs.HeldLines.{capped, more_held, act_of_held}
+use Rattle.ob_script.specs.PartialLines.{capped, extended_line, command_of_partial_line}
 use Rattle.ob_console.specs.Sessions.{ConsoleState, IsReady, Session, Advances, Finishes}
-use Rattle.ob_script.proofs.Texts.{act_of_capped, more_capped}
+use Rattle.ob_script.proofs.Texts.{command_of_capped, more_capped}
 use Rattle.ob_console.proofs.Lines.{has_lines, splits_more, splits_nothing, splits_on, splits_one}
 use Rattle.ob_console.proofs.Going.{run-append, run_shape, runs_some}
 
 -- a line ends
-pub line_advances : (old new : ConsoleState) (act : Act) (bytes output : List ℕ) → IsWithin bytes
-    → act ≡ act_of_held (more_held old.held bytes) → Prints old.point (old.lines + 1) act output new.point
+pub line_advances : (old new : ConsoleState) (act : Command) (bytes output : List ℕ) → IsWithin bytes
+    → act ≡ command_of_partial_line (extended_line old.held bytes)
+    → Prints old.point (old.lines + 1) act output new.point
     → new.lines ≡ old.lines + 1 → new.held ≡ Some [] → Advances old (bytes ++ line_end) output new
 line_advances old new act bytes output within is prints counted held first input before session =
     let line = session.rest ++ bytes in
-    let of_line : Prints old.point (1 + length session.lines) (act_of line) output new.point =
-    search (arith, act_of_capped, more_capped) in
+    let of_line : Prints old.point (1 + length session.lines) (command_of line) output new.point =
+    search (arith, command_of_capped, more_capped) in
     let one : Splits (session.rest ++ (bytes ++ line_end)) (line ∷ []) [] =
     splits_one session.rest bytes session.splits.open_ended within in
     record {
@@ -39,7 +40,7 @@ line_advances old new act bytes output within is prints counted held first input
 
 -- a part of a line comes
 pub part_advances : (old new : ConsoleState) (bytes : List ℕ) → IsWithin bytes → new.point ≡ old.point
-    → new.lines ≡ old.lines → new.held ≡ more_held old.held bytes → Advances old bytes [] new
+    → new.lines ≡ old.lines → new.held ≡ extended_line old.held bytes → Advances old bytes [] new
 part_advances old new bytes within state_is lines_is held_is first input before session = record {
   lines = session.lines;
   rest = session.rest ++ bytes;
@@ -83,11 +84,12 @@ answers_all first input output console held session = search (arith, append-nil)
 
 -- a last line without a line feed
 pub last_answered : (first : Point) (input before output : List ℕ) (old new : ConsoleState) → (old.held ≡ Some [] → ⊥)
-    → Prints old.point (old.lines + 1) (act_of_held old.held) output new.point → Session first input before old
+    → Prints old.point (old.lines + 1) (command_of_partial_line old.held) output new.point
+    → Session first input before old
     → AnswersTo first input (before ++ output) new.point
 last_answered first input before output old new some prints session =
-    let of_line : Prints old.point (1 + length session.lines) (act_of session.rest) output new.point =
-    search (arith, act_of_capped) in
+    let of_line : Prints old.point (1 + length session.lines) (command_of session.rest) output new.point =
+    search (arith, command_of_capped) in
     record {
       lines = session.lines;
       rest = session.rest;
@@ -132,7 +134,8 @@ pub finishes_empty : (console : ConsoleState) → console.held ≡ Some [] → F
 finishes_empty console held first input before session = search (arith, append-nil)
 
 pub finishes_line : (old new : ConsoleState) (output : List ℕ) → (old.held ≡ Some [] → ⊥)
-    → Prints old.point (old.lines + 1) (act_of_held old.held) output new.point → Finishes old output new.point
+    → Prints old.point (old.lines + 1) (command_of_partial_line old.held) output new.point
+    → Finishes old output new.point
 finishes_line old new output some prints first input before session = search (arith, last_answered)
 
 -- what is pending is apart from what was answered

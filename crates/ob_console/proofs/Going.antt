@@ -5,8 +5,8 @@ use Rattle.pin_core.specs.Holds.{drop_last, same_id}
 use Rattle.ob_store.specs.State.{Whole}
 use Rattle.ob_store.specs.Directory.{directory_of}
 use Rattle.ob_console.specs.Pinning.{is_held, shown_of}
-use Rattle.ob_script.specs.Acts.{Act, Nothing, Bad, ListNames, Asks, Pin, Unpin, ShowCard}
-use Rattle.ob_script.specs.Grammar.{act_of}
+use Rattle.ob_script.specs.Commands.{Command, Nothing, Bad, ListNames, Asks, Pin, Unpin, ShowCard}
+use Rattle.ob_script.specs.Grammar.{command_of}
 use Rattle.ob_script.specs.Printed.{printed, printed_card, printed_names, printed_pin, printed_unpin, bad_line, line_end}
 use Rattle.ob_console.specs.Runs.{Point, Prints, Run}
 use Rattle.ob_manager.proofs.TableLaws.{step_shape}
@@ -29,7 +29,7 @@ run-append s n (line ∷ lines) (output ∷ outputs) t later more u first second
     )
 
 -- no line changes the shape of the slots, and no run does
-prints_shape : (s : Point) (n : ℕ) (act : Act) (output : List ℕ) (t : Point) → Prints s n act output t
+prints_shape : (s : Point) (n : ℕ) (act : Command) (output : List ℕ) (t : Point) → Prints s n act output t
     → t.whole.keeper.shape ≡ s.whole.keeper.shape
 prints_shape s n Nothing output t prints = ap (λ (p : Point). p.whole.keeper.shape) prints.1
 prints_shape s n Bad output t prints = ap (λ (p : Point). p.whole.keeper.shape) prints.1
@@ -47,12 +47,12 @@ run_shape s n (line ∷ lines) [] t run = absurd run
 run_shape s n (line ∷ lines) (output ∷ outputs) t run = search (arith, prints_shape, run_shape run.0 (n + 1) lines outputs t run.2)
 
 -- what an act may print
-pub record PrintsSome (s : Point) (n : ℕ) (act : Act) : Type 0 where
+pub record PrintsSome (s : Point) (n : ℕ) (act : Command) : Type 0 where
   pub output : List ℕ
   pub next : Point
   pub prints : Prints s n act output next
 
-pub prints_some : (s : Point) (n : ℕ) (act : Act) → 0 < s.whole.keeper.shape.max_pins → PrintsSome s n act
+pub prints_some : (s : Point) (n : ℕ) (act : Command) → 0 < s.whole.keeper.shape.max_pins → PrintsSome s n act
 prints_some s n Nothing pins = record { output = []; next = s; prints = (refl, refl) }
 prints_some s n Bad pins = record { output = bad_line n; next = s; prints = (refl, refl) }
 prints_some s n ListNames pins = record {
@@ -94,9 +94,9 @@ pub record RunsSome (s : Point) (n : ℕ) (lines : List (List ℕ)) : Type 0 whe
 pub runs_some : (s : Point) (n : ℕ) (lines : List (List ℕ)) → 0 < s.whole.keeper.shape.max_pins → RunsSome s n lines
 runs_some s n [] pins = record { outputs = []; last = s; run = refl }
 runs_some s n (line ∷ lines) pins =
-    let first = prints_some s n (act_of line) pins in
+    let first = prints_some s n (command_of line) pins in
     let still : 0 < first.next.whole.keeper.shape.max_pins =
     subst (λ (shape : Shape). 0 < shape.max_pins)
-    (sym (prints_shape s n (act_of line) first.output first.next first.prints)) pins in
+    (sym (prints_shape s n (command_of line) first.output first.next first.prints)) pins in
     let later = runs_some first.next (n + 1) lines still in
     record { outputs = first.output ∷ later.outputs; last = later.last; run = (first.next, first.prints, later.run) }

@@ -23,8 +23,8 @@ use Rattle.ob_manager.proofs.StepLaws.{step_next}
 use Rattle.ob_shared.specs.declared.book.Entry.{Entry}
 use Rattle.ob_shared.specs.Journal.{IsHistory, IsHistoryFrom, Replays}
 use Rattle.ob_script.specs.Printed.{line_end, printed, printed_reply}
-use Rattle.ob_script.specs.Acts.{Act, Asks, Nothing}
-use Rattle.ob_script.specs.Grammar.{act_of, act_of_text}
+use Rattle.ob_script.specs.Commands.{Command, Asks, Nothing}
+use Rattle.ob_script.specs.Grammar.{command_of, command_of_text}
 use Rattle.ob_script.specs.Writing.{as_said, line_of}
 use Rattle.ob_script.proofs.Alike.{answered_alike}
 use Rattle.ob_script.proofs.Lineless.{lineless_is_refused}
@@ -35,16 +35,16 @@ use Rattle.ob_console.specs.Retelling.{AnswersOtherwise, FitsEntry, Retells, Ret
 use Rattle.ob_console.proofs.Ends.{lines_in, lines_within, one_cut}
 
 -- a comment is nothing
-marked : (rest : List ℕ) → length rest ≤ 4095 → act_of_text (35 ∷ rest) ≡ Nothing
+marked : (rest : List ℕ) → length rest ≤ 4095 → command_of_text (35 ∷ rest) ≡ Nothing
 marked rest short = grind (arith, nat_tests)
 
-comment_is_nothing : (text : List ℕ) → act_of (comment text) ≡ Nothing
+comment_is_nothing : (text : List ℕ) → command_of (comment text) ≡ Nothing
 comment_is_nothing text = by (slice_index (comment text) (length (comment text) - 1) == 13)
   where
     shorter : length (comment text) - 1 ≡ suc (length (take 4094 text))
     shorter = omega arith
 
-    by : (b : Bool) → act_of_text (if b then take (length (comment text) - 1) (comment text) else comment text)
+    by : (b : Bool) → command_of_text (if b then take (length (comment text) - 1) (comment text) else comment text)
         ≡ Nothing
     by true =
         ap (λ n. act_of_text (take n (comment text))) shorter
@@ -184,27 +184,29 @@ module _ (w u : Whole) (p q : Point) (number : ℕ) (entry : Entry) (output : Li
               inl (prints ∙ ap printed both.0 ∙ ap (λ b. if b then printed entry.reply else []) (sym line), both.1)
           with_slots (inr differs) = inr (line, inr (differs.0, differs.1, found, prints, differs.2))
 
-  first : Prints p number (act_of (asking (is_repeatable entry.call entry.reply) (line_of entry.call))) output q → First
+  first : Prints p number (command_of (asking (is_repeatable entry.call entry.reply) (line_of entry.call))) output q
+      → First
   first prints = by (line_of entry.call) (is_repeatable entry.call entry.reply) refl refl prints
     where
       by : (line : Option (List ℕ)) (again : Bool) → line_of entry.call ≡ line
-          → is_repeatable entry.call entry.reply ≡ again → Prints p number (act_of (asking again line)) output q → First
+          → is_repeatable entry.call entry.reply ≡ again → Prints p number (command_of (asking again line)) output q
+          → First
       by None again none is prints =
           silent (ap (λ (x : Whole). x.state) (lineless_is_refused w u entry.call entry.reply fits none step).0)
           (ap (λ line. is_repeatable entry.call entry.reply && is_some line) none
           ∙ and_right (is_repeatable entry.call entry.reply) false refl)
-          (subst (λ (act : Act). Prints p number act output q)
+          (subst (λ (act : Command). Prints p number act output q)
           (comment_is_nothing (codes "a call that no line asks for")) prints)
       by (Some line) false some is prints =
           silent (unrepeatable w u entry.call entry.reply kept.still is step)
           (ap (λ b. b && is_some (line_of entry.call)) is)
-          (subst (λ (act : Act). Prints p number act output q) (comment_is_nothing line) prints)
+          (subst (λ (act : Command). Prints p number act output q) (comment_is_nothing line) prints)
       by (Some line) true some is prints =
-          let read : act_of line ≡ Asks (as_said entry.call) =
+          let read : command_of line ≡ Asks (as_said entry.call) =
           subst (λ l. IfSome l (λ text. act_of text ≡ Asks (as_said entry.call))) some
           (line_is_read entry.call fits) in
           let asks : Prints p number (Asks (as_said entry.call)) output q =
-          subst (λ (act : Act). Prints p number act output q) read prints in
+          subst (λ (act : Command). Prints p number act output q) read prints in
           answered asks.0 asks.5 (ap (λ b. b && is_some (line_of entry.call)) is ∙ ap is_some some) is
           ((answered_alike p.whole q.whole entry.call asks.0).0 asks.1)
 
@@ -225,7 +227,7 @@ retold (entry ∷ entries) w v p q number (output ∷ silence ∷ outputs) kept 
     (ap (λ (r : Point). r.whole.state) second.1 ∙ same) run.2.2)
   where
     second : (silence ≡ []) × (run.2.0 ≡ run.0)
-    second = subst (λ (act : Act). Prints run.0 (number + 1) act silence run.2.0)
+    second = subst (λ (act : Command). Prints run.0 (number + 1) act silence run.2.0)
         (comment_is_nothing (printed_reply entry.reply)) run.2.1
 
     by : ((output ≡ answer entry) × (run.0.whole.state ≡ replays.0.state)) ⊎ AnswersOtherwise entry output

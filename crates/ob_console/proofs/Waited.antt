@@ -14,7 +14,7 @@ use Rattle.ob_manager.specs.Checks.{caller}
 use Rattle.ob_manager.specs.Waiting.{wait}
 use Rattle.ob_manager.specs.Steps.{Step, does, closes, lacks}
 use Rattle.ob_script.specs.declared.output.NotWritten.{NotWritten}
-use Rattle.ob_script.specs.Acts.{Act, Asks, Nothing, shortened}
+use Rattle.ob_script.specs.Commands.{Command, Asks, Nothing, shortened}
 use Rattle.ob_console.specs.Runs.{Point, Prints}
 use Rattle.ob_console.specs.Sessions.{Enacts, Evaluation}
 
@@ -42,7 +42,7 @@ step_of_beginning w thread mode timeout handles reply v (does comes keeps) = sea
 step_of_beginning w thread mode timeout handles reply v (closes is comes keeps) = search arith
 step_of_beginning w thread mode timeout handles reply v (lacks takes there lack same) = search (arith, beginning_waits)
 
-prints_whole : (p : Point) (number : ℕ) (act : Act) (output : List ℕ) (q : Point)
+prints_whole : (p : Point) (number : ℕ) (act : Command) (output : List ℕ) (q : Point)
     → Prints p number (shortened act) output q → Prints p number act output q
 prints_whole p number (Asks (calls.WaitFor thread mode timeout handles)) output q (reply, step, looks, spares, held, is) =
     search (arith, step_of_beginning)
@@ -50,7 +50,7 @@ prints_whole p number Nothing output q prints = prints
 prints_whole p number act output q prints = prints
 
 -- what is answered where the first 65 handles of a wait were read is what the line is answered
-pub enacts_whole : (old : Evaluation) (number : ℕ) (act : Act) (result : Result (Unit {0}) NotWritten)
+pub enacts_whole : (old : Evaluation) (number : ℕ) (act : Command) (result : Result (Unit {0}) NotWritten)
     (taken_before taken : List ℕ) (new : Evaluation)
     → Enacts old number (shortened act) result taken_before taken new
     → Enacts old number act result taken_before taken new

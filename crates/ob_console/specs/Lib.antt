@@ -4,7 +4,7 @@ pub mod Runs
 pub mod Sessions
 pub mod Calls
 pub mod Lines
-pub mod Scripts
+pub mod LaneScripts
 pub mod Answers
 pub mod Faults
 pub mod Retelling

@@ -3,23 +3,23 @@ use Rattle.std.specs.Prelude.{◌≤◌, ℕ, ◌==◌, ◌&&◌, not, nat_le, n
 use Rattle.std.specs.List.{before_first, after_first}
 use Rattle.std.specs.Str.{bytes_eq}
 use Rattle.memchr.specs.Find.{is_byte}
-use Rattle.ob_script.specs.Acts.{Act as Read, shortened}
-use Rattle.ob_script.specs.Acts as read
-use Rattle.ob_script.specs.Grammar.{act_of, text_of}
+use Rattle.ob_script.specs.Commands.{Command as Read, shortened}
+use Rattle.ob_script.specs.Commands as read
+use Rattle.ob_script.specs.Grammar.{command_of, text_of}
 use Rattle.ob_script.specs.Words.{labelled, ◌>>=◌}
 use Rattle.ob_shared.specs.declared.act.Act.{Act}
 use Rattle.ob_shared.specs.declared.act.Act.TheVariants.{Ask, Pin, Unpin, ShowCard, Block}
 use Rattle.ob_console.specs.Calls.{request_in}
-use Rattle.ob_console.specs.declared.lanes.line.Line.{Line as Given}
-use Rattle.ob_console.specs.declared.lanes.line.Line.TheVariants as given
+use Rattle.ob_console.specs.declared.lanes.line.LaneLine.{LaneLine as Given}
+use Rattle.ob_console.specs.declared.lanes.line.LaneLine.TheVariants as given
 
-pub data Line : Type 0 where
-  Nothing : Line  -- nothing is done
-  Bad : Line  -- the line is printed as bad
-  Acts : ℕ → Act → Line  -- what the member of the lane of this number is to do; the prologue is lane 0
+pub data LaneLine : Type 0 where
+  Nothing : LaneLine  -- nothing is done
+  Bad : LaneLine  -- the line is printed as bad
+  Acts : ℕ → Act → LaneLine  -- what the member of the lane of this number is to do; the prologue is lane 0
 
 -- what a line is in a lane, in which the names of objects can't be listed
-abbrev pub in_lane : ℕ → Read → Line
+abbrev pub in_lane : ℕ → Read → LaneLine
 in_lane number read.Nothing = Nothing
 in_lane number read.Bad = Bad
 in_lane number read.ListNames = Bad
@@ -29,7 +29,7 @@ in_lane number (read.Unpin id) = Acts number (Unpin id)
 in_lane number (read.ShowCard id) = Acts number (ShowCard id)
 
 -- a line without a prefix is the prologue's while that goes on; afterwards it may only be nothing
-abbrev pub without_prefix : Bool → Read → Line
+abbrev pub without_prefix : Bool → Read → LaneLine
 without_prefix true act = in_lane 0 act
 without_prefix false read.Nothing = Nothing
 without_prefix false act = Bad
@@ -41,20 +41,20 @@ lane_of lanes word = do
   if nat_le 1 number && nat_le number lanes && not (slice_index word 1 == 48) then Some number else None
 
 -- behind a prefix a line has to be an act
-abbrev pub in_prefixed : ℕ → Read → Line
+abbrev pub in_prefixed : ℕ → Read → LaneLine
 in_prefixed number read.Nothing = Bad
 in_prefixed number act = in_lane number act
 
-abbrev pub behind_prefix : ℕ → List ℕ → Line
+abbrev pub behind_prefix : ℕ → List ℕ → LaneLine
 behind_prefix number line = if bytes_eq (text_of line) (codes "block") then Acts number Block else in_prefixed number
-    (shortened (act_of line))
+    (shortened (command_of line))
 
 -- a line that begins with an @: the prefix ends at the first space
-abbrev pub prefixed : Option ℕ → List ℕ → Line
+abbrev pub prefixed : Option ℕ → List ℕ → LaneLine
 prefixed None line = Bad
 prefixed (Some number) line = behind_prefix number line
 
-abbrev pub with_prefix : ℕ → List ℕ → Line
+abbrev pub with_prefix : ℕ → List ℕ → LaneLine
 with_prefix lanes line = prefixed (lane_of lanes (before_first (is_byte 32) line)) (after_first (is_byte 32) line)
 
 -- whether a line begins with an @
@@ -64,14 +64,14 @@ is_marked line = nat_le 1 (length line) && (slice_index line 0 == 64)
 -- a line of a script with so many lanes beside the prologue, and whether the prologue goes on; a text of more than
 -- 4,096 bytes is bad. Of a wait's handles the first 65 are kept: in nothing else does a line of a lane ask otherwise
 -- than one without lanes
-abbrev pub line_of : ℕ → Bool → List ℕ → Line
+abbrev pub line_of : ℕ → Bool → List ℕ → LaneLine
 line_of lanes is_prologue line =
     if nat_lt 4096 (length (text_of line)) then Bad
     else (if is_marked line then with_prefix lanes line
-    else without_prefix is_prologue (shortened (act_of line)))
+    else without_prefix is_prologue (shortened (command_of line)))
 
 -- a line as the code has it, with the handles that stand beside it
-abbrev pub line_in : List ℕ → Given → Line
+abbrev pub line_in : List ℕ → Given → LaneLine
 line_in handles given.Nothing = Nothing
 line_in handles given.Bad = Bad
 line_in handles (given.Acts number request) = Acts number (request_in handles request)

@@ -16,10 +16,10 @@ use Rattle.ob_manager.specs.declared.reply.Reply.TheVariants.{Reaped}
 use Rattle.ob_manager.specs.Reaping.{IfReap, IfReaped}
 use Rattle.ob_manager.specs.Steps.{Step}
 use Rattle.ob_console.specs.Pinning.{Pins, SparesHeld, Unpins, shown_of}
-use Rattle.ob_script.specs.Acts.{Act, Nothing, Bad, ListNames, Asks, Pin, Unpin, ShowCard}
+use Rattle.ob_script.specs.Commands.{Command, Nothing, Bad, ListNames, Asks, Pin, Unpin, ShowCard}
 use Rattle.ob_console.specs.declared.script.RunFault.{RunFault}
 use Rattle.ob_console.specs.declared.script.RunFault.TheVariants.{Memory, Read, Write}
-use Rattle.ob_script.specs.Grammar.{act_of}
+use Rattle.ob_script.specs.Grammar.{command_of}
 use Rattle.ob_script.specs.Printed.{printed, printed_card, printed_names, printed_pin, printed_unpin, bad_line, line_end}
 
 -- the state with what the keeper says, the copies that the reader holds, and the words that it found, newest first
@@ -57,7 +57,7 @@ Looks k call reply k' = IfReap call (λ slot. IsLooked k reply k')
 
 -- From a point, the line of this number may print this and go on: nothing, that the line is bad, the names of objects,
 -- the reply of a step, or what the reader is answered.
-abbrev pub Prints : Point → ℕ → Act → List ℕ → Point → Type 0
+abbrev pub Prints : Point → ℕ → Command → List ℕ → Point → Type 0
 Prints p number Nothing output q = (output ≡ []) × (q ≡ p)
 Prints p number Bad output q = (output ≡ bad_line number) × (q ≡ p)
 Prints p number ListNames output q = (output ≡ printed_names (directory_of p.whole.state)) × (q ≡ p)
@@ -75,7 +75,7 @@ Prints p number (ShowCard id) output q = (output ≡ printed_card (shown_of p.wh
 -- From there, the lines from this number on may print these, one after another, and end with the last.
 abbrev pub Run : Point → ℕ → List (List ℕ) → List (List ℕ) → Point → Type 0
 Run s number [] [] t = t ≡ s
-Run s number (line ∷ lines) (output ∷ outputs) t = (next : Point) × Prints s number (act_of line) output next
+Run s number (line ∷ lines) (output ∷ outputs) t = (next : Point) × Prints s number (command_of line) output next
     × Run next (number + 1) lines outputs t
 Run s number [] (output ∷ outputs) t = ⊥
 Run s number (line ∷ lines) [] t = ⊥

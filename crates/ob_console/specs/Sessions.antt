@@ -6,8 +6,8 @@ use Rattle.ob_script.specs.Pending.{Pending, IsWritten}
 use Rattle.ob_console.specs.Runs.{Point, Prints, Run, Splits, AnswersLines, AnswersPart, AnswersTo}
 use Rattle.ob_console.specs.declared.script.RunFault.{RunFault}
 use Rattle.ob_console.specs.declared.script.RunFault.TheVariants.{Memory, Read, Write}
-use Rattle.ob_script.specs.Acts.{Act}
-use Rattle.ob_script.specs.HeldLines.{capped}
+use Rattle.ob_script.specs.Commands.{Command}
+use Rattle.ob_script.specs.PartialLines.{capped}
 use Rattle.ob_script.specs.Devices.{Writes, Begins}
 
 -- what an evaluator has
@@ -18,7 +18,7 @@ pub record Evaluation : Type 0 where
 
 -- what the line of this number is was done, and what that prints is written or pending, or its beginning is written
 -- where the sink failed
-abbrev pub Enacts : Evaluation → ℕ → Act → Result (Unit {0}) NotWritten → List ℕ → List ℕ → Evaluation → Type 0
+abbrev pub Enacts : Evaluation → ℕ → Command → Result (Unit {0}) NotWritten → List ℕ → List ℕ → Evaluation → Type 0
 Enacts old number act result taken_before taken new =
     (printed : List ℕ) × Prints old.point number act printed new.point
     × IsWritten result taken_before taken (old.pending.bytes ++ printed) new.pending.bytes

@@ -1,6 +1,6 @@
 ghost use Rattle.std.specs.Prelude.{◌≡◌, Some};
 ghost use Rattle.ob_manager.specs.Steps.{Step};
-ghost use Rattle.ob_script.specs.Acts.{call_in};
+ghost use Rattle.ob_script.specs.Commands.{call_in};
 ghost use Rattle.ob_console.specs.Runs.{Looks, Spares};
 
 use crate::reaping::meet_at;

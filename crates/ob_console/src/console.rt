@@ -7,7 +7,7 @@ ghost use Rattle.ob_console.specs.Sessions.{Advances, Finishes, IsFed, IsCutShor
 
 use crate::evaluator::Evaluator;
 use ob_manager::Manager;
-use ob_script::{Handles, HeldLine, NotWritten, Output, ScriptLine, Sink};
+use ob_script::{Handles, NotWritten, Output, PartialLine, ScriptLine, Sink};
 use pin_words::{Keeper, Reader};
 use std::marker::Model;
 
@@ -16,7 +16,7 @@ use std::marker::Model;
 #[derive(Drop)]
 pub struct Console {
     evaluator: Evaluator,
-    held: HeldLine,
+    held: PartialLine,
     handles: Handles,
 }
 
@@ -46,7 +46,7 @@ impl Console {
     {
         Console {
             evaluator: Evaluator::new(manager, reader, output),
-            held: HeldLine::new(),
+            held: PartialLine::new(),
             handles: Handles::new(),
         }
     }

@@ -1,8 +1,8 @@
 ghost use Rattle.std.specs.Prelude.{◌≡◌, ◌+◌, ◌<◌, ◌^◌, ◌++◌, OnErr, OnOk, Some, []};
 ghost use Rattle.ob_store.specs.Directory.{directory_of};
-ghost use Rattle.ob_script.specs.Acts.{Bad, Pin, Unpin, ShowCard, act_in};
-ghost use Rattle.ob_script.specs.Grammar.{act_of};
-ghost use Rattle.ob_script.specs.HeldLines.{act_of_held};
+ghost use Rattle.ob_script.specs.Commands.{Bad, Pin, Unpin, ShowCard, command_in};
+ghost use Rattle.ob_script.specs.Grammar.{command_of};
+ghost use Rattle.ob_script.specs.PartialLines.{command_of_partial_line};
 ghost use Rattle.ob_script.specs.Printed.{printed_names};
 ghost use Rattle.ob_console.specs.Runs.{point};
 ghost use Rattle.ob_console.specs.Sessions.{Enacts};
@@ -12,7 +12,9 @@ ghost use Rattle.ob_script.specs.Devices.{Begins};
 use crate::asking::reply_to;
 use crate::pinning::{card, pin, unpin};
 use ob_manager::Manager;
-use ob_script::{Act, Answer, Handles, HeldLine, NotWritten, Output, ScriptLine, Sink, act_of};
+use ob_script::{
+    Answer, Command, Handles, NotWritten, Output, PartialLine, ScriptLine, Sink, command_of,
+};
 use pin_core::Id;
 use pin_words::{Keeper, Reader};
 use std::marker::Model;
@@ -65,25 +67,25 @@ impl Evaluator {
         handles: &mut Handles,
     ) -> Result<(), NotWritten>
         requires { self.old.lines < 2 ^ 127 }
-        ensures prints { Enacts self.old (self.old.lines + 1) (act_of line.now) result (W.taken sink.old)
+        ensures prints { Enacts self.old (self.old.lines + 1) (command_of line.now) result (W.taken sink.old)
             (W.taken sink.new) self.new }
         ensures lines { self.new.lines ≡ self.old.lines + 1 }
         ensures sink { UsesSink W.calls W.faults result sink.old sink.new self.old.pending self.new.pending }
     {
         self.lines += 1;
-        let act = act_of(line, handles);
+        let act = command_of(line, handles);
         self.enact(sink, &act, handles.as_slice())
     }
 
-    /// Does what a held line asks, as [`Evaluator::answer`] does; one that is too long is bad.
+    /// Does what a partial line asks, as [`Evaluator::answer`] does; one that is too long is bad.
     pub fn answer_held<W: Sink>(
         &mut self,
         sink: &mut W,
-        held: &HeldLine,
+        held: &PartialLine,
         handles: &mut Handles,
     ) -> Result<(), NotWritten>
         requires { self.old.lines < 2 ^ 127 }
-        ensures prints { Enacts self.old (self.old.lines + 1) (act_of_held held.now) result (W.taken sink.old)
+        ensures prints { Enacts self.old (self.old.lines + 1) (command_of_partial_line held.now) result (W.taken sink.old)
             (W.taken sink.new) self.new }
         ensures lines { self.new.lines ≡ self.old.lines + 1 }
         ensures sink { UsesSink W.calls W.faults result sink.old sink.new self.old.pending self.new.pending }
@@ -99,30 +101,30 @@ impl Evaluator {
 
     /// Does the act of the last line, where `handles` are those of a wait, and prints its answer.
     //
-    // It is called in one place, so it stands there when it runs, and the act is nowhere else. What seldom comes has
+    // It is called in one place, so it stands there when it runs, and the command is nowhere else. What seldom comes has
     // functions of its own that don't: room for what they print would be made on each line.
     fn enact<W: Sink>(
         &mut self,
         sink: &mut W,
-        act: &Act<'_>,
+        act: &Command<'_>,
         handles: &[u32],
     ) -> Result<(), NotWritten>
-        ensures prints { Enacts self.old self.old.lines (act_in handles.now act.now) result (W.taken sink.old)
+        ensures prints { Enacts self.old self.old.lines (command_in handles.now act.now) result (W.taken sink.old)
             (W.taken sink.new) self.new }
         ensures lines { self.new.lines ≡ self.old.lines }
         ensures sink { UsesSink W.calls W.faults result sink.old sink.new self.old.pending self.new.pending }
     {
         match act {
-            Act::Nothing => Ok(()),
-            Act::Ask(ask) => self.output.put_reply(
+            Command::Nothing => Ok(()),
+            Command::Ask(ask) => self.output.put_reply(
                 sink,
                 &reply_to(&mut self.manager, &mut self.reader, handles, ask),
             ),
-            Act::Bad => self.refuse(sink),
-            Act::ListNames => list(&self.manager, &mut self.output, sink),
-            Act::Pin(id) => self.pin(sink, *id),
-            Act::Unpin(id) => self.unpin(sink, *id),
-            Act::ShowCard(id) => self.show_card(sink, *id),
+            Command::Bad => self.refuse(sink),
+            Command::ListNames => list(&self.manager, &mut self.output, sink),
+            Command::Pin(id) => self.pin(sink, *id),
+            Command::Unpin(id) => self.unpin(sink, *id),
+            Command::ShowCard(id) => self.show_card(sink, *id),
         }
     }
 

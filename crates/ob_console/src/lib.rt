@@ -44,7 +44,7 @@ mod script;
 
 pub use lanes::{LanesFault, run_lanes};
 pub use law::law_of_replay;
-pub use ob_script::{Account, CALLS_MOST, Sink, Source, Trouble, Wired};
+pub use ob_script::{CALLS_MOST, DeviceError, IoTrace, Sink, Source, Wired};
 pub use options::{NumberOption, Options, OptionsFault, read_options, without_its_number};
 pub use retelling::script_of;
 pub use script::{RunFault, run, run_bounded, run_over, run_whole};

@@ -8,7 +8,7 @@ ghost use Rattle.ob_console.specs.Sessions.{Ends, IsReady};
 
 use crate::console::Console;
 use ob_manager::{Limits, Manager};
-use ob_script::{CALLS_MOST, Output, READ_MOST, Sink, Source, Trouble, zeros};
+use ob_script::{CALLS_MOST, DeviceError, Output, READ_MOST, Sink, Source, zeros};
 use pin_words::{Keeper, LockedPins, Opening, Pins};
 use std::alloc::Global;
 use thiserror::Error;
@@ -257,8 +257,8 @@ fn answer_all<R: Source, W: Sink>(
                 Ok(()) => {}
                 Err(_) => return Err(RunFault::Write),
             },
-            Err(Trouble::Interrupted) => {}
-            Err(Trouble::Failed) => return Err(RunFault::Read),
+            Err(DeviceError::Interrupted) => {}
+            Err(DeviceError::Failed) => return Err(RunFault::Read),
         }
     }
     Err(RunFault::Read)

@@ -20,7 +20,7 @@ use Rattle.ob_tables.proofs.Counting.{found_counts, same_id-same}
 use Rattle.ob_waits.specs.declared.wait.Mode.{Mode}
 use Rattle.ob_waits.specs.declared.wait.Mode.TheVariants.{Any, All}
 use Rattle.ob_waits.specs.Form.{slot_owner}
-use Rattle.ob_waits.specs.Objects.{slot_room}
+use Rattle.ob_waits.specs.CountedBodies.{slot_room}
 use Rattle.ob_waits.specs.Rules.{IsDistinct, IsWaitable}
 use Rattle.ob_waits.specs.Waits.{nowhere}
 use Rattle.ob_store.specs.Kept.{IsNamed}

@@ -21,7 +21,7 @@ use Rattle.ob_tables.specs.Tables.{table_of}
 use Rattle.ob_manager.specs.Makings.{Making}
 use Rattle.ob_manager.specs.declared.creating.New.{New}
 use Rattle.ob_manager.specs.declared.reply.Reply.TheVariants.{Made, Exists, Opened}
-use Rattle.ob_store.specs.Objects.{Head}
+use Rattle.ob_store.specs.Objects.{ObjectAttributes}
 use Rattle.ob_store.specs.State.{State, id_at, is_full, settled, vacancy, with_entry, with_object}
 use Rattle.ob_store.specs.Directory.{directory_of}
 use Rattle.ob_manager.specs.Outcomes.{Outcome, ◌>>=◌, or_refuse, refuse_if}
@@ -73,11 +73,11 @@ room_for s process making kind = do
 abbrev pub new_object : State → ℕ → Making → New → Option ObjectName → Result Outcome Fault
 new_object s process making new name = do
   slot ← room_for s process making new.descr.kind
-  let head : Head = record { descr = new.descr; grant = or_all new.descr.kind making.grant; name = name } in
+  let attributes : ObjectAttributes = record { descr = new.descr; grant = or_all new.descr.kind making.grant; name = name } in
       let entry : Entry = entry_of (id_at s slot) (or_all new.descr.kind making.access) making.inherit in
       Ok (record {
         reply = Made (next_handle s process) (id_at s slot);
-        state = settled (with_entry (with_object s slot head new.body) process entry);
+        state = settled (with_entry (with_object s slot attributes new.body) process entry);
       })
 
 -- a handle to an object that is there: 6 where it is of another kind, 5 where its grant doesn't allow the rights

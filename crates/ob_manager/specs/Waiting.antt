@@ -12,7 +12,7 @@ use Rattle.ob_waits.specs.declared.wait.Mode.{Mode}
 use Rattle.ob_waits.specs.declared.wait.Mode.TheVariants.{Any, All}
 use Rattle.ob_waits.specs.declared.wait.WaitState.{WaitState}
 use Rattle.ob_waits.specs.declared.wait.WaitState.TheVariants.{Pending, Answered}
-use Rattle.ob_waits.specs.Objects.{slot_room}
+use Rattle.ob_waits.specs.CountedBodies.{slot_room}
 use Rattle.ob_waits.specs.Waits.{code_of, is_pending, list_ready, state_at}
 use Rattle.ob_manager.specs.declared.reply.Reply.{Reply}
 use Rattle.ob_manager.specs.declared.reply.Reply.TheVariants as reply

@@ -74,7 +74,7 @@ fn copy_rights<K: PinKeeper>(
     let Some(found) = store.object(entry.id.slot) else {
         return Err(Fault::Handle);
     };
-    if within(mask, Rights(entry.rights.0 | found.seat.grant.0)) {
+    if within(mask, Rights(entry.rights.0 | found.header.grant.0)) {
         return Ok(mask);
     }
     Err(Fault::Access)

@@ -20,14 +20,14 @@ pub fn counts<K: PinKeeper>(store: &Store<K>, id: Id) -> Result<Reply, Fault>
         }
         return Err(Fault::Handle);
     };
-    let seat = found.seat;
-    if seat.id != id {
+    let header = found.header;
+    if header.id != id {
         return Err(Fault::Handle);
     }
     Ok(Reply::CountsAre {
-        handles: seat.handles,
-        waits: seat.blocks,
-        hold: hold_of(seat.handles, seat.blocks),
+        handles: header.handles,
+        waits: header.blocks,
+        hold: hold_of(header.handles, header.blocks),
     })
 }
 
@@ -46,11 +46,11 @@ pub fn card<K: PinKeeper>(store: &Store<K>, id: Id) -> Option<Card>
     ensures { result ≡ card store.now.state id }
 {
     match store.object(id.slot) {
-        Some(found) if found.seat.id == id => {
+        Some(found) if found.header.id == id => {
             return Some(Card {
                 id,
                 descr: found.label.descr,
-                grant: found.seat.grant,
+                grant: found.header.grant,
             });
         }
         _ => return None,

@@ -254,7 +254,7 @@ fn new_handle<K: PinKeeper>(
     if !same_kind(found.label.descr.kind, kind) {
         return Err(Fault::Handle);
     }
-    if !is_allowed(rights, found.seat.grant) {
+    if !is_allowed(rights, found.header.grant) {
         return Err(Fault::Access);
     }
     let entry = Entry {

@@ -94,14 +94,16 @@ impl<K: PinKeeper> Manager<K> {
     /// its blocks the places of pending waits that do, and it has a hold once there is neither.
     pub fn slot(&self, slot: u32) -> Option<Found<'_>>
         ensures object { slice_index_or self.now.state.objects slot None
-            ≡ option_map (λ found. object_of found.seat.now (tag_of found.label.now found.name.now)) result }
-        ensures place { IfSome result (λ found. found.seat.now.id.slot ≡ slot) }
-        ensures body { IfSome result (λ found. slice_index_or self.now.state.bodies slot None ≡ found.seat.now.body) }
+            ≡ option_map (λ found. object_of found.header.now (tag_of found.label.now found.name.now)) result }
+        ensures place { IfSome result (λ found. found.header.now.id.slot ≡ slot) }
+        ensures body { IfSome result (λ found. slice_index_or self.now.state.bodies slot None ≡ found.header.now.body) }
         ensures within { IfSome result (λ found. slot < self.now.state.limits.slots) }
-        ensures handles { IfSome result (λ found. found.seat.now.handles
-            ≡ handles_of self.now.state found.seat.now.id) }
-        ensures blocks { IfSome result (λ found. found.seat.now.blocks ≡ blocks_of self.now.state found.seat.now.id) }
-        ensures hold { IfSome result (λ found. hold_in found.seat.now.body ≡ hold_of self.now.state found.seat.now.id) }
+        ensures handles { IfSome result (λ found. found.header.now.handles
+            ≡ handles_of self.now.state found.header.now.id) }
+        ensures blocks { IfSome result (λ found. found.header.now.blocks
+            ≡ blocks_of self.now.state found.header.now.id) }
+        ensures hold { IfSome result (λ found. hold_in found.header.now.body
+            ≡ hold_of self.now.state found.header.now.id) }
     {
         // For `hold`: that an object has a body just where something refers to it.
         self.store.kept();

@@ -69,7 +69,7 @@ pub(crate) fn state_of<K: PinKeeper>(store: &Store<K>, id: Id) -> Option<ObjectS
     ensures { result ≡ state_of store.now.state id }
 {
     match store.object(id.slot) {
-        Some(found) if found.seat.id == id => Some(state_of_body(&found.seat.body)),
+        Some(found) if found.header.id == id => Some(state_of_body(&found.header.body)),
         _ => None,
     }
 }

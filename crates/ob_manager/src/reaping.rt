@@ -19,14 +19,14 @@ pub fn reap<K: PinKeeper>(store: &mut Store<K>, slot: u32) -> Result<Reply, Faul
         }
         return Err(Fault::Handle);
     };
-    let seat = found.seat;
-    if seat.body.is_some() {
+    let header = found.header;
+    if header.body.is_some() {
         return Err(Fault::Handle);
     }
     // (by its parts, so that a caller doesn't read as a whole what was just written in parts)
     let id = Id {
-        slot: seat.id.slot,
-        generation: seat.id.generation,
+        slot: header.id.slot,
+        generation: header.id.generation,
     };
     let outcome = store.reclaim(slot);
     Ok(Reply::Reaped { id, outcome })

@@ -1,12 +1,12 @@
 -- A verb without words behind it is bad, whichever it is.
 use Rattle.std.proofs.Common.{◌≡◌, ℕ, List, [], ◌∷◌, Bool, true, false, refl}
 use Rattle.std.specs.Prelude.{if◌then◌else◌}
-use Rattle.ob_script.specs.Acts.{Act, Bad}
-use Rattle.ob_script.specs.Grammar.{act_of_words}
+use Rattle.ob_script.specs.Commands.{Command, Bad}
+use Rattle.ob_script.specs.Grammar.{command_of_words}
 
-skips : (b : Bool) (rest : Act) → rest ≡ Bad → (if b then Bad else rest) ≡ Bad
+skips : (b : Bool) (rest : Command) → rest ≡ Bad → (if b then Bad else rest) ≡ Bad
 skips true rest bad = refl
 skips false rest bad = bad
 
-pub lone_is_bad : (word : List ℕ) → act_of_words (word ∷ []) ≡ Bad
+pub lone_is_bad : (word : List ℕ) → command_of_words (word ∷ []) ≡ Bad
 lone_is_bad word = search (skips) depth 32

@@ -1,25 +1,25 @@
 -- What a source gives and a sink takes in one call, and in how many.
 use Rattle.std.specs.Prelude.{◌≡◌, ◌+◌, ◌<◌, ◌^◌, ◌⊎◌, ℕ, zero, suc, List, [], ◌++◌, Result, Ok, Err, take}
-use Rattle.ob_script.specs.declared.device.Trouble.{Trouble}
-use Rattle.ob_script.specs.declared.device.Trouble.TheVariants.{Interrupted, Failed}
+use Rattle.ob_script.specs.declared.device.DeviceError.{DeviceError}
+use Rattle.ob_script.specs.declared.device.DeviceError.TheVariants.{Interrupted, Failed}
 
 -- how many reads, and how many writes, a run of a script makes at most
 abbrev pub calls_most : ℕ
 calls_most = 10 ^ 9
 
 -- the bytes that a call moved
-abbrev pub moved : Result ℕ Trouble → List ℕ → List ℕ
+abbrev pub moved : Result ℕ DeviceError → List ℕ → List ℕ
 moved (Ok count) bytes = take count bytes
-moved (Err trouble) bytes = []
+moved (Err device_error) bytes = []
 
 -- a read that failed is a fault; one that was interrupted isn't
-abbrev pub read_faults : Result ℕ Trouble → ℕ
+abbrev pub read_faults : Result ℕ DeviceError → ℕ
 read_faults (Ok count) = 0
 read_faults (Err Interrupted) = 0
 read_faults (Err Failed) = 1
 
 -- the same of a write, where a write of no bytes is a fault too
-abbrev pub write_faults : Result ℕ Trouble → ℕ
+abbrev pub write_faults : Result ℕ DeviceError → ℕ
 write_faults (Ok zero) = 1
 write_faults (Ok (suc count)) = 0
 write_faults (Err Interrupted) = 0

@@ -12,7 +12,7 @@ use Rattle.ob_manager.specs.declared.waiting.Timeout.TheVariants.{Infinite, Mill
 use Rattle.ob_manager.specs.Makings.{Making}
 use Rattle.ob_manager.specs.Calls.{Call}
 use Rattle.ob_manager.specs.declared.call.CallOf.TheVariants.{Spawn, Child, StartThread, MakeEvent, MakeMutex, MakeSemaphore, MakeTimer, OpenNamed, Duplicate, CloseHandle, GetFlags, SetFlags, SetEvent, ResetEvent, ReleaseSemaphore, ReleaseMutex, SetTimer, CancelTimer, Tick, WaitFor, WaitResult, Expire, EndThread, Exit, Reap, Counts}
-use Rattle.ob_script.specs.Acts.{Act, Nothing, Bad, ListNames, Asks, Pin, Unpin, ShowCard}
+use Rattle.ob_script.specs.Commands.{Command, Nothing, Bad, ListNames, Asks, Pin, Unpin, ShowCard}
 use Rattle.ob_script.specs.Words.{words_of, joined, begins_with, behind, number_of, signed_of, moment_of, due_of, mask_of, kind_of, labelled, id_of, either_of, are_handles, handles_in, ◌>>=◌}
 
 -- `[KEYWORD M]`: the mask, where there is one, and the words behind it
@@ -209,19 +209,19 @@ object_of (object ∷ []) = id_of object
 object_of words = None
 
 -- what the reader is asked for with the object
-abbrev pub on_object : (Id → Act) → Option Id → Act
-on_object act None = Bad
-on_object act (Some id) = act id
+abbrev pub on_object : (Id → Command) → Option Id → Command
+on_object command None = Bad
+on_object command (Some id) = command id
 
 -- a call is asked for, if the words behind its verb are its own
-abbrev pub asked : Option Call → Act
+abbrev pub asked : Option Call → Command
 asked None = Bad
 asked (Some call) = Asks call
 
 -- what the words of a line are
-abbrev pub act_of_words : List (List ℕ) → Act
-act_of_words [] = Bad
-act_of_words (verb ∷ words) =
+abbrev pub command_of_words : List (List ℕ) → Command
+command_of_words [] = Bad
+command_of_words (verb ∷ words) =
     if bytes_eq verb (codes "close") then asked (handled CloseHandle words)
     else (if bytes_eq verb (codes "set") then asked (handled SetEvent words)
     else (if bytes_eq verb (codes "wait") then asked (wait_of words)
@@ -258,12 +258,12 @@ abbrev pub text_of : List ℕ → List ℕ
 text_of line = if slice_index line (length line - 1) == 13 then take (length line - 1) line else line
 
 -- A text of more than 4,096 bytes is bad; an empty text and a text that begins with # are nothing; `dir` lists names.
-abbrev pub act_of_text : List ℕ → Act
-act_of_text text =
+abbrev pub command_of_text : List ℕ → Command
+command_of_text text =
     if nat_lt 4096 (length text) then Bad
     else (if (length text == 0) || (slice_index text 0 == 35) then Nothing
     else (if bytes_eq text (codes "dir") then ListNames
-    else act_of_words (words_of text)))
+    else command_of_words (words_of text)))
 
-abbrev pub act_of : List ℕ → Act
-act_of line = act_of_text (text_of line)
+abbrev pub command_of : List ℕ → Command
+command_of line = command_of_text (text_of line)

@@ -1,12 +1,12 @@
-pub mod Acts
+pub mod Commands
 pub mod Words
 pub mod WordsLeft
 pub mod Grammar
-pub mod HeldLines
+pub mod PartialLines
 pub mod Marks
 pub mod Writing
 pub mod Fitting
-pub mod Accounts
+pub mod IoTraces
 pub mod Devices
 pub mod Printed
 pub mod Pending

@@ -1,8 +1,8 @@
 ghost use Rattle.std.specs.Prelude.{◌≡◌, ◌+◌, ◌<◌, ◌≤◌, [], Err, IfNone, IfSome, length};
-ghost use Rattle.ob_script.specs.declared.device.Trouble.TheVariants.{Failed};
+ghost use Rattle.ob_script.specs.declared.device.DeviceError.TheVariants.{Failed};
 
-use crate::account::{Account, Moved};
-use crate::device::{Sink, Trouble};
+use crate::device::{DeviceError, Sink};
+use crate::io_trace::{IoTrace, Transfer};
 use std::alloc::Global;
 
 /// Memory as a [`Sink`]: what was written, one write behind another, as long as that is at most so many bytes; behind
@@ -12,39 +12,39 @@ pub struct Collected {
     kept: Vec<u8>,
     pub most: usize,
     count: usize,
-    pub account: Account,
-    ghost counted: { count ≡ length account.bytes },
-    ghost whole: { count ≤ most → kept.items ≡ account.bytes },
+    pub io_trace: IoTrace,
+    ghost counted: { count ≡ length io_trace.bytes },
+    ghost whole: { count ≤ most → kept.items ≡ io_trace.bytes },
 }
 
 impl Collected {
     /// A sink to which nothing was written, and which keeps so many bytes at most. It takes no memory.
     pub fn new(alloc: Global, most: usize) -> Collected
         ensures most { result.most ≡ most }
-        ensures bytes { result.account.bytes ≡ [] }
-        ensures calls { result.account.calls ≡ 0 }
-        ensures faults { result.account.faults ≡ 0 }
+        ensures bytes { result.io_trace.bytes ≡ [] }
+        ensures calls { result.io_trace.calls ≡ 0 }
+        ensures faults { result.io_trace.faults ≡ 0 }
     {
         Collected {
             kept: Vec::new(alloc),
             most,
             count: 0,
-            account: Account::new(),
+            io_trace: IoTrace::new(),
         }
     }
 
     /// How many bytes were written.
     pub fn len(&self) -> usize
-        ensures { result ≡ length self.now.account.bytes }
+        ensures { result ≡ length self.now.io_trace.bytes }
     {
         self.count
     }
 
     /// All that was written, where it isn't too much.
     pub fn whole(&self) -> Option<&[u8]>
-        ensures bytes { IfSome result (λ bytes. bytes.now ≡ self.now.account.bytes) }
+        ensures bytes { IfSome result (λ bytes. bytes.now ≡ self.now.io_trace.bytes) }
         ensures fits { IfSome result (λ bytes. length bytes.now ≤ self.now.most) }
-        ensures none { IfNone result (self.now.most < length self.now.account.bytes) }
+        ensures none { IfNone result (self.now.most < length self.now.io_trace.bytes) }
     {
         if self.count > self.most {
             return None;
@@ -53,30 +53,30 @@ impl Collected {
     }
 
     /// A write that took nothing.
-    fn failed(&mut self) -> Result<usize, Trouble>
+    fn failed(&mut self) -> Result<usize, DeviceError>
         ensures result { result ≡ Err Failed }
-        ensures bytes { self.new.account.bytes ≡ self.old.account.bytes }
-        ensures calls { self.new.account.calls ≡ self.old.account.calls + 1 }
-        ensures faults { self.new.account.faults ≡ self.old.account.faults + 1 }
+        ensures bytes { self.new.io_trace.bytes ≡ self.old.io_trace.bytes }
+        ensures calls { self.new.io_trace.calls ≡ self.old.io_trace.calls + 1 }
+        ensures faults { self.new.io_trace.faults ≡ self.old.io_trace.faults + 1 }
         ensures most { self.new.most ≡ self.old.most }
     {
-        self.account = self.account.and(&Moved {
+        self.io_trace = self.io_trace.and(&Transfer {
             bytes: &[],
             is_fault: true,
             is_end: false,
         });
-        Err(Trouble::Failed)
+        Err(DeviceError::Failed)
     }
 }
 
 impl Sink for Collected {
-    ghost taken = { λ collected. collected.account.bytes };
+    ghost taken = { λ collected. collected.io_trace.bytes };
 
-    ghost calls = { λ collected. collected.account.calls };
+    ghost calls = { λ collected. collected.io_trace.calls };
 
-    ghost faults = { λ collected. collected.account.faults };
+    ghost faults = { λ collected. collected.io_trace.faults };
 
-    fn write(&mut self, bytes: &[u8]) -> Result<usize, Trouble> {
+    fn write(&mut self, bytes: &[u8]) -> Result<usize, DeviceError> {
         let Some(count) = self.count.checked_add(bytes.len()) else {
             return self.failed();
         };
@@ -87,7 +87,7 @@ impl Sink for Collected {
             return self.failed();
         }
         self.count = count;
-        self.account = self.account.and(&Moved {
+        self.io_trace = self.io_trace.and(&Transfer {
             bytes,
             is_fault: false,
             is_end: false,

@@ -11,7 +11,7 @@ pub const READ_MOST: usize = 65536;
 
 /// Why a call of a device moved no byte.
 #[derive(Clone, Copy, Debug, PartialEq, Eq)]
-pub enum Trouble {
+pub enum DeviceError {
     /// It was interrupted, and may be made again.
     Interrupted,
     /// The device failed.
@@ -32,7 +32,7 @@ pub trait Source {
     ghost HasEnded: { Self → Type 0 };
 
     /// Reads into the front of a block, and says how many bytes; none only at the end.
-    fn read(&mut self, block: &mut [u8]) -> Result<usize, Trouble>
+    fn read(&mut self, block: &mut [u8]) -> Result<usize, DeviceError>
         requires { 0 < length block.old }
         ensures bound { IfOk result (λ count. count ≤ length block.new) }
         ensures given { given self.new ≡ given self.old ++ moved result block.new }
@@ -52,7 +52,7 @@ pub trait Sink {
     ghost faults: { Self → ℕ };
 
     /// Writes the front of some bytes, and says how many.
-    fn write(&mut self, bytes: &[u8]) -> Result<usize, Trouble>
+    fn write(&mut self, bytes: &[u8]) -> Result<usize, DeviceError>
         requires { 0 < length bytes.now }
         ensures bound { IfOk result (λ count. count ≤ length bytes.now) }
         ensures taken { taken self.new ≡ taken self.old ++ moved result bytes.now }

@@ -1,13 +1,13 @@
 ghost use Rattle.std.specs.Prelude.{◌≡◌, ◌≤◌, IfSome, length, nat_lt, take, true};
 ghost use Rattle.ob_manager.specs.declared.call.CallOf.TheVariants as calls;
 ghost use Rattle.ob_script.specs.Words.{are_handles, handles_in, id_of, labelled, moment_of, number_of};
-ghost use Rattle.ob_script.specs.Acts.{IsRead, Pin, ShowCard, Unpin, act_in, shortened};
-ghost use Rattle.ob_script.specs.Grammar.{access_of, act_of, asked, child_of, closing_of, dup_of, event_of, handle_of};
+ghost use Rattle.ob_script.specs.Commands.{IsRead, Pin, ShowCard, Unpin, command_in, shortened};
+ghost use Rattle.ob_script.specs.Grammar.{access_of, command_of, asked, child_of, closing_of, dup_of, event_of, handle_of};
 ghost use Rattle.ob_script.specs.Grammar.{handled, lone_of, mode_of, mutex_of, object_of, on_object, open_of};
 ghost use Rattle.ob_script.specs.Grammar.{release_of, semaphore_of, setflags_of, settimer_of, target_of, text_of};
 ghost use Rattle.ob_script.specs.Grammar.{timeout_of, timer_of, wait_of};
 
-use crate::act::{Act, Handles, LineCall};
+use crate::command::{Command, Handles, LineCall};
 use crate::line::ScriptLine;
 use crate::naming::{make_of, name_of};
 use crate::numbers::{due_of, either_of, labelled, moment_of, number_of, signed_of};
@@ -17,12 +17,12 @@ use ob_manager::{Mode, Timeout};
 use ob_rights::Rights;
 use pin_core::Id;
 
-/// The value of an option; the function returns [`Act::Bad`] where there is none.
+/// The value of an option; the function returns [`Command::Bad`] where there is none.
 macro_rules! wanted {
     ($value:expr) => {
         match $value {
             Some(value) => value,
-            None => return Act::Bad,
+            None => return Command::Bad,
         }
     };
 }
@@ -40,23 +40,23 @@ pub fn is_too_long(text: &[u8]) -> bool
 /// What a line is. The handles of a wait are read into `handles`, in place of those that stood there.
 //
 // What a line of each verb is stands in this one function when it runs: a function of its own would have a copy of the
-// words that are left, and each of these would be cleared for every line. Each verb makes its act in one step, with no
+// words that are left, and each of these would be cleared for every line. Each verb makes its command in one step, with no
 // option between: that would be taken apart and put together for every line. It stands where it is called, so that no
 // act is made where its parts are enough: who reads lines calls it in one place.
 #[inline(always)]
 #[tactic(auto, using(crate::proofs::Verbs::lone_is_bad))]
-pub fn act_of<'a>(line: &ScriptLine<'a>, handles: &mut Handles) -> Act<'a>
-    ensures { act_in handles.new.items result ≡ shortened (act_of line.now) }
+pub fn command_of<'a>(line: &ScriptLine<'a>, handles: &mut Handles) -> Command<'a>
+    ensures { command_in handles.new.items result ≡ shortened (command_of line.now) }
 {
     let text = text_of(line.bytes());
     if is_too_long(text) {
-        return Act::Bad;
+        return Command::Bad;
     }
     if text.is_empty() || text[0] == b'#' {
-        return Act::Nothing;
+        return Command::Nothing;
     }
     if is(text, b"dir") {
-        return Act::ListNames;
+        return Command::ListNames;
     }
     let (verb, words) = wanted!(line.parted());
     if is(verb, b"close") {
@@ -146,7 +146,7 @@ pub fn act_of<'a>(line: &ScriptLine<'a>, handles: &mut Handles) -> Act<'a>
     if is(verb, b"card") {
         return card_of(words);
     }
-    Act::Bad
+    Command::Bad
 }
 
 /// The text of a line: one carriage return at its end is dropped.
@@ -160,17 +160,17 @@ pub fn text_of(line: &[u8]) -> &[u8]
 }
 
 #[inline(always)]
-fn spawn_of(mut words: Words<'_>) -> Act<'_>
+fn spawn_of(mut words: Words<'_>) -> Command<'_>
     ensures { IsRead result (asked (lone_of number_of calls.Spawn words.entry)) }
 {
     let session = wanted!(words.next());
     wanted!(words.end());
     let session = wanted!(number_of(session));
-    Act::Ask(LineCall::Spawn { session })
+    Command::Ask(LineCall::Spawn { session })
 }
 
 #[inline(always)]
-fn child_of(mut words: Words<'_>) -> Act<'_>
+fn child_of(mut words: Words<'_>) -> Command<'_>
     ensures { IsRead result (asked (child_of words.entry)) }
 {
     let thread = wanted!(words.labelled(b't'));
@@ -178,21 +178,21 @@ fn child_of(mut words: Words<'_>) -> Act<'_>
     wanted!(words.end());
     let thread = wanted!(thread);
     let inherit = wanted!(either_of(b"plain", b"inherit", inherit));
-    Act::Ask(LineCall::Child { thread, inherit })
+    Command::Ask(LineCall::Child { thread, inherit })
 }
 
 #[inline(always)]
-fn thread_of(mut words: Words<'_>) -> Act<'_>
+fn thread_of(mut words: Words<'_>) -> Command<'_>
     ensures { IsRead result (asked (lone_of (labelled 112) calls.StartThread words.entry)) }
 {
     let process = wanted!(words.labelled(b'p'));
     wanted!(words.end());
     let process = wanted!(process);
-    Act::Ask(LineCall::StartThread { process })
+    Command::Ask(LineCall::StartThread { process })
 }
 
 #[inline(always)]
-fn event_of(mut words: Words<'_>) -> Act<'_>
+fn event_of(mut words: Words<'_>) -> Command<'_>
     ensures { IsRead result (asked (event_of words.entry)) }
 {
     let thread = wanted!(words.labelled(b't'));
@@ -202,7 +202,7 @@ fn event_of(mut words: Words<'_>) -> Act<'_>
     let manual = wanted!(either_of(b"auto", b"manual", reset));
     let set = wanted!(either_of(b"clear", b"set", state));
     let make = wanted!(make_of(words));
-    Act::Ask(LineCall::MakeEvent {
+    Command::Ask(LineCall::MakeEvent {
         thread,
         make,
         manual,
@@ -211,7 +211,7 @@ fn event_of(mut words: Words<'_>) -> Act<'_>
 }
 
 #[inline(always)]
-fn mutex_of(mut words: Words<'_>) -> Act<'_>
+fn mutex_of(mut words: Words<'_>) -> Command<'_>
     ensures { IsRead result (asked (mutex_of words.entry)) }
 {
     let thread = wanted!(words.labelled(b't'));
@@ -219,7 +219,7 @@ fn mutex_of(mut words: Words<'_>) -> Act<'_>
     let thread = wanted!(thread);
     let owned = wanted!(either_of(b"free", b"owned", state));
     let make = wanted!(make_of(words));
-    Act::Ask(LineCall::MakeMutex {
+    Command::Ask(LineCall::MakeMutex {
         thread,
         make,
         owned,
@@ -227,7 +227,7 @@ fn mutex_of(mut words: Words<'_>) -> Act<'_>
 }
 
 #[inline(always)]
-fn semaphore_of(mut words: Words<'_>) -> Act<'_>
+fn semaphore_of(mut words: Words<'_>) -> Command<'_>
     ensures { IsRead result (asked (semaphore_of words.entry)) }
 {
     let thread = wanted!(words.labelled(b't'));
@@ -237,7 +237,7 @@ fn semaphore_of(mut words: Words<'_>) -> Act<'_>
     let initial = wanted!(signed_of(initial));
     let max = wanted!(signed_of(max));
     let make = wanted!(make_of(words));
-    Act::Ask(LineCall::MakeSemaphore {
+    Command::Ask(LineCall::MakeSemaphore {
         thread,
         make,
         initial,
@@ -246,7 +246,7 @@ fn semaphore_of(mut words: Words<'_>) -> Act<'_>
 }
 
 #[inline(always)]
-fn timer_of(mut words: Words<'_>) -> Act<'_>
+fn timer_of(mut words: Words<'_>) -> Command<'_>
     ensures { IsRead result (asked (timer_of words.entry)) }
 {
     let thread = wanted!(words.labelled(b't'));
@@ -254,7 +254,7 @@ fn timer_of(mut words: Words<'_>) -> Act<'_>
     let thread = wanted!(thread);
     let manual = wanted!(either_of(b"auto", b"manual", reset));
     let make = wanted!(make_of(words));
-    Act::Ask(LineCall::MakeTimer {
+    Command::Ask(LineCall::MakeTimer {
         thread,
         make,
         manual,
@@ -262,7 +262,7 @@ fn timer_of(mut words: Words<'_>) -> Act<'_>
 }
 
 #[inline(always)]
-fn open_of(mut words: Words<'_>) -> Act<'_>
+fn open_of(mut words: Words<'_>) -> Command<'_>
     ensures { IsRead result (asked (open_of words.entry)) }
 {
     let thread = wanted!(words.labelled(b't'));
@@ -273,7 +273,7 @@ fn open_of(mut words: Words<'_>) -> Act<'_>
     let mask = wanted!(mask_of(mask));
     let inherit = words.skip(b"inherit");
     let text = wanted!(name_of(words));
-    Act::Ask(LineCall::OpenNamed {
+    Command::Ask(LineCall::OpenNamed {
         thread,
         kind,
         mask,
@@ -283,7 +283,7 @@ fn open_of(mut words: Words<'_>) -> Act<'_>
 }
 
 #[inline(always)]
-fn dup_of(mut words: Words<'_>) -> Act<'_>
+fn dup_of(mut words: Words<'_>) -> Command<'_>
     ensures { IsRead result (asked (dup_of words.entry)) }
 {
     let thread = wanted!(words.labelled(b't'));
@@ -298,7 +298,7 @@ fn dup_of(mut words: Words<'_>) -> Act<'_>
     let (mask, sameness) = wanted!(access_of(access));
     let inherit = words.skip(b"inherit");
     let closing = wanted!(closing_of(words));
-    Act::Ask(LineCall::Duplicate {
+    Command::Ask(LineCall::Duplicate {
         thread,
         source,
         handle,
@@ -361,23 +361,23 @@ fn handle_of(mut words: Words<'_>) -> Option<(u32, u32)>
 }
 
 #[inline(always)]
-fn close_of(words: Words<'_>) -> Act<'_>
+fn close_of(words: Words<'_>) -> Command<'_>
     ensures { IsRead result (asked (handled calls.CloseHandle words.entry)) }
 {
     let (thread, handle) = wanted!(handle_of(words));
-    Act::Ask(LineCall::CloseHandle { thread, handle })
+    Command::Ask(LineCall::CloseHandle { thread, handle })
 }
 
 #[inline(always)]
-fn flags_of(words: Words<'_>) -> Act<'_>
+fn flags_of(words: Words<'_>) -> Command<'_>
     ensures { IsRead result (asked (handled calls.GetFlags words.entry)) }
 {
     let (thread, handle) = wanted!(handle_of(words));
-    Act::Ask(LineCall::GetFlags { thread, handle })
+    Command::Ask(LineCall::GetFlags { thread, handle })
 }
 
 #[inline(always)]
-fn setflags_of(mut words: Words<'_>) -> Act<'_>
+fn setflags_of(mut words: Words<'_>) -> Command<'_>
     ensures { IsRead result (asked (setflags_of words.entry)) }
 {
     let thread = wanted!(words.labelled(b't'));
@@ -389,7 +389,7 @@ fn setflags_of(mut words: Words<'_>) -> Act<'_>
     let handle = wanted!(handle);
     let mask = wanted!(number_of(mask));
     let flags = wanted!(number_of(flags));
-    Act::Ask(LineCall::SetFlags {
+    Command::Ask(LineCall::SetFlags {
         thread,
         handle,
         mask,
@@ -398,39 +398,39 @@ fn setflags_of(mut words: Words<'_>) -> Act<'_>
 }
 
 #[inline(always)]
-fn set_of(words: Words<'_>) -> Act<'_>
+fn set_of(words: Words<'_>) -> Command<'_>
     ensures { IsRead result (asked (handled calls.SetEvent words.entry)) }
 {
     let (thread, handle) = wanted!(handle_of(words));
-    Act::Ask(LineCall::SetEvent { thread, handle })
+    Command::Ask(LineCall::SetEvent { thread, handle })
 }
 
 #[inline(always)]
-fn reset_of(words: Words<'_>) -> Act<'_>
+fn reset_of(words: Words<'_>) -> Command<'_>
     ensures { IsRead result (asked (handled calls.ResetEvent words.entry)) }
 {
     let (thread, handle) = wanted!(handle_of(words));
-    Act::Ask(LineCall::ResetEvent { thread, handle })
+    Command::Ask(LineCall::ResetEvent { thread, handle })
 }
 
 #[inline(always)]
-fn unlock_of(words: Words<'_>) -> Act<'_>
+fn unlock_of(words: Words<'_>) -> Command<'_>
     ensures { IsRead result (asked (handled calls.ReleaseMutex words.entry)) }
 {
     let (thread, handle) = wanted!(handle_of(words));
-    Act::Ask(LineCall::ReleaseMutex { thread, handle })
+    Command::Ask(LineCall::ReleaseMutex { thread, handle })
 }
 
 #[inline(always)]
-fn cancel_of(words: Words<'_>) -> Act<'_>
+fn cancel_of(words: Words<'_>) -> Command<'_>
     ensures { IsRead result (asked (handled calls.CancelTimer words.entry)) }
 {
     let (thread, handle) = wanted!(handle_of(words));
-    Act::Ask(LineCall::CancelTimer { thread, handle })
+    Command::Ask(LineCall::CancelTimer { thread, handle })
 }
 
 #[inline(always)]
-fn settimer_of(mut words: Words<'_>) -> Act<'_>
+fn settimer_of(mut words: Words<'_>) -> Command<'_>
     ensures { IsRead result (asked (settimer_of words.entry)) }
 {
     let thread = wanted!(words.labelled(b't'));
@@ -440,7 +440,7 @@ fn settimer_of(mut words: Words<'_>) -> Act<'_>
     let thread = wanted!(thread);
     let handle = wanted!(handle);
     let due = wanted!(due_of(due));
-    Act::Ask(LineCall::SetTimer {
+    Command::Ask(LineCall::SetTimer {
         thread,
         handle,
         due,
@@ -448,17 +448,17 @@ fn settimer_of(mut words: Words<'_>) -> Act<'_>
 }
 
 #[inline(always)]
-fn tick_of(mut words: Words<'_>) -> Act<'_>
+fn tick_of(mut words: Words<'_>) -> Command<'_>
     ensures { IsRead result (asked (lone_of moment_of calls.Tick words.entry)) }
 {
     let moment = wanted!(words.next());
     wanted!(words.end());
     let now = wanted!(moment_of(moment));
-    Act::Ask(LineCall::Tick { now })
+    Command::Ask(LineCall::Tick { now })
 }
 
 #[inline(always)]
-fn release_of(mut words: Words<'_>) -> Act<'_>
+fn release_of(mut words: Words<'_>) -> Command<'_>
     ensures { IsRead result (asked (release_of words.entry)) }
 {
     let thread = wanted!(words.labelled(b't'));
@@ -468,7 +468,7 @@ fn release_of(mut words: Words<'_>) -> Act<'_>
     let thread = wanted!(thread);
     let handle = wanted!(handle);
     let count = wanted!(signed_of(count));
-    Act::Ask(LineCall::ReleaseSemaphore {
+    Command::Ask(LineCall::ReleaseSemaphore {
         thread,
         handle,
         count,
@@ -476,8 +476,8 @@ fn release_of(mut words: Words<'_>) -> Act<'_>
 }
 
 #[inline(always)]
-fn wait_of<'a>(mut words: Words<'a>, handles: &mut Handles) -> Act<'a>
-    ensures { act_in handles.new.items result ≡ shortened (asked (wait_of words.entry)) }
+fn wait_of<'a>(mut words: Words<'a>, handles: &mut Handles) -> Command<'a>
+    ensures { command_in handles.new.items result ≡ shortened (asked (wait_of words.entry)) }
 {
     let thread = wanted!(words.labelled(b't'));
     let mode = wanted!(words.next());
@@ -486,9 +486,9 @@ fn wait_of<'a>(mut words: Words<'a>, handles: &mut Handles) -> Act<'a>
     let mode = wanted!(mode_of(mode));
     let timeout = wanted!(timeout_of(timeout));
     if !read_handles(words, handles) {
-        return Act::Bad;
+        return Command::Bad;
     }
-    Act::Ask(LineCall::WaitFor {
+    Command::Ask(LineCall::WaitFor {
         thread,
         mode,
         timeout,
@@ -539,89 +539,89 @@ fn read_handles(mut words: Words<'_>, handles: &mut Handles) -> bool
 }
 
 #[inline(always)]
-fn result_of(mut words: Words<'_>) -> Act<'_>
+fn result_of(mut words: Words<'_>) -> Command<'_>
     ensures { IsRead result (asked (lone_of (labelled 119) calls.WaitResult words.entry)) }
 {
     let wait = wanted!(words.labelled(b'w'));
     wanted!(words.end());
     let wait = wanted!(wait);
-    Act::Ask(LineCall::WaitResult { wait })
+    Command::Ask(LineCall::WaitResult { wait })
 }
 
 #[inline(always)]
-fn expire_of(mut words: Words<'_>) -> Act<'_>
+fn expire_of(mut words: Words<'_>) -> Command<'_>
     ensures { IsRead result (asked (lone_of (labelled 119) calls.Expire words.entry)) }
 {
     let wait = wanted!(words.labelled(b'w'));
     wanted!(words.end());
     let wait = wanted!(wait);
-    Act::Ask(LineCall::Expire { wait })
+    Command::Ask(LineCall::Expire { wait })
 }
 
 #[inline(always)]
-fn endthread_of(mut words: Words<'_>) -> Act<'_>
+fn endthread_of(mut words: Words<'_>) -> Command<'_>
     ensures { IsRead result (asked (lone_of (labelled 116) calls.EndThread words.entry)) }
 {
     let thread = wanted!(words.labelled(b't'));
     wanted!(words.end());
     let thread = wanted!(thread);
-    Act::Ask(LineCall::EndThread { thread })
+    Command::Ask(LineCall::EndThread { thread })
 }
 
 #[inline(always)]
-fn exit_of(mut words: Words<'_>) -> Act<'_>
+fn exit_of(mut words: Words<'_>) -> Command<'_>
     ensures { IsRead result (asked (lone_of (labelled 112) calls.Exit words.entry)) }
 {
     let process = wanted!(words.labelled(b'p'));
     wanted!(words.end());
     let process = wanted!(process);
-    Act::Ask(LineCall::Exit { process })
+    Command::Ask(LineCall::Exit { process })
 }
 
 #[inline(always)]
-fn reap_of(mut words: Words<'_>) -> Act<'_>
+fn reap_of(mut words: Words<'_>) -> Command<'_>
     ensures { IsRead result (asked (lone_of (labelled 115) calls.Reap words.entry)) }
 {
     let slot = wanted!(words.labelled(b's'));
     wanted!(words.end());
     let slot = wanted!(slot);
-    Act::Ask(LineCall::Reap { slot })
+    Command::Ask(LineCall::Reap { slot })
 }
 
 #[inline(always)]
-fn count_of(mut words: Words<'_>) -> Act<'_>
+fn count_of(mut words: Words<'_>) -> Command<'_>
     ensures { IsRead result (asked (lone_of id_of calls.Counts words.entry)) }
 {
     let object = wanted!(words.object());
     wanted!(words.end());
-    // (by its parts: eight bytes at once would keep the act in memory, and wait there)
+    // (by its parts: eight bytes at once would keep the command in memory, and wait there)
     let Id { slot, generation } = wanted!(object);
     let id = Id { slot, generation };
-    Act::Ask(LineCall::Counts { id })
+    Command::Ask(LineCall::Counts { id })
 }
 
 #[inline(always)]
-fn pin_of(words: Words<'_>) -> Act<'_>
+fn pin_of(words: Words<'_>) -> Command<'_>
     ensures { IsRead result (on_object Pin (object_of words.entry)) }
 {
     let id = wanted!(object_of(words));
-    Act::Pin(id)
+    Command::Pin(id)
 }
 
 #[inline(always)]
-fn unpin_of(words: Words<'_>) -> Act<'_>
+fn unpin_of(words: Words<'_>) -> Command<'_>
     ensures { IsRead result (on_object Unpin (object_of words.entry)) }
 {
     let id = wanted!(object_of(words));
-    Act::Unpin(id)
+    Command::Unpin(id)
 }
 
 #[inline(always)]
-fn card_of(words: Words<'_>) -> Act<'_>
+fn card_of(words: Words<'_>) -> Command<'_>
     ensures { IsRead result (on_object ShowCard (object_of words.entry)) }
 {
     let id = wanted!(object_of(words));
-    Act::ShowCard(id)
+    Command::ShowCard(id)
 }
 
 /// An object, behind which nothing stands.

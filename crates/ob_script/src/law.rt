@@ -4,9 +4,9 @@ ghost use Rattle.ob_manager.specs.Calls.{Call};
 ghost use Rattle.ob_manager.specs.Steps.{Step};
 ghost use Rattle.ob_manager.specs.declared.reply.Reply.{Reply};
 ghost use Rattle.ob_manager.specs.declared.reply.Reply.TheVariants.{Refused};
-ghost use Rattle.ob_script.specs.Acts.{Asks};
+ghost use Rattle.ob_script.specs.Commands.{Asks};
 ghost use Rattle.ob_script.specs.Fitting.{Fits};
-ghost use Rattle.ob_script.specs.Grammar.{act_of};
+ghost use Rattle.ob_script.specs.Grammar.{command_of};
 ghost use Rattle.ob_script.specs.Writing.{as_said, line_of};
 ghost use Rattle.ob_store.specs.State.{Whole};
 
@@ -14,7 +14,7 @@ ghost use Rattle.ob_store.specs.State.{Whole};
 /// as the call: the same replies lead to the same states. A call without a line is refused, and nothing changes. That
 /// the numbers of a call fit their types [`line_of`](crate::line_of) says.
 pub fn law_of_lines()
-    ensures read { (call : Call) → Fits call → IfSome (line_of call) (λ line. act_of line ≡ Asks (as_said call)) }
+    ensures read { (call : Call) → Fits call → IfSome (line_of call) (λ line. command_of line ≡ Asks (as_said call)) }
     ensures alike { (w v : Whole) (call : Call) (reply : Reply) → Step w (as_said call) reply v ↔ Step w call reply v }
     ensures lineless { (w v : Whole) (call : Call) (reply : Reply) → Fits call → line_of call ≡ None
         → Step w call reply v → (v ≡ w) × (fault : Fault) × (reply ≡ Refused fault) }

@@ -4,15 +4,15 @@
 //! A line takes no memory: names stay as they stand in it, and the handles of a wait are read into a list that is lent.
 //!
 //! ```rust
-//! # use ob_script::{Act, Handles, LineCall, ScriptLine, act_of};
+//! # use ob_script::{Command, Handles, LineCall, ScriptLine, command_of};
 //! # use pin_core::Id;
 //! let mut handles = Handles::new();
 //! let (line, rest) = ScriptLine::first_of(b"close t1 h4\npin s0.1\n").unwrap();
-//! act_of(&line, &mut handles);                        // Act::Ask(LineCall::CloseHandle { thread: 1, handle: 4 })
-//! act_of(&ScriptLine::of(b"pin s0.1"), &mut handles); // Act::Pin(Id { slot: 0, generation: 1 })
-//! act_of(&ScriptLine::of(b"wait t1 all 5 h8 h4"), &mut handles);
+//! command_of(&line, &mut handles);                        // Command::Ask(LineCall::CloseHandle { thread: 1, handle: 4 })
+//! command_of(&ScriptLine::of(b"pin s0.1"), &mut handles); // Command::Pin(Id { slot: 0, generation: 1 })
+//! command_of(&ScriptLine::of(b"wait t1 all 5 h8 h4"), &mut handles);
 //! handles.len();                                      // 2
-//! act_of(&ScriptLine::of(b"close t1"), &mut handles); // Act::Bad
+//! command_of(&ScriptLine::of(b"close t1"), &mut handles); // Command::Bad
 //! # assert!(rt; rest == b"pin s0.1\n".as_slice() && handles.as_slice() == [8, 4].as_slice());
 //! ```
 //!
@@ -42,21 +42,21 @@
 //! ```
 #![tactic(auto)]
 
-mod account;
-mod act;
 mod answer;
 mod block;
 mod collected;
+mod command;
 mod device;
 mod ends;
 mod fitting;
 mod grammar;
-mod held;
+mod io_trace;
 mod law;
 mod line;
 mod naming;
 mod numbers;
 mod output;
+mod partial_line;
 mod record;
 mod recorder;
 mod rights;
@@ -64,18 +64,18 @@ mod wired;
 mod words;
 mod writing;
 
-pub use account::Account;
-pub use act::{Act, Handles, LineCall};
 pub use answer::Answer;
 pub use block::Block;
 pub use collected::Collected;
-pub use device::{CALLS_MOST, READ_MOST, Sink, Source, Trouble, zeros};
-pub use grammar::{act_of, is_too_long, text_of};
-pub use held::HeldLine;
+pub use command::{Command, Handles, LineCall};
+pub use device::{CALLS_MOST, DeviceError, READ_MOST, Sink, Source, zeros};
+pub use grammar::{command_of, is_too_long, text_of};
+pub use io_trace::IoTrace;
 pub use law::law_of_lines;
 pub use line::ScriptLine;
 pub use numbers::labelled;
 pub use output::{NotWritten, Output};
+pub use partial_line::PartialLine;
 pub use record::Record;
 pub use recorder::Recorder;
 pub use wired::Wired;

@@ -5,7 +5,7 @@ ghost use Rattle.ob_script.specs.Printed.{printed, printed_answer};
 
 use crate::answer::Answer;
 use crate::block::Block;
-use crate::device::{Sink, Trouble};
+use crate::device::{DeviceError, Sink};
 use ob_manager::Reply;
 use std::alloc::{AllocError, Global};
 use std::marker::Model;
@@ -105,8 +105,8 @@ fn write_all<W: Sink>(sink: &mut W, bytes: &[u8], writes_left: &mut u64) -> Resu
         match sink.write(rest) {
             Ok(0) => return Err(NotWritten),
             Ok(count) => rest = &rest[count..],
-            Err(Trouble::Interrupted) => {}
-            Err(Trouble::Failed) => return Err(NotWritten),
+            Err(DeviceError::Interrupted) => {}
+            Err(DeviceError::Failed) => return Err(NotWritten),
         }
     }
     Ok(())

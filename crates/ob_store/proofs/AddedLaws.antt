@@ -20,12 +20,12 @@ use Rattle.ob_tables.specs.Tables.{with_entry_of}
 use Rattle.ob_waits.specs.Form.{form_of}
 use Rattle.ob_waits.proofs.Room.{room_unnamed}
 use Rattle.ob_waits.proofs.Settled.{settled_unnamed}
-use Rattle.ob_store.specs.Objects.{ObjectsState, Head, object_in, places_in, vacancy, with_object}
-use Rattle.ob_store.specs.Agreement.{IsAgreed, IsTied}
+use Rattle.ob_store.specs.Objects.{ObjectsState, ObjectAttributes, object_in, places_in, vacancy, with_object}
+use Rattle.ob_store.specs.Agreement.{IsAgreed, ObjectsInvariant}
 use Rattle.ob_store.specs.State as state
 use Rattle.ob_store.specs.Parts.{PartsState, state_of}
 use Rattle.ob_store.specs.State.{State, generation_of, id_at}
-use Rattle.ob_store.specs.Kept.{IsKept, IsCounted, IsListing, IsLive, form_in}
+use Rattle.ob_store.specs.Kept.{StoreInvariant, IsCounted, IsListing, IsLive, form_in}
 use Rattle.ob_store.proofs.AgreeLaws.{object_at, body_at}
 use Rattle.ob_store.proofs.CountedLaws.{blocks_at, counted_added}
 use Rattle.ob_store.proofs.NamedLaws.{named_added}
@@ -46,11 +46,12 @@ pub next_id : (slots : List Slot) (k : ℕ) → ◌≡◌ {A =
 next_id slots k = λ i. record { slot = k; generation = (get_or-map generation_of slots k opening_slot) i }
 
 -- the state with a new object and an entry of it
-abbrev pub with_added : State → ℕ → ℕ → Rights → HandleFlags → Head → Body → State
-with_added s p slot rights flags head body = state.with_entry (state.with_object s slot head body) p
+abbrev pub with_added : State → ℕ → ℕ → Rights → HandleFlags → ObjectAttributes → Body → State
+with_added s p slot rights flags attributes body = state.with_entry (state.with_object s slot attributes body) p
     (record { id = id_at s slot; rights = rights; flags = flags })
 
-pub added_state : (p : PartsState) (process slot : ℕ) (rights : Rights) (flags : HandleFlags) (head : Head)
+pub added_state : (p : PartsState) (process slot : ℕ) (rights : Rights) (flags : HandleFlags)
+    (attributes : ObjectAttributes)
     (body : Body) (rows : Rows)
     → state_of (record p {
       tables = record p.tables {
@@ -61,18 +62,18 @@ pub added_state : (p : PartsState) (process slot : ℕ) (rights : Rights) (flags
               flags = flags;
             });
       };
-      objects = with_object p.objects slot head body;
+      objects = with_object p.objects slot attributes body;
       rows = rows;
     })
-    ≡ with_added (state_of p) process slot rights flags head body
-added_state p process slot rights flags head body rows =
+    ≡ with_added (state_of p) process slot rights flags attributes body
+added_state p process slot rights flags attributes body rows =
     search (arith, next_id, map-set_same)
 
-module _ (p : PartsState) (kept : IsKept p) (tied : IsTied p.objects)
-    (process slot : ℕ) (rights : Rights) (flags : HandleFlags) (head : Head) (body : Body)
+module _ (p : PartsState) (kept : StoreInvariant p) (tied : ObjectsInvariant p.objects)
+    (process slot : ℕ) (rights : Rights) (flags : HandleFlags) (attributes : ObjectAttributes) (body : Body)
     (live : IsLive p.processes.processes process)
     (vacant : is_vacant_at (vacancy (places_in p.objects)) slot ≡ true)
-    (formed : form_of body ≡ form_in head.descr)
+    (formed : form_of body ≡ form_in attributes.descr)
     (owned : (t : ℕ) → owner_of body ≡ Some t → IsLive p.processes.threads t) where
   abbrev pub entry : Entry
   entry = record { id = id_of p.objects.keeper.slots slot; rights = rights; flags = flags }
@@ -80,7 +81,7 @@ module _ (p : PartsState) (kept : IsKept p) (tied : IsTied p.objects)
   abbrev pub added : Rows → PartsState
   added rows = record p {
     tables = record p.tables { tables = with_entry_of p.tables.tables process entry };
-    objects = with_object p.objects slot head body;
+    objects = with_object p.objects slot attributes body;
     rows = rows;
   }
 
@@ -101,7 +102,7 @@ module _ (p : PartsState) (kept : IsKept p) (tied : IsTied p.objects)
 
   -- what is kept, whichever names are entered
   pub kept_added : (rows : Rows) → IsListing rows (with_entry_of p.tables.tables process entry)
-      (with_object p.objects slot head body).objects (p.objects.births + 1) → IsKept (added rows)
+      (with_object p.objects slot attributes body).objects (p.objects.births + 1) → StoreInvariant (added rows)
   kept_added rows listing =
       let bodied : slot < length o.seen.bodies = (let a = tied.agreed.length_is in let b = tied.agreed.bodied in
       omega (arith, within)) in
@@ -110,7 +111,7 @@ module _ (p : PartsState) (kept : IsKept p) (tied : IsTied p.objects)
         sound = record {
           limited = sound.limited;
           processes_kept = search (arith, live_changed);
-          counted = subst (λ (n : ℕ). IsCounted (with_object o slot head body).seen n
+          counted = subst (λ (n : ℕ). IsCounted (with_object o slot attributes body).seen n
               (with_entry_of p.tables.tables process entry) p.waits.waits)
               (search (arith, length-set))
               (counted_added o.seen (length o.objects) p.tables.tables p.waits.waits sound.counted
@@ -125,12 +126,12 @@ module _ (p : PartsState) (kept : IsKept p) (tied : IsTied p.objects)
         settled = search (arith, blocks_at, settled_unnamed);
       }
 
-  pub kept_nameless : head.name ≡ None → IsKept (added p.rows)
+  pub kept_nameless : attributes.name ≡ None → StoreInvariant (added p.rows)
   kept_nameless nameless = search (arith, live_tabled, vacant_empty, vacant_within, kept_added, listing_added, placed_agreed)
 
-  pub kept_name : (name : ObjectName) → head.name ≡ Some name → find_name name p.rows ≡ None
-      → IsKept (added (p.rows ++ (name, id_of p.objects.keeper.slots slot) ∷ []))
+  pub kept_name : (name : ObjectName) → attributes.name ≡ Some name → find_name name p.rows ≡ None
+      → StoreInvariant (added (p.rows ++ (name, id_of p.objects.keeper.slots slot) ∷ []))
   kept_name name named absent = kept_added (p.rows ++ (name, id_of o.keeper.slots slot) ∷ [])
       (listing_name_added p.rows p.tables.tables o.objects o.births kept.sound.listing
       (placed_agreed o tied.agreed) process entry
-      (object_in o slot head) name tied.born table refl refl named none within absent)
+      (object_in o slot attributes) name tied.born table refl refl named none within absent)

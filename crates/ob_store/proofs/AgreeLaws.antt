@@ -10,8 +10,8 @@ use Rattle.pin_core.specs.Events.{in_phase}
 use Rattle.pin_words.specs.Keepers.{KeeperState, with_slots, with_looks, closed}
 use Rattle.pin_words.specs.declared.view.Look.{Look}
 use Rattle.ob_body.specs.declared.body.Body.{Body}
-use Rattle.ob_waits.specs.Objects as waits
-use Rattle.ob_store.specs.Objects.{Object, ObjectsState, Head, with_object, with_keeper, places_in, without_seat, opened}
+use Rattle.ob_waits.specs.CountedBodies as waits
+use Rattle.ob_store.specs.Objects.{Object, ObjectsState, ObjectAttributes, with_object, with_keeper, places_in, without_header, opened}
 use Rattle.ob_store.specs.Agreement.{Agrees, IsAgreed, vacant_phase}
 
 abbrev pub object_at : ObjectsState → ℕ → Option Object
@@ -44,12 +44,12 @@ agreed_beside s t k b a here =
     grind arith
 
 -- counts change, and all bodies stay
-pub agreed_stays : (s : ObjectsState) (seen : waits.Objects) → seen.bodies ≡ s.seen.bodies → IsAgreed s
+pub agreed_stays : (s : ObjectsState) (seen : waits.CountedBodies) → seen.bodies ≡ s.seen.bodies → IsAgreed s
     → IsAgreed (record s { seen = seen })
 agreed_stays s seen bodies a = search arith
 
 -- the object of a slot ends, and its slot closes
-pub agreed_ended : (s : ObjectsState) (seen : waits.Objects) (k : ℕ) → seen.bodies ≡ set s.seen.bodies k None
+pub agreed_ended : (s : ObjectsState) (seen : waits.CountedBodies) (k : ℕ) → seen.bodies ≡ set s.seen.bodies k None
     → is_some (body_at s k) ≡ true → IsAgreed s → IsAgreed (record s { seen = seen; keeper = closed s.keeper k })
 agreed_ended s seen k bodies there a =
     search (arith, get_or-set_other, get_or-set_same, length-set)
@@ -76,10 +76,11 @@ pub opened_closed : (k : KeeperState) (s : ℕ) → (slot_of k.slots s).phase �
 opened_closed k s live = search (arith, map-set_same)
 
 -- a new object in a vacant slot: its descriptor is stored, and then it is published
-pub agreed_added : (s t : ObjectsState) (k : ℕ) (head : Head) (body : Body) → t ≡ with_object s k head body
+pub agreed_added : (s t : ObjectsState) (k : ℕ) (attributes : ObjectAttributes) (body : Body)
+    → t ≡ with_object s k attributes body
     → object_at s k ≡ None → retired_at s k ≡ false → k < length s.objects → k < length s.seen.bodies → IsAgreed s
     → IsAgreed t
-agreed_added s t k head body is none unretired room seats a = search (arith, get_or-set_other, get_or-set_same, length-set)
+agreed_added s t k attributes body is none unretired room headers a = search (arith, get_or-set_other, get_or-set_same, length-set)
 
 -- a vacant slot is free
 pub free_at : (s : ObjectsState) (k : ℕ) → object_at s k ≡ None → retired_at s k ≡ false → k < length s.objects
@@ -94,7 +95,7 @@ free_at s k none unretired room a = search arith
 
 -- an object left its slot, which is then y
 abbrev pub vacated : ObjectsState → ℕ → List Bool → Slot → List Look → ObjectsState
-vacated s k retired y looks = with_keeper (record (without_seat (places_in s) k) { retired = retired }) s.births
+vacated s k retired y looks = with_keeper (record (without_header (places_in s) k) { retired = retired }) s.births
     (with_looks (with_slots s.keeper (set s.keeper.slots k y)) looks)
 
 pub agreed_vacated : (s : ObjectsState) (k : ℕ) (retired : List Bool) (y : Slot) (looks : List Look)

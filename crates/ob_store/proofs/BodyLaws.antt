@@ -7,7 +7,7 @@ use Rattle.std.proofs.lemmas.Bool.{cases_eq}
 use Rattle.ob_body.specs.declared.body.Body.{Body}
 use Rattle.ob_body.specs.Body.{owner_of, is_signaled}
 use Rattle.ob_waits.specs.declared.wait.Wait.{Wait}
-use Rattle.ob_waits.specs.Objects.{Objects, slot_signaled}
+use Rattle.ob_waits.specs.CountedBodies.{CountedBodies, slot_signaled}
 use Rattle.ob_waits.specs.Form.{Form, form_of, slot_due, slot_form, slot_owner, HasWait}
 use Rattle.ob_waits.specs.Rules.{WaitsHaveRoom, thread_of}
 use Rattle.ob_waits.specs.Waits.{Scene, settled}
@@ -62,7 +62,7 @@ pub of_live_more : (threads threads' : List (Option ℕ)) (bodies : List (Option
 of_live_more threads threads' bodies ws more l = search arith
 
 -- the waits settle
-module _ (first : Scene) (after : Objects) (ws' : List (Option Wait))
+module _ (first : Scene) (after : CountedBodies) (ws' : List (Option Wait))
     (value : ◌≡◌ {A = Scene} (record { objects = after; waits = ws' }) (settled first)) where
   body_is : (k : ℕ) → get_or after.bodies k None ≡ get_or (settled first).objects.bodies k None
   body_is k = ap (λ (s : Scene). get_or s.objects.bodies k None) value

@@ -14,11 +14,11 @@ use Rattle.ob_tables.proofs.Inheriting.{at-trimmed}
 use Rattle.ob_tables.proofs.SlotCounts.{one_in, slot_handles-with_child, slot_handles-few}
 use Rattle.ob_store.specs.Processes as spec
 use Rattle.ob_store.specs.Objects.{ObjectsState, with_handle_at, with_handles_of}
-use Rattle.ob_store.specs.Agreement.{IsTied}
+use Rattle.ob_store.specs.Agreement.{ObjectsInvariant}
 use Rattle.ob_store.specs.State as state
 use Rattle.ob_store.specs.State.{Whole, settled, by_slot}
 use Rattle.ob_store.specs.Parts.{PartsState, state_of, whole_of}
-use Rattle.ob_store.specs.Kept.{IsKept, IsNamed}
+use Rattle.ob_store.specs.Kept.{StoreInvariant, IsNamed}
 use Rattle.ob_store.proofs.BySlot.{recounted, count_few}
 use Rattle.ob_store.proofs.CameLaws.{came_one}
 use Rattle.ob_store.proofs.CountedLaws.{handles_at, handles_long}
@@ -54,7 +54,7 @@ handles_counted (Some e ∷ places) s k lt =
     sum_by-cons _ (Some e) places in
     omega (arith, rest, first, sum)
 
-module _ (p : PartsState) (kept : IsKept p) (parent : ℕ) (w : Whole) (view : whole_of p ≡ w)
+module _ (p : PartsState) (kept : StoreInvariant p) (parent : ℕ) (w : Whole) (view : whole_of p ≡ w)
     (table : parent < length w.state.tables) where
   abbrev pub child_table : List (Option Entry)
   child_table = inherited (table_of p.tables.tables parent)
@@ -71,7 +71,7 @@ module _ (p : PartsState) (kept : IsKept p) (parent : ℕ) (w : Whole) (view : w
       search (arith, get_or-append_seam)
 
   -- what a child inherits has a body
-  pub inherited_live : IsTied p.objects → (places : List (Option Entry)) → places ≡ child_table → (i : ℕ) →
+  pub inherited_live : ObjectsInvariant p.objects → (places : List (Option Entry)) → places ≡ child_table → (i : ℕ) →
       IfSome (get_or places i None) (λ e. IsSome (get_or p.objects.seen.bodies e.id.slot None))
   inherited_live tied places same i = subst (λ (t : List (Option Entry)).
       IfSome (get_or t i None) (λ e. IsSome (get_or p.objects.seen.bodies e.id.slot None))) (sym same)
@@ -137,11 +137,11 @@ module _ (p : PartsState) (kept : IsKept p) (parent : ℕ) (w : Whole) (view : w
 
   pub kept_child : (session : ℕ) → length w.state.processes ≤ w.state.limits.processes
       → length w.state.threads ≤ w.state.limits.threads
-      → IsKept (with_child session (with_handles_of p.objects (inherited (table_of p.tables.tables parent))))
+      → StoreInvariant (with_child session (with_handles_of p.objects (inherited (table_of p.tables.tables parent))))
   kept_child session processes threads =
       let plain = (kept_process p session w view kept processes threads).sound in
       let old = kept.sound.processes_kept in
-      let is : IsKept (with_child session counted) = search (arith, handles_after, named_child, length-append, listing_child, populated_process, table_came, kept.populated, kept.settled, kept.sound.counted.blocks, kept.sound.formed, kept.sound.limited, kept.sound.listing, kept.sound.room, old.tabled, old.vacated, p.objects.births, p.objects.objects, p.processes.processes, p.processes.threads, p.rows, plain.of_live, plain.processes_kept.few_processes, plain.processes_kept.few_threads, plain.processes_kept.live, plain.processes_kept.processes_from_one, plain.processes_kept.tabled, plain.processes_kept.threads_from_one) in
+      let is : StoreInvariant (with_child session counted) = search (arith, handles_after, named_child, length-append, listing_child, populated_process, table_came, kept.populated, kept.settled, kept.sound.counted.blocks, kept.sound.formed, kept.sound.limited, kept.sound.listing, kept.sound.room, old.tabled, old.vacated, p.objects.births, p.objects.objects, p.processes.processes, p.processes.threads, p.rows, plain.of_live, plain.processes_kept.few_processes, plain.processes_kept.few_threads, plain.processes_kept.live, plain.processes_kept.processes_from_one, plain.processes_kept.tabled, plain.processes_kept.threads_from_one) in
       search (arith, handles_stay, p.objects)
 
   pub settled_child : (session : ℕ) → ◌≡◌ {A = Whole} (record {

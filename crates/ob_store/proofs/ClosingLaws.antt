@@ -5,17 +5,18 @@ use Rattle.std.proofs.lemmas.List.{length-map}
 use Rattle.std.proofs.lemmas.Option.{slice_get-get_or}
 use Rattle.least.specs.Taken.{is_free_within}
 use Rattle.ob_body.specs.declared.body.Body.{Body}
-use Rattle.ob_waits.specs.Objects.{slot_acquired}
+use Rattle.ob_waits.specs.CountedBodies.{slot_acquired}
 use Rattle.ob_store.specs.Closing.{is_closing, is_closing_in, is_open}
-use Rattle.ob_store.specs.declared.seat.Seat.{Seat}
-use Rattle.ob_store.specs.Objects.{Tag, object_at, objects_in, seat_body}
-use Rattle.ob_store.proofs.LabelLaws.{object_read, seat_there}
+use Rattle.ob_store.specs.declared.object_header.ObjectHeader.{ObjectHeader}
+use Rattle.ob_store.specs.Objects.{Tag, object_at, objects_in, header_body}
+use Rattle.ob_store.proofs.LabelLaws.{object_read, header_there}
 use Rattle.ob_store.proofs.OwnerLaws.{some_there}
-use Rattle.ob_store.proofs.SeatLaws.{read, mapped_same, mapped_set, mapped_stays}
+use Rattle.ob_store.proofs.HeaderLaws.{read, mapped_same, mapped_set, mapped_stays}
 
 -- the set of numbers has those slots that have an object without a body
-pub closing_read : (xs : List (Option Seat)) (ls : List Tag) (opens : List Bool) (k : ℕ) → opens ≡ map is_open xs
-    → is_free_within opens k ≡ is_closing_in (objects_in xs ls) (map seat_body xs) k
+pub closing_read : (xs : List (Option ObjectHeader)) (ls : List Tag) (opens : List Bool) (k : ℕ)
+    → opens ≡ map is_open xs
+    → is_free_within opens k ≡ is_closing_in (objects_in xs ls) (map header_body xs) k
 closing_read xs ls opens k opened =
     search (arith, object_read, read)
   where
@@ -23,12 +24,13 @@ closing_read xs ls opens k opened =
     ended None = refl
     ended (Some b) = refl
 
-    by : (x : Option Seat) (l : Tag) → not (is_open x) ≡ is_closing (object_at x l) (seat_body x)
+    by : (x : Option ObjectHeader) (l : Tag) → not (is_open x) ≡ is_closing (object_at x l) (header_body x)
     by None l = refl
     by (Some x) l = ended x.body
 
 -- a slot with an object, by its body
-pub opened_at : (xs : List (Option Seat)) (opens : List Bool) (k : ℕ) (x : Seat) → opens ≡ map is_open xs
+pub opened_at : (xs : List (Option ObjectHeader)) (opens : List Bool) (k : ℕ) (x : ObjectHeader)
+    → opens ≡ map is_open xs
     → get_or xs k None ≡ Some x → slice_get opens k ≡ Some (is_some x.body)
 opened_at xs opens k x opened there =
     let within : k < length opens = search (arith, length-map, some_there) in
@@ -36,7 +38,8 @@ opened_at xs opens k x opened there =
     ∙ ap Some (read is_open xs k ∙ ap is_open there)
 
 -- a body goes, or stays
-pub opened_left_at : (xs : List (Option Seat)) (opens : List Bool) (k : ℕ) (x y : Seat) (b : Bool) (o : Option Body)
+pub opened_left_at : (xs : List (Option ObjectHeader)) (opens : List Bool) (k : ℕ) (x y : ObjectHeader) (b : Bool)
+    (o : Option Body)
     → opens ≡ map is_open xs → get_or xs k None ≡ Some x → o ≡ cond b x.body None → y.body ≡ cond b None x.body
     → cond (is_some o) (set opens k false) opens ≡ map is_open (set xs k (Some y))
 opened_left_at xs opens k x y true o opened there went none = search (arith, mapped_set, mapped_stays)
@@ -44,7 +47,8 @@ opened_left_at xs opens k x y false o opened there went same =
     search (arith, mapped_stays)
 
 -- a body that goes was there
-pub gone_was_there : (xs : List (Option Seat)) (opens : List Bool) (k : ℕ) (x : Seat) (b : Bool) (o : Option Body)
+pub gone_was_there : (xs : List (Option ObjectHeader)) (opens : List Bool) (k : ℕ) (x : ObjectHeader) (b : Bool)
+    (o : Option Body)
     → opens ≡ map is_open xs → get_or xs k None ≡ Some x → o ≡ cond b x.body None → is_some o ≡ true
     → slice_get opens k ≡ Some true
 gone_was_there xs opens k x true o opened there went some =
@@ -52,7 +56,8 @@ gone_was_there xs opens k x true o opened there went some =
 gone_was_there xs opens k x false o opened there went some = search arith
 
 -- an object comes to a vacant slot, ended or not
-pub vacant_open : (xs : List (Option Seat)) (opens : List Bool) (k : ℕ) → opens ≡ map is_open xs → k < length xs →
+pub vacant_open : (xs : List (Option ObjectHeader)) (opens : List Bool) (k : ℕ) → opens ≡ map is_open xs
+    → k < length xs →
     get_or xs k None ≡ None → slice_get opens k ≡ Some true
 vacant_open xs opens k opened within none =
     let long : k < length opens = search (arith, length-map)
@@ -60,15 +65,15 @@ vacant_open xs opens k opened within none =
     slice_get-get_or opens k true long ∙ ap (λ (z : List Bool). Some (get_or z k true)) opened
     ∙ ap Some (read is_open xs k ∙ ap is_open none)
 
-pub opened_back : (xs : List (Option Seat)) (opens : List Bool) (k : ℕ) (y : Seat) (ended : Bool)
+pub opened_back : (xs : List (Option ObjectHeader)) (opens : List Bool) (k : ℕ) (y : ObjectHeader) (ended : Bool)
     → opens ≡ map is_open xs →
     get_or xs k None ≡ None → is_some y.body ≡ not ended
     → cond ended (set opens k false) opens ≡ map is_open (set xs k (Some y))
 opened_back xs opens k y ended opened none is = search (arith, mapped_same, mapped_set)
 
--- a seat with a body, by the bodies that are read off the seats
-pub bodied : (xs : List (Option Seat)) (k : ℕ) (x : Seat) → get_or xs k None ≡ Some x
-    → IsSome (get_or (map seat_body xs) k None) → is_some x.body ≡ true
+-- a header with a body, by the bodies that are read off the headers
+pub bodied : (xs : List (Option ObjectHeader)) (k : ℕ) (x : ObjectHeader) → get_or xs k None ≡ Some x
+    → IsSome (get_or (map header_body xs) k None) → is_some x.body ≡ true
 bodied xs k x there some = search (arith, read)
 
 -- a body that is acquired stays
@@ -77,12 +82,12 @@ body_stays thread None = refl
 body_stays thread (Some b) = refl
 
 -- an object without a body
-pub ended_here : (xs : List (Option Seat)) (ls : List Tag) (opens : List Bool) (k : ℕ) → opens ≡ map is_open xs
-    → IsSome (get_or (objects_in xs ls) k None) → get_or (map seat_body xs) k None ≡ None
+pub ended_here : (xs : List (Option ObjectHeader)) (ls : List Tag) (opens : List Bool) (k : ℕ) → opens ≡ map is_open xs
+    → IsSome (get_or (objects_in xs ls) k None) → get_or (map header_body xs) k None ≡ None
     → slice_get opens k ≡ Some false
-ended_here xs ls opens k opened there ended = by (get_or xs k None) refl (seat_there xs ls k there)
+ended_here xs ls opens k opened there ended = by (get_or xs k None) refl (header_there xs ls k there)
   where
-    by : (x : Option Seat) → get_or xs k None ≡ x → IsSome (get_or xs k None) → slice_get opens k ≡ Some false
+    by : (x : Option ObjectHeader) → get_or xs k None ≡ x → IsSome (get_or xs k None) → slice_get opens k ≡ Some false
     by None is some = search arith
     by (Some x) is some = opened_at xs opens k x opened is
-        ∙ ap (λ (b : Option Body). Some (is_some b)) (sym (read seat_body xs k ∙ ap seat_body is) ∙ ended)
+        ∙ ap (λ (b : Option Body). Some (is_some b)) (sym (read header_body xs k ∙ ap header_body is) ∙ ended)

@@ -4,15 +4,15 @@ use Rattle.pin_core.specs.declared.shape.Shape.{Shape}
 use Rattle.ob_name.specs.Listing.{AreDistinct}
 use Rattle.ob_waits.specs.Deadlines.{AreAhead}
 use Rattle.ob_waits.specs.Rules as rules
-use Rattle.ob_store.specs.Agreement.{IsTied}
+use Rattle.ob_store.specs.Agreement.{ObjectsInvariant}
 use Rattle.ob_store.specs.Parts.{PartsState, whole_of}
-use Rattle.ob_store.specs.Kept.{IsKept}
+use Rattle.ob_store.specs.Kept.{StoreInvariant}
 use Rattle.ob_store.specs.Consistent.{IsConsistent}
 use Rattle.ob_store.proofs.CountedLaws.{handles_at, blocks_at}
 use Rattle.ob_store.proofs.NamedLaws.{there_within, handles_are, blocks_are}
 use Rattle.ob_store.proofs.KeptLaws.{settled_kept}
 
-pub consistent : (p : PartsState) → IsKept p → IsTied p.objects → rules.IsKept p.waits.waits
+pub consistent : (p : PartsState) → StoreInvariant p → ObjectsInvariant p.objects → rules.WaitsInvariant p.waits.waits
     → AreAhead p.waits.clock p.waits.waits → IsConsistent (whole_of p)
 consistent p kept tied waits ahead = record {
   processes = kept.sound.processes_kept;

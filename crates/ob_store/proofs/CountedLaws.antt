@@ -9,14 +9,14 @@ use Rattle.ob_tables.specs.Counts.{slot_handles}
 use Rattle.ob_tables.specs.Tables.{table_of, with_process, with_entry_of, with_flags_of, without_entry_of, IsBounded}
 use Rattle.ob_tables.proofs.SlotCounts.{one_in-same, one_in-other, slot_handles-with_entry, slot_handles-without_entry, slot_handles-with_flags, slot_handles-with_process, slot_handles-few}
 use Rattle.ob_waits.specs.declared.wait.Wait.{Wait}
-use Rattle.ob_waits.specs.Objects.{Objects}
+use Rattle.ob_waits.specs.CountedBodies.{CountedBodies}
 use Rattle.ob_waits.specs.Waits.{Scene, settled, slot_blocks}
 use Rattle.ob_waits.proofs.Ends.{sizes_settled}
 use Rattle.ob_waits.proofs.References.{settled_counts}
 use Rattle.ob_store.specs.Kept.{IsCounted}
 use Rattle.ob_store.proofs.BySlot.{count_at, count_few, counts_long, recounted, recounted_one, zero_counts}
 
-module _ (seen : Objects) (n : ℕ) (ts : List (List (Option Entry))) (ws : List (Option Wait))
+module _ (seen : CountedBodies) (n : ℕ) (ts : List (List (Option Entry))) (ws : List (Option Wait))
     (counted : IsCounted seen n ts ws) where
   pub handles_at : (k : ℕ) → k < n → get_or seen.handles k 0 ≡ slot_handles k ts
   handles_at k lt = search (arith, count_at)
@@ -90,7 +90,7 @@ module _ (seen : Objects) (n : ℕ) (ts : List (List (Option Entry))) (ws : List
   counted_left bodies k handles blocks = search (arith, handles_at, blocks_at, recounted_one)
 
   -- the waits settle
-  pub counted_settled : (bodies : List (Option Body)) (after : Objects) (ws' : List (Option Wait))
+  pub counted_settled : (bodies : List (Option Body)) (after : CountedBodies) (ws' : List (Option Wait))
       → ◌≡◌ {A = Scene} (record { objects = after; waits = ws' })
       (settled (record { objects = record seen { bodies = bodies }; waits = ws }))
       → IsCounted after n ts ws'

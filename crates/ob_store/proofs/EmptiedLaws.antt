@@ -10,7 +10,7 @@ use Rattle.ob_tables.proofs.Counting.{without_found}
 use Rattle.std.specs.Prelude.{IsSome}
 use Rattle.pin_words.specs.Keepers.{KeeperState}
 use Rattle.ob_name.specs.Listing.{Rows}
-use Rattle.ob_store.specs.Agreement.{IsTied}
+use Rattle.ob_store.specs.Agreement.{ObjectsInvariant}
 use Rattle.ob_store.specs.Ends.{process_ended}
 use Rattle.ob_store.specs.Kept.{IsSound}
 use Rattle.ob_store.specs.Moves.{rows_left}
@@ -20,7 +20,7 @@ use Rattle.ob_store.specs.State.{State}
 use Rattle.ob_store.specs.UnderWay.{AreLeft, IsEnding, IsUnderWay, tables_left, with_left, without_first}
 use Rattle.ob_store.proofs.EndingLaws.{ending_process}
 use Rattle.ob_store.proofs.EnoughLaws.{enough_left}
-use Rattle.ob_store.proofs.LeavingLaws.{bodies_left, held, seated, sound_left, way_left}
+use Rattle.ob_store.proofs.LeavingLaws.{bodies_left, held, has_object, sound_left, way_left}
 
 -- the value of a place
 place_is : (place : ℕ) → place_of (4 * (place + 1)) ≡ place
@@ -88,7 +88,7 @@ module _ (ts : List (List (Option Entry))) (p : ℕ) (places : List (Option Entr
 -- the entry of the next place leaves
 module _ (p : PartsState) (process : ℕ) (places : List (Option Entry)) (n : ℕ) (e : Entry)
     (sound : IsSound (with_left p process places n))
-    (tied : IsTied p.objects)
+    (tied : ObjectsInvariant p.objects)
     (within : process < length p.tables.tables)
     (here : get_or places n None ≡ Some e) where
   abbrev before : PartsState
@@ -103,9 +103,9 @@ module _ (p : PartsState) (process : ℕ) (places : List (Option Entry)) (n : �
   pub left_held : 0 < get_or p.objects.seen.handles e.id.slot 0
   left_held = held before process value e sound tied found
 
-  pub left_seated : (q : ObjectsState) → q ≡ without_handle_of p.objects e.id.slot
+  pub left_has_object : (q : ObjectsState) → q ≡ without_handle_of p.objects e.id.slot
       → IsSome (get_or q.objects e.id.slot None)
-  left_seated = seated before process value e sound tied found
+  left_has_object = has_object before process value e sound tied found
 
   module _ (was_last : Bool) (q : ObjectsState) (rows : Rows)
       (is : q ≡ without_handle_of p.objects e.id.slot)
@@ -119,7 +119,8 @@ module _ (p : PartsState) (process : ℕ) (places : List (Option Entry)) (n : �
         (left_some p.tables.tables process places n within e here)
         (sound_left before process value e sound tied found was_last q rows is last names)
 
-    pub next_ending : IsTied q → (first : KeeperState) (s : State) → IsEnding first (with_left p process places n) s
+    pub next_ending : ObjectsInvariant q → (first : KeeperState) (s : State)
+        → IsEnding first (with_left p process places n) s
         → IsEnding first (with_left (record p { objects = q; rows = rows }) process places (n + 1))
         (record s { tables = tables_left p.tables.tables process places (n + 1) })
     next_ending done first s ending = record {

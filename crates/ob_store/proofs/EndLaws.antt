@@ -3,12 +3,12 @@ use Rattle.std.proofs.Common.{◌≡◌, ◌≢◌, ℕ, ◌+◌, ◌<◌, List,
 use Rattle.std.specs.Prelude.{is_some}
 use Rattle.std.proofs.lemmas.List.{length-set, get_or_past, get_or-set_same, get_or-set_other}
 use Rattle.ob_body.specs.declared.body.Body.{Body}
-use Rattle.ob_waits.specs.Objects.{Objects}
+use Rattle.ob_waits.specs.CountedBodies.{CountedBodies}
 use Rattle.ob_waits.specs.Rules.{HasBodies}
-use Rattle.ob_store.specs.Objects.{Object, Places, with_seat, without_handle, without_seat}
+use Rattle.ob_store.specs.Objects.{Object, Places, with_header, without_handle, without_header}
 
 -- objects that differ at one slot alone
-bodied_beside : (o q : Objects) (k : ℕ) → ((j : ℕ) → j ≢ k → get_or q.bodies j None ≡ get_or o.bodies j None)
+bodied_beside : (o q : CountedBodies) (k : ℕ) → ((j : ℕ) → j ≢ k → get_or q.bodies j None ≡ get_or o.bodies j None)
     → ((j : ℕ) → j ≢ k → get_or q.handles j 0 + get_or q.blocks j 0 ≡ get_or o.handles j 0 + get_or o.blocks j 0)
     → is_some (get_or q.bodies k None) ≡ ltb 0 (get_or q.handles k 0 + get_or q.blocks k 0) → HasBodies o → HasBodies q
 bodied_beside o q k bodies counts here has = search arith
@@ -29,9 +29,9 @@ bodied_handle_left p k some has =
 
 -- a new object with its one handle
 pub bodied_added : (p : Places) (k : ℕ) (o : Object) (b : Body) → k < length p.seen.bodies
-    → get_or (with_seat p k o b).seen.handles k 0 ≡ 1 → HasBodies p.seen → HasBodies (with_seat p k o b).seen
+    → get_or (with_header p k o b).seen.handles k 0 ≡ 1 → HasBodies p.seen → HasBodies (with_header p k o b).seen
 bodied_added p k o b within one has =
-    let t : Objects = (with_seat p k o b).seen in
+    let t : CountedBodies = (with_header p k o b).seen in
     let some : ltb 0 (get_or t.handles k 0 + get_or t.blocks k 0) ≡ true = grind arith in
     bodied_beside p.seen t k (λ j other. get_or-set_other p.seen.bodies k j (Some b) None other)
     (λ j other. let x = get_or-set_other p.seen.handles k j 1 0 other in
@@ -39,9 +39,9 @@ bodied_added p k o b within one has =
     (ap is_some (get_or-set_same p.seen.bodies k (Some b) None within) ∙ sym some) has
 
 -- an object that left
-pub bodied_removed : (p : Places) (k : ℕ) → HasBodies p.seen → HasBodies (without_seat p k).seen
+pub bodied_removed : (p : Places) (k : ℕ) → HasBodies p.seen → HasBodies (without_header p k).seen
 bodied_removed p k has =
-    let t : Objects = (without_seat p k).seen in
+    let t : CountedBodies = (without_header p k).seen in
     let x = gone_set p.seen.handles k 0 in
     let y = gone_set p.seen.blocks k 0 in
     let none : get_or t.handles k 0 + get_or t.blocks k 0 ≡ 0 = omega arith in

@@ -14,7 +14,7 @@ use Rattle.ob_tables.proofs.Counting.{handles_among-without_entries}
 use Rattle.ob_tables.proofs.SlotCounts.{slot_handles-without_entries}
 use Rattle.ob_waits.specs.declared.wait.Wait.{Wait}
 use Rattle.ob_waits.specs.Form.{slot_form, slot_owner}
-use Rattle.ob_waits.specs.Objects.{Objects, without_blocks}
+use Rattle.ob_waits.specs.CountedBodies.{CountedBodies, without_blocks}
 use Rattle.ob_waits.specs.Rules as rules
 use Rattle.ob_waits.specs.Rules.{thread_of}
 use Rattle.ob_waits.specs.Waits.{slot_blocks, thread_ids, unless_of, without_thread}
@@ -22,7 +22,7 @@ use Rattle.ob_waits.proofs.Counted.{slot_dropped, blocks_dropped}
 use Rattle.ob_waits.proofs.Ends.{sizes_left}
 use Rattle.ob_waits.proofs.References.{left_all}
 use Rattle.ob_waits.proofs.Room.{room_dropped}
-use Rattle.ob_store.specs.Agreement.{IsTied}
+use Rattle.ob_store.specs.Agreement.{ObjectsInvariant}
 use Rattle.ob_store.specs.Ends.{slot_left_by, thread_ended}
 use Rattle.ob_store.specs.Kept.{IsCounted, IsLive}
 use Rattle.ob_store.specs.Processes.{ProcessesState}
@@ -39,7 +39,7 @@ use Rattle.ob_store.proofs.EnoughLaws.{enough_unwaited}
 use Rattle.ob_store.proofs.KeptLaws.{sound_rested, state_rested}
 use Rattle.ob_store.proofs.LeftLaws.{left_blocks}
 use Rattle.ob_store.proofs.NamedLaws.{sum_none}
-use Rattle.ob_store.proofs.SeatLaws.{read}
+use Rattle.ob_store.proofs.HeaderLaws.{read}
 
 left_mapped : (t : ℕ) (bodies after : List (Option Body)) → AreLeft bodies after
     → AreLeft (map (slot_left_by t) bodies) (map (slot_left_by t) after)
@@ -62,7 +62,7 @@ live_still threads t u other live = search (arith, get_or-set_other)
 
 -- a thread ends: its blocks left, which q tells, and then its mutexes are abandoned, which r tells
 module _ (p : PartsState) (q r : ObjectsState) (a : SignaledState) (t : ℕ)
-    (alone : rules.IsKept p.waits.waits)
+    (alone : rules.WaitsInvariant p.waits.waits)
     (blocks : q.seen ≡ without_blocks p.objects.seen (thread_ids t p.waits.waits))
     (blocks_rest : kept_rest q ≡ kept_rest p.objects)
     (seen : r.seen ≡ record q.seen { bodies = map (slot_left_by t) q.seen.bodies })
@@ -91,13 +91,13 @@ module _ (p : PartsState) (q r : ObjectsState) (a : SignaledState) (t : ℕ)
   rests = seen_rest ∙ blocks_rest
 
   bodies_are : r.seen.bodies ≡ map (slot_left_by t) q.seen.bodies
-  bodies_are = ap (λ (x : Objects). x.bodies) seen
+  bodies_are = ap (λ (x : CountedBodies). x.bodies) seen
 
   body_is : (k : ℕ) → get_or r.seen.bodies k None ≡ slot_left_by t (get_or q.seen.bodies k None)
   body_is k = search (arith, read)
 
   fewer : AreLeft p.objects.seen.bodies q.seen.bodies
-  fewer = subst (λ (x : Objects). AreLeft p.objects.seen.bodies x.bodies) (sym blocks) (left_blocks ids p.objects.seen)
+  fewer = subst (λ (x : CountedBodies). AreLeft p.objects.seen.bodies x.bodies) (sym blocks) (left_blocks ids p.objects.seen)
 
   form_at : (k : ℕ) → is_some (get_or r.seen.bodies k None) ≡ true
       → slot_form (get_or r.seen.bodies k None) ≡ slot_form (get_or p.objects.seen.bodies k None)
@@ -114,7 +114,7 @@ module _ (p : PartsState) (q r : ObjectsState) (a : SignaledState) (t : ℕ)
         own.1,
       )
 
-  way_thread : IsTied r → (first : KeeperState) (s : State) → IsUnderWay first p s
+  way_thread : ObjectsInvariant r → (first : KeeperState) (s : State) → IsUnderWay first p s
       → IsUnderWay first without (thread_ended s t)
   way_thread tied first s way = record {
     tied = tied;
@@ -145,21 +145,21 @@ module _ (p : PartsState) (q r : ObjectsState) (a : SignaledState) (t : ℕ)
       counted : IsCounted r.seen (length p.objects.objects) p.tables.tables dropped
       counted = record {
         handles = ap (λ (x : KeptRest). x.rest.handles) rests ∙ way.sound.counted.handles;
-        blocks = ap (λ (x : Objects). x.blocks) seen
+        blocks = ap (λ (x : CountedBodies). x.blocks) seen
             ∙ recounted p.objects.seen.blocks q.seen.blocks (length p.objects.objects)
             (λ k. slot_blocks k p.waits.waits) (λ k. slot_blocks k dropped) way.sound.counted.blocks
-            (ap (λ (x : Objects). length x.blocks) blocks ∙ (sizes_left ids p.objects.seen).blocks)
+            (ap (λ (x : CountedBodies). length x.blocks) blocks ∙ (sizes_left ids p.objects.seen).blocks)
             (λ k lt.
             let at = blocks_at p.objects.seen (length p.objects.objects) p.tables.tables p.waits.waits way.sound.counted
             k lt in
             let x : get_or q.seen.blocks k 0 ≡ get_or (without_blocks p.objects.seen ids).blocks k 0 =
-            ap (λ (z : Objects). get_or z.blocks k 0) blocks in
+            ap (λ (z : CountedBodies). get_or z.blocks k 0) blocks in
             let y = left_all ids p.objects.seen k in
             let z = slot_dropped k t p.waits.waits alone in
             omega arith);
       }
 
-  pub ending_thread : IsTied r → KeepsEnough p.signaled q.seen.bodies a r.seen.bodies
+  pub ending_thread : ObjectsInvariant r → KeepsEnough p.signaled q.seen.bodies a r.seen.bodies
       → (first : KeeperState) (s : State) → IsEnding first p s → IsEnding first without (thread_ended s t)
   ending_thread tied more first s ending = record {
     under_way = way_thread tied first s ending.under_way;

@@ -4,7 +4,7 @@ use Rattle.std.proofs.lemmas.List.{get_or-set_other}
 use Rattle.pin_core.specs.declared.id.Id.{Id}
 use Rattle.ob_body.specs.declared.body.Body.{Body}
 use Rattle.ob_waits.specs.declared.wait.Wait.{Wait}
-use Rattle.ob_waits.specs.Objects.{Objects, slot_signaled, without_blocks}
+use Rattle.ob_waits.specs.CountedBodies.{CountedBodies, slot_signaled, without_blocks}
 use Rattle.ob_waits.specs.Rules.{IsSettled}
 use Rattle.ob_waits.specs.Waits.{has_slot, unless_of}
 use Rattle.ob_waits.proofs.Settled.{settled_dropped}
@@ -41,7 +41,7 @@ not_listed (x ∷ ids) id k h =
     let none = rest.0 in (grind arith, rest.1)
 
 -- a slot was noted, and its body changed
-pub enough_added : (a b : SignaledState) (p q : Objects) (slot : ℕ) (x : Option Body)
+pub enough_added : (a b : SignaledState) (p q : CountedBodies) (slot : ℕ) (x : Option Body)
     → q ≡ record p { bodies = set p.bodies slot x }
     → (b.whole ≡ true → b.ids ≡ a.ids ++ in_slot slot ∷ []) → (b.whole ≡ true → a.whole ≡ true)
     → KeepsEnough a p.bodies b q.bodies
@@ -52,16 +52,16 @@ enough_added a b p q slot x is added before ws enough = record {
     less = λ t k out signaled.
         let apart = not_listed a.ids (in_slot slot) k (ap (λ (ids : List Id). has_slot ids k) (sym (added whole)) ∙ out)
         in
-        let stays : get_or q.bodies k None ≡ get_or p.bodies k None = ap (λ (o : Objects). get_or o.bodies k None) is
+        let stays : get_or q.bodies k None ≡ get_or p.bodies k None = ap (λ (o : CountedBodies). get_or o.bodies k None) is
         ∙ get_or-set_other p.bodies slot k x None apart.1 in
         e.less t k apart.0 (sym (ap (slot_signaled t) stays) ∙ signaled);
   };
 }
 
 -- a thread's blocks leave, and its wait
-pub enough_unwaited : (a : SignaledState) (o p : Objects) (ws : List (Option Wait)) (t : ℕ) (ids : List Id)
+pub enough_unwaited : (a : SignaledState) (o p : CountedBodies) (ws : List (Option Wait)) (t : ℕ) (ids : List Id)
     → p ≡ without_blocks o ids → IsEnough a o.bodies ws → IsEnough a p.bodies (map (unless_of t) ws)
 enough_unwaited a o p ws t ids blocks enough =
-    let fewer : AreLeft o.bodies p.bodies = subst (λ (x : Objects). AreLeft o.bodies x.bodies) (sym blocks)
+    let fewer : AreLeft o.bodies p.bodies = subst (λ (x : CountedBodies). AreLeft o.bodies x.bodies) (sym blocks)
     (left_blocks ids o) in
     search (arith, enough_dropped)

@@ -6,7 +6,7 @@ use Rattle.pin_core.specs.declared.world.Slot.{Slot}
 use Rattle.pin_core.specs.Opened.{shown_from}
 use Rattle.pin_core.proofs.Openings.{shown-once}
 use Rattle.pin_words.specs.Keepers.{KeeperState, IsFreshWith}
-use Rattle.ob_store.specs.Agreement.{IsAgreed, IsListed, IsTied}
+use Rattle.ob_store.specs.Agreement.{IsAgreed, IsListed, ObjectsInvariant}
 use Rattle.ob_store.specs.Objects.{ObjectsState}
 
 pub all_shown : (s : ObjectsState) → IsAgreed s → IsListed (shown_from 0 s.keeper.slots) s.objects
@@ -16,7 +16,8 @@ all_shown s a = search (arith, shown-once, get_or_past)
 abbrev alike : KeeperState → Shape × List Slot → KeeperState
 alike k z = record k { shape = z.0; slots = z.1 }
 
-pub tied_over : (s : ObjectsState) (k : KeeperState) → IsFreshWith k s.keeper.shape s.keeper.slots → IsTied s →
-    IsTied (record s { keeper = k })
+pub tied_over : (s : ObjectsState) (k : KeeperState) → IsFreshWith k s.keeper.shape s.keeper.slots
+    → ObjectsInvariant s →
+    ObjectsInvariant (record s { keeper = k })
 tied_over s k fresh h =
     search (arith, all_shown)

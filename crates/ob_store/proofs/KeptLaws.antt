@@ -21,11 +21,11 @@ use Rattle.ob_store.specs.declared.limits.Limits.{Limits}
 use Rattle.ob_store.specs.Processes as spec
 use Rattle.ob_store.specs.Processes.{ProcessesState}
 use Rattle.ob_store.specs.Objects.{Object, ObjectsState, KeptRest, kept_rest, with_handle_of, opened, open_slot}
-use Rattle.ob_store.specs.Agreement.{IsTied}
+use Rattle.ob_store.specs.Agreement.{ObjectsInvariant}
 use Rattle.ob_store.specs.Parts.{PartsState, state_of, whole_of}
 use Rattle.ob_store.specs.Signaled.{SignaledState}
 use Rattle.ob_store.specs.State.{Whole, objects_of, settled, generation_of}
-use Rattle.ob_store.specs.Kept.{IsKept, IsSound, IsCounted, AreFormed, AreOfLive, IsListing, ProcessesKept, IsNamed, IsLive}
+use Rattle.ob_store.specs.Kept.{StoreInvariant, IsSound, IsCounted, AreFormed, AreOfLive, IsListing, ProcessesKept, IsNamed, IsLive}
 use Rattle.ob_store.proofs.CountedLaws.{handles_at, handles_few, counted_flags, counted_placed, counted_process}
 use Rattle.ob_store.proofs.NamedLaws.{there_within, named_flags, named_placed, named_process}
 use Rattle.ob_store.proofs.BodyLaws.{of_live_more}
@@ -71,11 +71,11 @@ pub objects_are : (p : PartsState) → IsSound p → p.objects.seen ≡ objects_
 objects_are p sound = search arith
 
 -- nothing is left to settle
-pub settled_kept : (p : PartsState) → IsKept p → IsTied p.objects → settled (state_of p) ≡ state_of p
+pub settled_kept : (p : PartsState) → StoreInvariant p → ObjectsInvariant p.objects → settled (state_of p) ≡ state_of p
 settled_kept p kept tied = settled_still (state_of p) kept.sound.named
     (subst HasBodies (objects_are p kept.sound) tied.bodied) kept.settled
 
-pub whole_kept : (p : PartsState) → IsKept p → IsTied p.objects
+pub whole_kept : (p : PartsState) → StoreInvariant p → ObjectsInvariant p.objects
     → ◌≡◌ {A = Whole} (whole_of p) (record { state = settled (state_of p); keeper = p.objects.keeper })
 whole_kept p kept tied = search (arith, settled_kept)
 
@@ -131,7 +131,7 @@ module _ (p : PartsState) (l : ProcessesState) (q : ObjectsState) (ws : WaitList
   }
 
 -- the object of a handle has a body
-pub handled : (p : PartsState) (id : Id) → IsSound p → IsTied p.objects → 0 < handles_among id p.tables.tables
+pub handled : (p : PartsState) (id : Id) → IsSound p → ObjectsInvariant p.objects → 0 < handles_among id p.tables.tables
     → IsSome (get_or p.objects.seen.bodies id.slot None)
 handled p id sound tied some =
     let within = there_within p.objects.objects id (sound.named.entries id some) in
@@ -156,8 +156,8 @@ placed p process e = record p {
   objects = with_handle_of p.objects e.id.slot;
 }
 
-pub kept_placed : (p : PartsState) (process : ℕ) (e : Entry) → IsKept p → IsLive p.processes.processes process
-    → 0 < handles_among e.id p.tables.tables → IsKept (placed p process e)
+pub kept_placed : (p : PartsState) (process : ℕ) (e : Entry) → StoreInvariant p → IsLive p.processes.processes process
+    → 0 < handles_among e.id p.tables.tables → StoreInvariant (placed p process e)
 kept_placed p process e kept live some =
     search (arith, live_changed, counted_placed, listing_placed, live_tabled, named_placed)
 
@@ -168,12 +168,12 @@ flagged p process value flags = record p {
       record p.tables { tables = with_flags_of p.tables.tables process value flags };
 }
 
-pub kept_flags : (p : PartsState) (process value : ℕ) (flags : HandleFlags) → IsKept p
-    → IsSome (entry_at (table_of p.tables.tables process) value) → IsKept (flagged p process value flags)
+pub kept_flags : (p : PartsState) (process value : ℕ) (flags : HandleFlags) → StoreInvariant p
+    → IsSome (entry_at (table_of p.tables.tables process) value) → StoreInvariant (flagged p process value flags)
 kept_flags p process value flags kept some = by (entry_at (table_of p.tables.tables process) value) refl some
   where
     by : (x : Option Entry) → entry_at (table_of p.tables.tables process) value ≡ x → IsSome x
-        → IsKept (flagged p process value flags)
+        → StoreInvariant (flagged p process value flags)
     by None found none = absurd (cc)
     by (Some e) found _ = search (arith, table_changed, counted_flags, listing_flags, named_flags, kept.sound.processes_kept.vacated)
 
@@ -184,9 +184,9 @@ with_process p session = record p {
   tables = record p.tables { tables = tables.with_process p.tables.tables };
 }
 
-pub kept_process : (p : PartsState) (session : ℕ) (w : Whole) → whole_of p ≡ w → IsKept p
+pub kept_process : (p : PartsState) (session : ℕ) (w : Whole) → whole_of p ≡ w → StoreInvariant p
     → length w.state.processes ≤ w.state.limits.processes → length w.state.threads ≤ w.state.limits.threads
-    → IsKept (with_process p session)
+    → StoreInvariant (with_process p session)
 kept_process p session w view kept processes threads = record {
   sound = record {
     limited = kept.sound.limited;
@@ -214,7 +214,7 @@ kept_process p session w view kept processes threads = record {
 abbrev pub with_thread : PartsState → ℕ → PartsState
 with_thread p process = record p { processes = spec.with_thread p.processes process }
 
-pub kept_thread : (p : PartsState) (process : ℕ) → IsKept p → length p.processes.threads ≤ p.limits.threads
-    → IsLive p.processes.processes process → IsKept (with_thread p process)
+pub kept_thread : (p : PartsState) (process : ℕ) → StoreInvariant p → length p.processes.threads ≤ p.limits.threads
+    → IsLive p.processes.processes process → StoreInvariant (with_thread p process)
 kept_thread p process kept threads live =
     grind (arith, nat_tests, at_place, live_pushed, from_one_more, length-append, live_more, of_live_more, populated_thread)

@@ -1,13 +1,13 @@
--- The objects that are read off the seats and their tags, and the tags that are read off labels and names.
+-- The objects that are read off the headers and their tags, and the tags that are read off labels and names.
 use Rattle.std.proofs.Common.{◌≡◌, ℕ, zero, suc, ◌∷◌, [], ◌<◌, List, length, Option, Some, None, refl, ap, ◌∙◌, sym, arith, get_or, set, replicate, false, cond}
 use Rattle.std.specs.Prelude.{is_none, IsSome}
 use Rattle.std.proofs.lemmas.List.{get_or_default}
 use Rattle.ob_name.specs.Names.{ObjectName}
 use Rattle.ob_store.specs.declared.label.Label.{Label}
-use Rattle.ob_store.specs.declared.seat.Seat.{Seat}
+use Rattle.ob_store.specs.declared.object_header.ObjectHeader.{ObjectHeader}
 use Rattle.ob_store.specs.Objects.{Tag, name_in, object_at, object_of, objects_in, no_tag, tag_of, tags_in}
 
-pub object_read : (xs : List (Option Seat)) (ls : List Tag) (k : ℕ)
+pub object_read : (xs : List (Option ObjectHeader)) (ls : List Tag) (k : ℕ)
     → get_or (objects_in xs ls) k None ≡ object_at (get_or xs k None) (get_or ls k no_tag)
 object_read [] ls k = refl
 object_read (x ∷ xs) [] zero = refl
@@ -15,13 +15,13 @@ object_read (x ∷ xs) [] (suc k) = object_read xs [] k
 object_read (x ∷ xs) (l ∷ ls) zero = refl
 object_read (x ∷ xs) (l ∷ ls) (suc k) = object_read xs ls k
 
-pub objects_length : (xs : List (Option Seat)) (ls : List Tag) → length (objects_in xs ls) ≡ length xs
+pub objects_length : (xs : List (Option ObjectHeader)) (ls : List Tag) → length (objects_in xs ls) ≡ length xs
 objects_length [] ls = refl
 objects_length (x ∷ xs) [] = ap suc (objects_length xs [])
 objects_length (x ∷ xs) (l ∷ ls) = ap suc (objects_length xs ls)
 
--- a seat changes, and its object stays
-pub objects_kept : (xs : List (Option Seat)) (ls : List Tag) (k : ℕ) (y : Option Seat)
+-- a header changes, and its object stays
+pub objects_kept : (xs : List (Option ObjectHeader)) (ls : List Tag) (k : ℕ) (y : Option ObjectHeader)
     → ((l : Tag) → object_at y l ≡ object_at (get_or xs k None) l) → objects_in (set xs k y) ls ≡ objects_in xs ls
 objects_kept [] ls k y same = refl
 objects_kept (x ∷ xs) [] zero y same = ap (λ o. o ∷ objects_in xs []) (same no_tag)
@@ -29,16 +29,16 @@ objects_kept (x ∷ xs) [] (suc k) y same = ap (λ t. object_at x no_tag ∷ t) 
 objects_kept (x ∷ xs) (l ∷ ls) zero y same = ap (λ o. o ∷ objects_in xs ls) (same l)
 objects_kept (x ∷ xs) (l ∷ ls) (suc k) y same = ap (λ t. object_at x l ∷ t) (objects_kept xs ls k y same)
 
--- a seat and its label come
-pub objects_put : (xs : List (Option Seat)) (ls : List Tag) (k : ℕ) (y : Seat) (m : Tag) → k < length ls
+-- a header and its label come
+pub objects_put : (xs : List (Option ObjectHeader)) (ls : List Tag) (k : ℕ) (y : ObjectHeader) (m : Tag) → k < length ls
     → objects_in (set xs k (Some y)) (set ls k m) ≡ set (objects_in xs ls) k (Some (object_of y m))
 objects_put [] ls k y m lt = refl
 objects_put (x ∷ xs) [] k y m lt = absurd (omega arith)
 objects_put (x ∷ xs) (l ∷ ls) zero y m lt = refl
 objects_put (x ∷ xs) (l ∷ ls) (suc k) y m lt = ap (λ t. object_at x l ∷ t) (objects_put xs ls k y m (omega arith))
 
--- a seat leaves, and its tag stays
-pub objects_out : (xs : List (Option Seat)) (ls : List Tag) (k : ℕ)
+-- a header leaves, and its tag stays
+pub objects_out : (xs : List (Option ObjectHeader)) (ls : List Tag) (k : ℕ)
     → objects_in (set xs k None) ls ≡ set (objects_in xs ls) k None
 objects_out [] ls k = refl
 objects_out (x ∷ xs) [] zero = refl
@@ -46,28 +46,29 @@ objects_out (x ∷ xs) [] (suc k) = ap (λ t. object_at x no_tag ∷ t) (objects
 objects_out (x ∷ xs) (l ∷ ls) zero = refl
 objects_out (x ∷ xs) (l ∷ ls) (suc k) = ap (λ t. object_at x l ∷ t) (objects_out xs ls k)
 
--- no seat, no object
+-- no header, no object
 pub objects_none : (n : ℕ) (ls : List Tag) → objects_in (replicate n None) ls ≡ replicate n None
 objects_none zero ls = refl
 objects_none (suc n) [] = ap (λ t. None ∷ t) (objects_none n [])
 objects_none (suc n) (l ∷ ls) = ap (λ t. None ∷ t) (objects_none n ls)
 
-pub none_object : (x : Option Seat) (l : Tag) → is_none (object_at x l) ≡ is_none x
+pub none_object : (x : Option ObjectHeader) (l : Tag) → is_none (object_at x l) ≡ is_none x
 none_object None l = refl
 none_object (Some x) l = refl
 
--- the object of a slot with a seat
-pub object_here : (xs : List (Option Seat)) (ls : List Tag) (k : ℕ) (x : Seat) (l : Tag) → get_or xs k None ≡ Some x
+-- the object of a slot with a header
+pub object_here : (xs : List (Option ObjectHeader)) (ls : List Tag) (k : ℕ) (x : ObjectHeader) (l : Tag)
+    → get_or xs k None ≡ Some x
     → l ≡ get_or ls k l → k < length ls → get_or (objects_in xs ls) k None ≡ Some (object_of x l)
-object_here xs ls k x l seat label within = object_read xs ls k ∙ ap (λ z. object_at z (get_or ls k no_tag)) seat
+object_here xs ls k x l header label within = object_read xs ls k ∙ ap (λ z. object_at z (get_or ls k no_tag)) header
     ∙ ap (λ z. Some (object_of x z)) (search (arith, get_or_default))
 
--- a slot with an object has a seat
-pub seat_there : (xs : List (Option Seat)) (ls : List Tag) (k : ℕ) → IsSome (get_or (objects_in xs ls) k None)
+-- a slot with an object has a header
+pub header_there : (xs : List (Option ObjectHeader)) (ls : List Tag) (k : ℕ) → IsSome (get_or (objects_in xs ls) k None)
     → IsSome (get_or xs k None)
-seat_there xs ls k there = search (arith, object_read)
+header_there xs ls k there = search (arith, object_read)
   where
-    by : (x : Option Seat) (l : Tag) → IsSome (object_at x l) → IsSome x
+    by : (x : Option ObjectHeader) (l : Tag) → IsSome (object_at x l) → IsSome x
     by None l there = there
     by (Some x) l there = there
 
@@ -86,17 +87,17 @@ tag_read (m ∷ ls) (o ∷ ns) (suc k) l n is named labelled within =
     tag_read ls ns k l n is named (omega arith) (omega arith)
 
 -- an object has the name that stands beside its label, where that says so
-pub name_here : (xs : List (Option Seat)) (ls : List Label) (ns : List (Option ObjectName)) (k : ℕ) (l : Label)
+pub name_here : (xs : List (Option ObjectHeader)) (ls : List Label) (ns : List (Option ObjectName)) (k : ℕ) (l : Label)
     (n : Option ObjectName) → IsSome (get_or (objects_in xs (tags_in ls ns)) k None) → l ≡ get_or ls k l
     → n ≡ get_or ns k n → k < length ls → k < length ns
     → cond l.is_named n None ≡ name_in (get_or (objects_in xs (tags_in ls ns)) k None)
 name_here xs ls ns k l n there is named labelled within =
     sym (ap name_in (object_read xs (tags_in ls ns) k)
-    ∙ by (get_or xs k None) (get_or (tags_in ls ns) k no_tag) (seat_there xs (tags_in ls ns) k there)
+    ∙ by (get_or xs k None) (get_or (tags_in ls ns) k no_tag) (header_there xs (tags_in ls ns) k there)
     ∙ ap (λ (t : Tag). t.name) (get_or_default (tags_in ls ns) k no_tag (tag_of l n)
     (search (arith, tags_length)) ∙ sym (tag_read ls ns k l n is named labelled within)))
   where
-    by : (x : Option Seat) (t : Tag) → IsSome x → name_in (object_at x t) ≡ t.name
+    by : (x : Option ObjectHeader) (t : Tag) → IsSome x → name_in (object_at x t) ≡ t.name
     by None t there = absurd (cc there)
     by (Some x) t there = refl
 

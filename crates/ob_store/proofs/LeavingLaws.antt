@@ -11,7 +11,7 @@ use Rattle.ob_tables.specs.Table.{entry_at, without_entry}
 use Rattle.ob_tables.specs.Counts.{handles_among}
 use Rattle.ob_tables.specs.Tables.{table_of, without_entry_of}
 use Rattle.ob_store.specs.Objects.{Object, ObjectsState, name_in, without_handle_of}
-use Rattle.ob_store.specs.Agreement.{IsTied}
+use Rattle.ob_store.specs.Agreement.{ObjectsInvariant}
 use Rattle.ob_store.specs.Kept.{IsThere, IsNamed, IsListing, IsSound}
 use Rattle.ob_store.specs.Moves.{rows_left, rows_without}
 use Rattle.ob_store.specs.Parts.{PartsState}
@@ -31,7 +31,7 @@ nothing_left value = search arith
 
 module _ (p : PartsState) (process value : ℕ) (e : Entry)
     (sound : IsSound p)
-    (tied : IsTied p.objects)
+    (tied : ObjectsInvariant p.objects)
     (found : entry_at (table_of p.tables.tables process) value ≡ Some e) where
   abbrev o : ObjectsState
   o = p.objects
@@ -54,8 +54,9 @@ module _ (p : PartsState) (process value : ℕ) (e : Entry)
       let b = one_less o.seen (length o.objects) p.tables.tables p.waits.waits sound.counted process value e found in
       omega arith
 
-  pub seated : (q : ObjectsState) → q ≡ without_handle_of p.objects e.id.slot → IsSome (get_or q.objects e.id.slot None)
-  seated q is = ap (λ (x : ObjectsState). is_some (get_or x.objects e.id.slot None)) is
+  pub has_object : (q : ObjectsState) → q ≡ without_handle_of p.objects e.id.slot
+      → IsSome (get_or q.objects e.id.slot None)
+  has_object q is = ap (λ (x : ObjectsState). is_some (get_or x.objects e.id.slot None)) is
       ∙ ap is_some (there_some o.objects e.id there).1
 
   named_after : IsNamed p.objects.objects (without_entry_of p.tables.tables process value) p.waits.waits
@@ -135,6 +136,6 @@ module _ (p : PartsState) (process value : ℕ) (e : Entry)
     pub sound_left : IsSound removed
     sound_left = search (arith, sound_removed, listing_left)
 
-    pub way_left : IsTied q → (first : KeeperState) (s : State) → IsUnderWay first p s
+    pub way_left : ObjectsInvariant q → (first : KeeperState) (s : State) → IsUnderWay first p s
         → IsUnderWay first removed (record s { tables = without_entry_of p.tables.tables process value })
     way_left after first s way = grind (arith, nat_tests, at_place, held, opened_closed, sound_left, same_generations)

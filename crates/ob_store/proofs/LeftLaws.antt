@@ -4,7 +4,7 @@ use Rattle.std.proofs.lemmas.List.{length-set}
 use Rattle.pin_core.specs.declared.id.Id.{Id}
 use Rattle.ob_body.specs.declared.body.Body.{Body}
 use Rattle.ob_waits.specs.Ends.{slot_ended, ended}
-use Rattle.ob_waits.specs.Objects.{Objects, slot_room, without_block, without_blocks}
+use Rattle.ob_waits.specs.CountedBodies.{CountedBodies, slot_room, without_block, without_blocks}
 use Rattle.ob_waits.specs.Rules.{HasBodies}
 use Rattle.ob_waits.proofs.EndsLast.{is_ended}
 use Rattle.ob_waits.proofs.Settling.{IsLess}
@@ -22,7 +22,7 @@ left_more a b c ab bc = search arith
 pub left_gone : (c : Bool) (bodies : List (Option Body)) (i : ℕ) → AreLeft bodies (cond c (set bodies i None) bodies)
 left_gone c bodies i = search (arith, at_gone, length-set)
 
-pub left_blocks : (ids : List Id) (o : Objects) → AreLeft o.bodies (without_blocks o ids).bodies
+pub left_blocks : (ids : List Id) (o : CountedBodies) → AreLeft o.bodies (without_blocks o ids).bodies
 left_blocks [] o = left_same o.bodies
 left_blocks (id ∷ ids) o =
     search (arith, left_gone, left_blocks ids (without_block o id))
@@ -44,13 +44,13 @@ pub room_left_at : (limit t : ℕ) (bodies after : List (Option Body)) (k : ℕ)
 room_left_at limit t bodies after k left h = search arith
 
 -- where bodies went that were to go, all that was to end has ended
-gone_ended : (after : Objects) (bodies : List (Option Body)) (k : ℕ) → HasBodies after
+gone_ended : (after : CountedBodies) (bodies : List (Option Body)) (k : ℕ) → HasBodies after
     → (get_or after.bodies k None ≡ get_or bodies k None) ⊎ (get_or after.bodies k None ≡ None)
     → get_or after.bodies k None ≡ slot_ended (get_or after.handles k 0) (get_or after.blocks k 0)
     (get_or bodies k None)
 gone_ended after bodies k has at = search arith
 
-pub ended_gone : (after : Objects) (bodies : List (Option Body)) → HasBodies after → AreLeft bodies after.bodies
+pub ended_gone : (after : CountedBodies) (bodies : List (Option Body)) → HasBodies after → AreLeft bodies after.bodies
     → ended (record after { bodies = bodies }) ≡ after
 ended_gone after bodies has left =
     let is : after.bodies ≡ (ended (record after { bodies = bodies })).bodies =

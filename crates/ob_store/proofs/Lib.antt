@@ -1,5 +1,5 @@
 pub mod LabelLaws
-pub mod SeatLaws
+pub mod HeaderLaws
 pub mod EndLaws
 pub mod BirthLaws
 pub mod AgreeLaws

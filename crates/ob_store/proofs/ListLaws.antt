@@ -9,7 +9,7 @@ use Rattle.pin_core.specs.Events.{with_descr}
 use Rattle.pin_core.proofs.Counts.{count-snoc}
 use Rattle.pin_words.specs.Keepers.{stored, published}
 use Rattle.pin_words.specs.Views.{id_of}
-use Rattle.ob_store.specs.Objects.{Object, ObjectsState, Head, object_in}
+use Rattle.ob_store.specs.Objects.{Object, ObjectsState, ObjectAttributes, object_in}
 use Rattle.ob_store.specs.Agreement.{Listed, IsListed}
 
 -- an object set at a slot, or one that leaves
@@ -29,19 +29,19 @@ new_one : (ps : List (Id × Descr)) (p : Id × Descr) (o : Object) → p ≡ (o.
 new_one ps p o is = search (arith, count-snoc)
 
 -- a new object is published with its descriptor
-pub listed_added : (s : ObjectsState) (k : ℕ) (head : Head) → k < length s.keeper.slots
+pub listed_added : (s : ObjectsState) (k : ℕ) (attributes : ObjectAttributes) → k < length s.keeper.slots
     → IsListed s.keeper.published s.objects
-    → IsListed (published (stored s.keeper k head.descr) k).published (set s.objects k (Some (object_in s k head)))
-listed_added s k head inside old =
-    let slots = set s.keeper.slots k (with_descr (slot_of s.keeper.slots k) head.descr) in
-    let o : Object = object_in s k head in
-    let at : slot_of slots k ≡ with_descr (slot_of s.keeper.slots k) head.descr =
+    → IsListed (published (stored s.keeper k attributes.descr) k).published (set s.objects k (Some (object_in s k attributes)))
+listed_added s k attributes inside old =
+    let slots = set s.keeper.slots k (with_descr (slot_of s.keeper.slots k) attributes.descr) in
+    let o : Object = object_in s k attributes in
+    let at : slot_of slots k ≡ with_descr (slot_of s.keeper.slots k) attributes.descr =
     search (arith, get_or-set_same) in
     let p : (id_of slots k, (slot_of slots k).descr) ≡ (o.id, o.descr) =
     λ i. (
       (ap (λ (x : Slot). let z : Id = record { slot = k; generation = x.generation } in z) at) i,
       (ap (λ (x : Slot). x.descr) at) i,
     ) in
-    listed_set (published (stored s.keeper k head.descr) k).published s.objects k (Some o)
+    listed_set (published (stored s.keeper k attributes.descr) k).published s.objects k (Some o)
     (new_one s.keeper.published _ o p)
     (record { each = λ j. more s.keeper.published _ (get_or s.objects j None) (old.each j) })

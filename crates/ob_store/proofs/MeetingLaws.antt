@@ -8,7 +8,7 @@ use Rattle.pin_words.specs.declared.view.ReaderView.{ReaderView}
 use Rattle.pin_words.specs.Plays.{Show}
 use Rattle.pin_words.specs.Views.{id_of}
 use Rattle.ob_body.specs.declared.body.Body.{Body}
-use Rattle.ob_store.specs.Agreement.{Agrees, IsTied}
+use Rattle.ob_store.specs.Agreement.{Agrees, ObjectsInvariant}
 use Rattle.ob_store.specs.Meetings.{IsFound}
 use Rattle.ob_store.specs.Objects.{Object, ObjectsState}
 
@@ -22,7 +22,7 @@ found_in id r (Some o) body retired slot agrees same held show =
     search arith
 
 -- what the keeper says of the slot of a held Id is what the object there has
-pub held_found : (s : ObjectsState) (r : ReaderView) (id : Id) → IsTied s → id.slot < s.keeper.shape.slots
+pub held_found : (s : ObjectsState) (r : ReaderView) (id : Id) → ObjectsInvariant s → id.slot < s.keeper.shape.slots
     → id ≡ id_of s.keeper.slots id.slot
     → may_be_held (slot_of s.keeper.slots id.slot).phase ≡ true → Show id (slot_of s.keeper.slots id.slot).descr r.notes
     → IsFound id r (slice_index_or s.objects id.slot None)

@@ -1,4 +1,4 @@
--- What is noted beside the seats, while one of them changes.
+-- What is noted beside the headers, while one of them changes.
 use Rattle.std.proofs.Common.{arith, ◌≡◌, ◌∙◌, ℕ, ◌<◌, List, length, Option, Some, None, ap, refl, sym, get_or, map, set, Bool, false, cond}
 use Rattle.std.specs.Prelude.{is_some, not}
 use Rattle.std.proofs.lemmas.List.{length-set}
@@ -6,29 +6,29 @@ use Rattle.ob_body.specs.declared.body.Body.{Body}
 use Rattle.ob_name.specs.Names.{ObjectName}
 use Rattle.ob_waits.specs.Form.{slot_due, slot_owner}
 use Rattle.ob_store.specs.declared.label.Label.{Label}
-use Rattle.ob_store.specs.declared.seat.Seat.{Seat}
-use Rattle.ob_store.specs.Owners.{owned_came, owned_left, owned_moved, seat_owner}
-use Rattle.ob_store.specs.Timers.{AreNoted, due_left, seat_due}
+use Rattle.ob_store.specs.declared.object_header.ObjectHeader.{ObjectHeader}
+use Rattle.ob_store.specs.Owners.{owned_came, owned_left, owned_moved, header_owner}
+use Rattle.ob_store.specs.Timers.{AreNoted, due_left, header_due}
 use Rattle.ob_store.proofs.OwnerLaws.{moved_owned, owned_left_at, owned_set, owned_stays}
 use Rattle.ob_store.proofs.TimerLaws.{timed_left_at}
 use Rattle.ob_store.proofs.ClosingLaws.{opened_back, opened_left_at}
-use Rattle.ob_store.proofs.SeatLaws.{mapped_set, mapped_stays}
+use Rattle.ob_store.proofs.HeaderLaws.{mapped_set, mapped_stays}
 
-module _ (xs : List (Option Seat)) (counts : List ℕ) (dues : List (Option ℕ)) (opens : List Bool) (labels : List Label)
+module _ (xs : List (Option ObjectHeader)) (counts : List ℕ) (dues : List (Option ℕ)) (opens : List Bool) (labels : List Label)
     (names : List (Option ObjectName)) (noted : AreNoted xs counts dues opens labels names) (k : ℕ) where
-  labelled_set : (y : Option Seat) → length labels ≡ length (set xs k y)
+  labelled_set : (y : Option ObjectHeader) → length labels ≡ length (set xs k y)
   labelled_set y = noted.labelled ∙ sym (length-set xs k y)
 
-  named_set : (y : Option Seat) → length names ≡ length (set xs k y)
+  named_set : (y : Option ObjectHeader) → length names ≡ length (set xs k y)
   named_set y = noted.named ∙ sym (length-set xs k y)
 
   -- an object comes to a vacant slot
-  pub noted_came : (y : Seat) (ended : Bool) (ls : List Label) (ns : List (Option ObjectName)) → k < length xs
+  pub noted_came : (y : ObjectHeader) (ended : Bool) (ls : List Label) (ns : List (Option ObjectName)) → k < length xs
       → get_or xs k None ≡ None → is_some y.body ≡ not ended → length ls ≡ length labels → length ns ≡ length names
       → AreNoted (set xs k (Some y)) (owned_came counts (slot_owner y.body)) (set dues k (slot_due y.body))
       (cond ended (set opens k false) opens) ls ns
   noted_came y ended ls ns within vacant is labelled named = record {
-    owned = moved_owned xs counts k (Some y) None (slot_owner y.body) noted.owned within (ap seat_owner (sym vacant))
+    owned = moved_owned xs counts k (Some y) None (slot_owner y.body) noted.owned within (ap header_owner (sym vacant))
         refl;
     timed = search (arith, mapped_set);
     opened = opened_back xs opens k y ended noted.opened vacant is;
@@ -36,8 +36,8 @@ module _ (xs : List (Option Seat)) (counts : List ℕ) (dues : List (Option ℕ)
     named = named ∙ named_set (Some y);
   }
 
-  -- a seat changes
-  module _ (x y : Seat) (there : get_or xs k None ≡ Some x) where
+  -- a header changes
+  module _ (x y : ObjectHeader) (there : get_or xs k None ≡ Some x) where
     -- in its counts alone
     pub noted_counts : y.body ≡ x.body → AreNoted (set xs k (Some y)) counts dues opens labels names
     noted_counts same = search (arith, length-set, mapped_stays, owned_stays)
@@ -50,6 +50,6 @@ module _ (xs : List (Option Seat)) (counts : List ℕ) (dues : List (Option ℕ)
 
     -- it has another body
     pub noted_moved : (before after : Option ℕ) (moments : List (Option ℕ)) → before ≡ slot_owner x.body
-        → after ≡ slot_owner y.body → moments ≡ map seat_due (set xs k (Some y)) → is_some y.body ≡ is_some x.body
+        → after ≡ slot_owner y.body → moments ≡ map header_due (set xs k (Some y)) → is_some y.body ≡ is_some x.body
         → AreNoted (set xs k (Some y)) (owned_moved counts before after) moments opens labels names
     noted_moved before after moments was now timed same = search (arith, length-set, mapped_stays, owned_set)

@@ -9,13 +9,13 @@ use Rattle.pin_words.specs.Keepers.{KeeperState, IsFresh}
 use Rattle.ob_tables.specs.Tables.{HandleTables}
 use Rattle.ob_waits.specs.Waits.{WaitList}
 use Rattle.ob_store.specs.declared.limits.Limits.{Limits}
-use Rattle.ob_store.specs.Agreement.{IsTied, made_in}
+use Rattle.ob_store.specs.Agreement.{ObjectsInvariant, made_in}
 use Rattle.ob_store.specs.Processes.{no_processes}
 use Rattle.ob_store.specs.Objects.{ObjectsState, with_keeper, vacant_places}
 use Rattle.ob_store.specs.Parts.{PartsState, whole_of}
 use Rattle.ob_store.specs.Signaled.{none_signaled}
 use Rattle.ob_store.specs.State.{Whole, opening, shape_of}
-use Rattle.ob_store.specs.Kept.{IsKept}
+use Rattle.ob_store.specs.Kept.{StoreInvariant}
 use Rattle.ob_store.proofs.CountedLaws.{counted_opening}
 use Rattle.ob_store.proofs.NamedLaws.{named_opening}
 use Rattle.ob_store.proofs.ListingLaws.{listing_opening}
@@ -41,7 +41,7 @@ module _ (limits : Limits) (keeper : KeeperState) (fresh : IsFresh keeper (shape
     signaled = none_signaled;
   }
 
-  pub kept_opening : IsKept no_parts
+  pub kept_opening : StoreInvariant no_parts
   kept_opening = record {
     sound = record {
       limited = search arith;
@@ -67,5 +67,5 @@ none_made zero = refl
 none_made (suc n) = search (arith, none_made n)
 
 pub tied_opening : (n : ℕ) (k : KeeperState) → IsFresh k k.shape → n ≡ k.shape.slots → n ≤ 65536 → 1 ≤ k.shape.max_gen
-    → k.shape.max_gen ≤ 4294967295 → IsTied (with_keeper (vacant_places n) 0 k)
+    → k.shape.max_gen ≤ 4294967295 → ObjectsInvariant (with_keeper (vacant_places n) 0 k)
 tied_opening n k fresh same few first last = search (arith, none_made, length-replicate, replicate_at)

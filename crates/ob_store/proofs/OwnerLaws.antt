@@ -10,11 +10,11 @@ use Rattle.ob_body.specs.declared.body.Body.TheVariants.{Mutex}
 use Rattle.ob_body.specs.Mutex.{is_owner}
 use Rattle.ob_arena.specs.Slots.{Slots, is_vacant_at}
 use Rattle.ob_waits.specs.Form.{slot_owner}
-use Rattle.ob_store.specs.declared.seat.Seat.{Seat}
+use Rattle.ob_store.specs.declared.object_header.ObjectHeader.{ObjectHeader}
 use Rattle.ob_store.specs.Ends.{slot_left_by}
-use Rattle.ob_store.specs.Objects.{Places, Tag, objects_in, places_of, seat_body, vacancy}
+use Rattle.ob_store.specs.Objects.{Places, Tag, objects_in, places_of, header_body, vacancy}
 use Rattle.ob_store.specs.State.{by_slot}
-use Rattle.ob_store.specs.Owners.{seat_owner, is_seat_of, owned_left, owned_came, owned_moved, IsOwned}
+use Rattle.ob_store.specs.Owners.{header_owner, is_header_of, owned_left, owned_came, owned_moved, IsOwned}
 use Rattle.ob_store.proofs.LabelLaws.{object_read, objects_length}
 use Rattle.ob_store.proofs.BySlot.{count_at, count_few, is_by_slot, zero_counts}
 
@@ -36,46 +36,52 @@ pub few_left : (xs : List ℕ) (o : Option ℕ) → ((t : ℕ) → get_or xs t 0
     → get_or (owned_left xs o) t 0 ≤ 65536
 few_left xs o few t = search (arith, at_left, length-set, get_or_past)
 
-pub owned_few : (xs : List (Option Seat)) (counts : List ℕ) → IsOwned xs counts → (t : ℕ) → get_or counts t 0 ≤ 65536
+pub owned_few : (xs : List (Option ObjectHeader)) (counts : List ℕ) → IsOwned xs counts → (t : ℕ)
+    → get_or counts t 0 ≤ 65536
 owned_few xs counts owned t = search (arith, count_by-le-length, count_few)
 
-pub moved_owned : (xs : List (Option Seat)) (counts : List ℕ) (k : ℕ) (y : Option Seat) (before after : Option ℕ)
-    → IsOwned xs counts → k < length xs → before ≡ seat_owner (get_or xs k None) → after ≡ seat_owner y
+pub moved_owned : (xs : List (Option ObjectHeader)) (counts : List ℕ) (k : ℕ) (y : Option ObjectHeader)
+    (before after : Option ℕ)
+    → IsOwned xs counts → k < length xs → before ≡ header_owner (get_or xs k None) → after ≡ header_owner y
     → IsOwned (set xs k y) (owned_moved counts before after)
 moved_owned xs counts k y before after owned lt was now = search (arith, at_left, at_came, length-set, count_at, get_or-le-sum_by, is_by_slot, sum_by-set)
 
-pub some_there : (xs : List (Option Seat)) (k : ℕ) (x : Seat) → get_or xs k None ≡ Some x → k < length xs
+pub some_there : (xs : List (Option ObjectHeader)) (k : ℕ) (x : ObjectHeader) → get_or xs k None ≡ Some x
+    → k < length xs
 some_there xs k x is = search (arith, get_or_past)
 
--- a seat changed, and its owner not
-pub same_owned : (xs : List (Option Seat)) (counts : List ℕ) (k : ℕ) (y : Option Seat) → IsOwned xs counts
-    → seat_owner y ≡ seat_owner (get_or xs k None) → k < length xs → IsOwned (set xs k y) counts
+-- a header changed, and its owner not
+pub same_owned : (xs : List (Option ObjectHeader)) (counts : List ℕ) (k : ℕ) (y : Option ObjectHeader)
+    → IsOwned xs counts
+    → header_owner y ≡ header_owner (get_or xs k None) → k < length xs → IsOwned (set xs k y) counts
 same_owned xs counts k y owned same lt = search (arith, length-set, sum_by-set)
 
 pub owned_none : (slots threads : ℕ) → slots ≤ 65536 → IsOwned (replicate slots None) (replicate threads 0)
 owned_none slots threads few = record {
-  counted = zero_counts threads (λ t. count_by (is_seat_of t) (replicate slots None)) (λ t. none t slots)
-      ∙ ap (λ n. by_slot n (λ t. count_by (is_seat_of t) (replicate slots None))) (sym (length-replicate threads 0));
+  counted = zero_counts threads (λ t. count_by (is_header_of t) (replicate slots None)) (λ t. none t slots)
+      ∙ ap (λ n. by_slot n (λ t. count_by (is_header_of t) (replicate slots None))) (sym (length-replicate threads 0));
   at_most = search (arith, length-replicate);
 }
   where
-    none : (t n : ℕ) → count_by (is_seat_of t) (replicate n None) ≡ 0
+    none : (t n : ℕ) → count_by (is_header_of t) (replicate n None) ≡ 0
     none t zero = refl
     none t (suc n) = omega (arith, none t n)
 
--- a seat changed, with its owner or not
-pub owned_set : (xs : List (Option Seat)) (counts : List ℕ) (k : ℕ) (x y : Seat) (before after : Option ℕ)
+-- a header changed, with its owner or not
+pub owned_set : (xs : List (Option ObjectHeader)) (counts : List ℕ) (k : ℕ) (x y : ObjectHeader)
+    (before after : Option ℕ)
     → IsOwned xs counts → get_or xs k None ≡ Some x → before ≡ slot_owner x.body → after ≡ slot_owner y.body
     → IsOwned (set xs k (Some y)) (owned_moved counts before after)
 owned_set xs counts k x y before after owned there was now =
     grind (arith, at_place, moved_owned)
 
-pub owned_stays : (xs : List (Option Seat)) (counts : List ℕ) (k : ℕ) (x y : Seat) → IsOwned xs counts
+pub owned_stays : (xs : List (Option ObjectHeader)) (counts : List ℕ) (k : ℕ) (x y : ObjectHeader) → IsOwned xs counts
     → get_or xs k None ≡ Some x → y.body ≡ x.body → IsOwned (set xs k (Some y)) counts
 owned_stays xs counts k x y owned there same = grind (arith, at_place, same_owned)
 
 -- a body goes, or stays
-pub owned_left_at : (xs : List (Option Seat)) (counts : List ℕ) (k : ℕ) (x y : Seat) (b : Bool) (o : Option Body)
+pub owned_left_at : (xs : List (Option ObjectHeader)) (counts : List ℕ) (k : ℕ) (x y : ObjectHeader) (b : Bool)
+    (o : Option Body)
     → IsOwned xs counts → get_or xs k None ≡ Some x → o ≡ cond b x.body None → y.body ≡ cond b None x.body
     → IsOwned (set xs k (Some y)) (owned_left counts (slot_owner o))
 owned_left_at xs counts k x y true o owned there went none =
@@ -84,27 +90,27 @@ owned_left_at xs counts k x y false o owned there went same =
     grind (arith, at_place, owned_stays)
 
 -- an object without a body leaves
-pub owned_removed : (xs : List (Option Seat)) (counts : List ℕ) (k : ℕ) → IsOwned xs counts
-    → get_or (map seat_body xs) k None ≡ None → k < length xs → IsOwned (set xs k None) counts
+pub owned_removed : (xs : List (Option ObjectHeader)) (counts : List ℕ) (k : ℕ) → IsOwned xs counts
+    → get_or (map header_body xs) k None ≡ None → k < length xs → IsOwned (set xs k None) counts
 owned_removed xs counts k owned ended lt = grind (arith, at_place, same_owned, get_or-map)
 
 -- a thread that owns none owns no body
-pub none_owned : (xs : List (Option Seat)) (counts : List ℕ) (t : ℕ) → IsOwned xs counts → t < length counts
-    → get_or counts t 0 ≡ 0 → (k : ℕ) → is_owner t (slot_owner (get_or (map seat_body xs) k None)) ≡ false
+pub none_owned : (xs : List (Option ObjectHeader)) (counts : List ℕ) (t : ℕ) → IsOwned xs counts → t < length counts
+    → get_or counts t 0 ≡ 0 → (k : ℕ) → is_owner t (slot_owner (get_or (map header_body xs) k None)) ≡ false
 none_owned xs counts t owned lt none k = ap (λ x. is_owner t (slot_owner x)) at
-    ∙ by (is_seat_of t (get_or xs k None)) refl
+    ∙ by (is_header_of t (get_or xs k None)) refl
   where
-    at : get_or (map seat_body xs) k None ≡ seat_body (get_or xs k None)
+    at : get_or (map header_body xs) k None ≡ header_body (get_or xs k None)
     at = search (arith, get_or-map, get_or_past, length-map)
 
-    all : count_by (is_seat_of t) xs ≡ 0
+    all : count_by (is_header_of t) xs ≡ 0
     all = search (arith, count_at)
 
-    by : (b : Bool) → is_seat_of t (get_or xs k None) ≡ b → is_seat_of t (get_or xs k None) ≡ false
+    by : (b : Bool) → is_header_of t (get_or xs k None) ≡ b → is_header_of t (get_or xs k None) ≡ false
     by false is = is
     by true is = elim (cases_lt k (length xs)) [
-      | inl less ↦ absurd (let one : one_of t (seat_owner (get_or xs k None)) ≡ 1 = ap {B = ℕ} (λ c. cond c 1 0) is in
-          let some = get_or-le-sum_by (λ y. one_of t (seat_owner y)) xs k None less in omega (arith, all))
+      | inl less ↦ absurd (let one : one_of t (header_owner (get_or xs k None)) ≡ 1 = ap {B = ℕ} (λ c. cond c 1 0) is in
+          let some = get_or-le-sum_by (λ y. one_of t (header_owner y)) xs k None less in omega (arith, all))
       | inr past ↦ search (arith, get_or_past)
     ]
 
@@ -118,12 +124,13 @@ pub left_twice : (t : ℕ) (x : Option Body) → slot_left_by t (slot_left_by t 
 left_twice t (Some (Mutex m)) = search arith
 left_twice t x = refl
 
--- a vacant slot has no seat
-pub vacant_seat : (s : Slots Seat) (tags : List Tag) (p : Places) (k : ℕ) → places_of s tags ≡ p
+-- a vacant slot has no header
+pub vacant_header : (s : Slots ObjectHeader) (tags : List Tag) (p : Places) (k : ℕ) → places_of s tags ≡ p
     → is_vacant_at (vacancy p) k ≡ true → (k < length s.bodies) × (get_or s.bodies k None ≡ None)
-vacant_seat s tags p k view is = search (arith, object_read, objects_length)
+vacant_header s tags p k view is = search (arith, object_read, objects_length)
 
 -- a slot with an object is there
-pub object_within : (s : Slots Seat) (labels : List Tag) (k : ℕ) → IsSome (get_or (objects_in s.bodies labels) k None)
+pub object_within : (s : Slots ObjectHeader) (labels : List Tag) (k : ℕ)
+    → IsSome (get_or (objects_in s.bodies labels) k None)
     → k < length s.bodies
 object_within s labels k there = search (arith, get_or_past, objects_length)

@@ -12,7 +12,7 @@ use Rattle.ob_store.specs.declared.limits.Limits.{Limits}
 use Rattle.ob_store.specs.declared.found.Found.{Found}
 use Rattle.ob_store.specs.Processes.{ProcessesState}
 use Rattle.ob_store.specs.Objects.{Object, ObjectsState, object_of, tag_of}
-use Rattle.ob_store.specs.Agreement.{IsTied}
+use Rattle.ob_store.specs.Agreement.{ObjectsInvariant}
 use Rattle.ob_store.specs.Kept.{IsLive, IsSound, IsThere, ProcessesKept}
 use Rattle.ob_store.specs.Parts.{PartsState}
 use Rattle.ob_store.proofs.AgreeLaws.{body_at, object_within}
@@ -21,17 +21,17 @@ use Rattle.ob_store.proofs.NamedLaws.{there_within, handles_are, blocks_are}
 use Rattle.ob_store.proofs.ListingLaws.{placed_agreed}
 
 -- nothing refers to a slot without a body
-pub unreferenced : (s : ObjectsState) (k : ℕ) → body_at s k ≡ None → IsTied s
+pub unreferenced : (s : ObjectsState) (k : ℕ) → body_at s k ≡ None → ObjectsInvariant s
     → (get_or s.seen.handles k 0 ≡ 0) × (get_or s.seen.blocks k 0 ≡ 0)
 unreferenced s k none tied =
     search arith
 
 -- a slot's object has an Id of that slot
-pub placed_there : (s : ObjectsState) → IsTied s → (k : ℕ) (o : Object) → get_or s.objects k None ≡ Some o
+pub placed_there : (s : ObjectsState) → ObjectsInvariant s → (k : ℕ) (o : Object) → get_or s.objects k None ≡ Some o
     → IsThere s.objects o.id
 placed_there s tied k o at = search (arith, placed_agreed)
 
-module _ (p : PartsState) (sound : IsSound p) (tied : IsTied p.objects) (k : ℕ) where
+module _ (p : PartsState) (sound : IsSound p) (tied : ObjectsInvariant p.objects) (k : ℕ) where
   -- what the slot counts is what its object's Id counts
   module _ (o : Object) (at : get_or p.objects.objects k None ≡ Some o) where
     own : o.id.slot ≡ k
@@ -54,22 +54,22 @@ module _ (p : PartsState) (sound : IsSound p) (tied : IsTied p.objects) (k : ℕ
 
   -- and so does what is seen there
   pub seen_handles : (x : Option Found) → get_or p.objects.objects k None
-      ≡ option_map (λ (found : Found). object_of found.seat.now (tag_of found.label.now found.name.now)) x
-      → IfSome x (λ (found : Found). get_or p.objects.seen.handles k 0 ≡ found.seat.now.handles)
-      → IfSome x (λ (found : Found). found.seat.now.handles ≡ handles_among found.seat.now.id p.tables.tables)
+      ≡ option_map (λ (found : Found). object_of found.header.now (tag_of found.label.now found.name.now)) x
+      → IfSome x (λ (found : Found). get_or p.objects.seen.handles k 0 ≡ found.header.now.handles)
+      → IfSome x (λ (found : Found). found.header.now.handles ≡ handles_among found.header.now.id p.tables.tables)
   seen_handles None at is = tt
   seen_handles (Some found) at is = search (arith, own_handles)
 
   pub seen_blocks : (x : Option Found) → get_or p.objects.objects k None
-      ≡ option_map (λ (found : Found). object_of found.seat.now (tag_of found.label.now found.name.now)) x
-      → IfSome x (λ (found : Found). get_or p.objects.seen.blocks k 0 ≡ found.seat.now.blocks)
-      → IfSome x (λ (found : Found). found.seat.now.blocks ≡ blocks_among found.seat.now.id p.waits.waits)
+      ≡ option_map (λ (found : Found). object_of found.header.now (tag_of found.label.now found.name.now)) x
+      → IfSome x (λ (found : Found). get_or p.objects.seen.blocks k 0 ≡ found.header.now.blocks)
+      → IfSome x (λ (found : Found). found.header.now.blocks ≡ blocks_among found.header.now.id p.waits.waits)
   seen_blocks None at is = tt
   seen_blocks (Some found) at is = search (arith, own_blocks)
 
   -- a slot in which something is seen is within the limit
   pub seen_within : (x : Option Found) → get_or p.objects.objects k None
-      ≡ option_map (λ (found : Found). object_of found.seat.now (tag_of found.label.now found.name.now)) x
+      ≡ option_map (λ (found : Found). object_of found.header.now (tag_of found.label.now found.name.now)) x
       → IfSome x (λ (found : Found). k < p.limits.slots)
   seen_within None at = tt
   seen_within (Some found) at = subst (λ (shape : Shape). k < shape.slots) sound.limited.shape_is

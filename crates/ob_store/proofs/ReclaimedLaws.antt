@@ -13,12 +13,12 @@ use Rattle.pin_core.specs.Events.{reclaimed}
 use Rattle.pin_words.specs.Keepers.{KeeperState, opened_again}
 use Rattle.pin_words.specs.declared.pin_keeper.Reclaim.{Reclaim}
 use Rattle.pin_words.specs.declared.pin_keeper.Reclaim.TheVariants.{Freed, Retired, Held}
-use Rattle.ob_store.specs.Objects.{Object, ObjectsState, places_in, with_keeper, without_seat}
-use Rattle.ob_store.specs.Agreement.{IsTied, Reclaimed}
+use Rattle.ob_store.specs.Objects.{Object, ObjectsState, places_in, with_keeper, without_header}
+use Rattle.ob_store.specs.Agreement.{ObjectsInvariant, Reclaimed}
 use Rattle.ob_store.specs.Parts.{PartsState, state_of, whole_of}
 use Rattle.ob_store.specs.State.{Whole, generation_of}
 use Rattle.ob_store.specs.Moves.{after_reclaim}
-use Rattle.ob_store.specs.Kept.{IsKept}
+use Rattle.ob_store.specs.Kept.{StoreInvariant}
 use Rattle.ob_store.proofs.AgreeLaws.{slot_at}
 use Rattle.ob_store.proofs.CountedLaws.{counted_left}
 use Rattle.ob_store.proofs.EndLaws.{some_set}
@@ -31,7 +31,7 @@ found : (x : Option Object) → is_some x ≡ true → (o : Object) × (x ≡ So
 found None there = absurd (cc there)
 found (Some o) there = (o, refl)
 
-module _ (p : PartsState) (kept : IsKept p) (tied : IsTied p.objects)
+module _ (p : PartsState) (kept : StoreInvariant p) (tied : ObjectsInvariant p.objects)
     (k : ℕ) (w : Whole) (view : whole_of p ≡ w) (there : is_some (get_or w.state.objects k None) ≡ true)
     (bodiless : get_or w.state.bodies k None ≡ None) where
   abbrev o : ObjectsState
@@ -53,10 +53,10 @@ module _ (p : PartsState) (kept : IsKept p) (tied : IsTied p.objects)
   -- the object leaves, whatever is said of the slot then
   module _ (retired : List Bool) (keeper : KeeperState) (shape : keeper.shape ≡ p.objects.keeper.shape) where
     abbrev left : ObjectsState
-    left = with_keeper (record (without_seat (places_in p.objects) k) { retired = retired }) p.objects.births keeper
+    left = with_keeper (record (without_header (places_in p.objects) k) { retired = retired }) p.objects.births keeper
 
-    kept_left : IsKept (record p {
-      objects = with_keeper (record (without_seat (places_in p.objects) k) {
+    kept_left : StoreInvariant (record p {
+      objects = with_keeper (record (without_header (places_in p.objects) k) {
         retired =
             retired;
       }) p.objects.births keeper;
@@ -65,10 +65,10 @@ module _ (p : PartsState) (kept : IsKept p) (tied : IsTied p.objects)
 
   -- what is kept, whatever the answer is
   pub kept_reclaimed : (answer : Reclaim) (q : ObjectsState) → Reclaimed p.objects k answer q
-      → IsKept (record p { objects = q })
-  kept_reclaimed Freed q h = subst (λ (z : ObjectsState). IsKept (record p { objects = z })) (sym h.0)
+      → StoreInvariant (record p { objects = q })
+  kept_reclaimed Freed q h = subst (λ (z : ObjectsState). StoreInvariant (record p { objects = z })) (sym h.0)
       (kept_left o.retired q.keeper (ap (λ (z : KeeperState). z.shape) h.1.0))
-  kept_reclaimed Retired q h = subst (λ (z : ObjectsState). IsKept (record p { objects = z })) (sym h.0)
+  kept_reclaimed Retired q h = subst (λ (z : ObjectsState). StoreInvariant (record p { objects = z })) (sym h.0)
       (kept_left (set o.retired k true) q.keeper (ap (λ (z : KeeperState). z.shape) h.1.0))
   kept_reclaimed (Held n) q h = grind (arith, nat_tests, at_place, h.0, h.1.0, kept.populated, kept.settled, kept.sound.counted, kept.sound.formed, kept.sound.limited.handles_are, kept.sound.limited.processes_are)
 

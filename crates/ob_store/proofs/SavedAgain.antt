@@ -18,7 +18,7 @@ use Rattle.ob_tables.specs.Tables.{IsBounded}
 use Rattle.ob_waits.specs.Waits.{WaitList}
 use Rattle.ob_store.specs.declared.limits.Limits.{Limits}
 use Rattle.ob_store.specs.declared.saved_slot.SavedSlot.{SavedSlot}
-use Rattle.ob_store.specs.Agreement.{Agrees, AreBorn, IsTied, made_in}
+use Rattle.ob_store.specs.Agreement.{Agrees, AreBorn, ObjectsInvariant, made_in}
 use Rattle.ob_store.specs.Counting.{counting_all, uncounted}
 use Rattle.ob_store.specs.Kept.{AreOfLive, IsCounted, IsListing, IsNamed, IsQuiet}
 use Rattle.ob_store.specs.Objects.{Object, ObjectsState, Places, places_in}
@@ -46,7 +46,7 @@ one-body : (k : ℕ) (x : Option Object) (b : Option Body) (r : Bool) (y : Slot)
 one-body k None b r y a = sym a.0
 one-body k (Some o) b r y a = refl
 
-module _ (s : ObjectsState) (tied : IsTied s) where
+module _ (s : ObjectsState) (tied : ObjectsInvariant s) where
   abbrev n : ℕ
   n = s.keeper.shape.slots
 

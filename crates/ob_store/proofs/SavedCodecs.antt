@@ -23,7 +23,7 @@ use Rattle.ob_waits.specs.declared.wait.Wait.{Wait}
 use Rattle.ob_store.proofs.CountingLaws.{Counts}
 use Rattle.ob_store.proofs.SavedObjectLaws.{AreRead, body-here, counts, none_saved, object-here, retired-here, slot-here}
 use Rattle.ob_store.proofs.SavedKeptLaws.{whole_steps}
-use Rattle.ob_store.proofs.SavedSlotLaws.{IsSound, items_all, slot_generation, slot_sound}
+use Rattle.ob_store.proofs.SavedSlotLaws.{IsSlotSound, items_all, slot_generation, slot_sound}
 use Rattle.ob_store.specs.declared.limits.Limits.{Limits}
 use Rattle.ob_store.specs.declared.saved_slot.SavedObject.{SavedObject}
 use Rattle.ob_store.specs.declared.saved_slot.SavedSlot.{SavedSlot}
@@ -85,7 +85,7 @@ whole_take limits tables list bytes s rows rest are e =
     let i = bind_ok (items_at (slot_at limits.max_gen list.clock) limits.slots bytes) (λ (xs : List SavedSlot ×
     List ℕ). Ok (slots_from xs.0, xs.1)) ((w.p, w.slots), rest) w.read in
     let back = ok_is (slots_from i.0.0, i.0.1) ((w.p, w.slots), rest) i.2 in
-    let all = items_all (slot_at limits.max_gen list.clock) (IsSound limits.max_gen list.clock)
+    let all = items_all (slot_at limits.max_gen list.clock) (IsSlotSound limits.max_gen list.clock)
     (slot_sound limits.max_gen list.clock) none_saved limits.slots bytes i.0.0 i.0.1 i.1 in
     let r : AreRead limits.slots limits.max_gen list.clock w.p w.slots = record {
       xs = i.0.0;

@@ -14,14 +14,14 @@ use Rattle.pin_core.specs.Worlds.{slot_of}
 use Rattle.ob_name.specs.Listing.{Rows}
 use Rattle.ob_tables.specs.declared.entry.Entry.{Entry}
 use Rattle.ob_tables.specs.Counts.{handles_among}
-use Rattle.ob_waits.specs.Objects.{slot_room}
+use Rattle.ob_waits.specs.CountedBodies.{slot_room}
 use Rattle.ob_waits.specs.Rules.{HasRoom, WaitHasRoom, thread_of}
 use Rattle.ob_waits.specs.Waits.{WaitList, blocks_among, blocks_in, ids_of, is_ready, list_ready, nowhere, slot_blocks, state_ids, state_ready}
 use Rattle.ob_waits.specs.declared.wait.State.{State}
 use Rattle.ob_waits.specs.declared.wait.State.TheVariants.{Pending, Answered}
 use Rattle.ob_waits.specs.declared.wait.Wait.{Wait}
 use Rattle.ob_store.specs.declared.limits.Limits.{Limits}
-use Rattle.ob_store.specs.Agreement.{Agrees, IsTied}
+use Rattle.ob_store.specs.Agreement.{Agrees, ObjectsInvariant}
 use Rattle.ob_store.specs.Counting.{counting_all, is_its}
 use Rattle.ob_store.specs.Kept.{AreFormed, AreOfLive, IsCounted, IsListing, IsLive, IsNamed, IsQuiet, IsThere}
 use Rattle.ob_store.specs.Objects.{Object, ObjectsState, Places}
@@ -180,7 +180,7 @@ module _ (limit : ℕ) (threads : List (Option ℕ)) (s : ObjectsState) where
 
 -- blocks that were counted by objects are counted by slots
 pub blocks_counted : (s : ObjectsState) (tables : List (List (Option Entry))) (waits : List (Option Wait)) →
-    IsTied s → IsNamed s.objects tables waits →
+    ObjectsInvariant s → IsNamed s.objects tables waits →
     map (object_blocks waits) s.objects ≡ by_slot (length s.objects) (λ k. slot_blocks k waits)
 blocks_counted s tables waits tied named =
     is_by_slot (map (object_blocks waits) s.objects) (length s.objects) (λ k. slot_blocks k waits)
@@ -216,11 +216,11 @@ module _ (limits : Limits) (tables : List (List (Option Entry))) (list : WaitLis
   whole_entries id some = subst (λ (z : ObjectsState). IsThere z.objects id) steps.is
       (search (arith, entries_read))
 
-  pub whole_counted : IsTied s → IsNamed s.objects tables list.waits →
+  pub whole_counted : ObjectsInvariant s → IsNamed s.objects tables list.waits →
       IsCounted s.seen (length s.objects) tables list.waits
   whole_counted tied named = grind (arith, blocks_counted, handles_read)
 
-  pub whole_listing : IsTied s → IsCounted s.seen (length s.objects) tables list.waits →
+  pub whole_listing : ObjectsInvariant s → IsCounted s.seen (length s.objects) tables list.waits →
       IsNamed s.objects tables list.waits → IsListing rows tables s.objects s.births
   whole_listing tied counted named =
       names_sound s tables list.waits steps.order rows tied counted named

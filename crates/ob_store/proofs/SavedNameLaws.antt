@@ -17,7 +17,7 @@ use Rattle.ob_name.specs.Same.{same_name_equiv}
 use Rattle.ob_tables.specs.Counts.{slot_handles}
 use Rattle.ob_tables.proofs.Counting.{some_within}
 use Rattle.ob_waits.specs.declared.wait.Wait.{Wait}
-use Rattle.ob_store.specs.Agreement.{IsTied}
+use Rattle.ob_store.specs.Agreement.{ObjectsInvariant}
 use Rattle.ob_store.specs.Directory.{named_row, row_of, rows_of}
 use Rattle.ob_store.specs.Kept.{IsCounted, IsListing, IsNamed, IsThere, id_in}
 use Rattle.ob_store.specs.Objects.{Object, ObjectsState, Places, places_in}
@@ -173,7 +173,7 @@ module _ (p : Places) where
           let behind = append_assoc rows (row ∷ []) others in
           search (arith, new-name)
 
-module _ (s : ObjectsState) (ts : Tables) (ws : List (Option Wait)) (order : Births) (rows : Rows) (tied : IsTied s)
+module _ (s : ObjectsState) (ts : Tables) (ws : List (Option Wait)) (order : Births) (rows : Rows) (tied : ObjectsInvariant s)
     (counted : IsCounted s.seen (length s.objects) ts ws) (named : IsNamed s.objects ts ws)
     (ordered : births_from s.births [] 0 s.objects ≡ Ok order) where
   its-handles : (k : ℕ) (o : Object) → get_or s.objects k None ≡ Some o → ltb 0 (get_or s.seen.handles k 0) ≡

@@ -13,12 +13,12 @@ use Rattle.pin_core.specs.Worlds.{slot_of}
 use Rattle.ob_body.specs.declared.body.Body.{Body}
 use Rattle.ob_tables.specs.declared.entry.Entry.{Entry}
 use Rattle.ob_tables.specs.Counts.{handles_among, slot_handles}
-use Rattle.ob_waits.specs.Objects as waits
+use Rattle.ob_waits.specs.CountedBodies as waits
 use Rattle.ob_waits.specs.Rules.{HasBodies}
 use Rattle.ob_waits.specs.declared.wait.Wait.{Wait}
 use Rattle.ob_store.specs.declared.limits.Limits.{Limits}
 use Rattle.ob_store.specs.declared.saved_slot.SavedSlot.{SavedSlot}
-use Rattle.ob_store.specs.Agreement.{IsAgreed, IsTied, made_in}
+use Rattle.ob_store.specs.Agreement.{IsAgreed, ObjectsInvariant, made_in}
 use Rattle.ob_store.specs.Counting.{counting_all}
 use Rattle.ob_store.specs.Kept.{AreFormed, IsThere}
 use Rattle.ob_store.specs.Objects.{Places}
@@ -33,10 +33,10 @@ use Rattle.ob_store.proofs.CountingLaws.{Counts, tables_count}
 use Rattle.ob_store.proofs.KeeperLaws.{all_shown}
 use Rattle.ob_store.proofs.SavedBirthLaws.{ordered_born}
 use Rattle.ob_store.proofs.SavedLaws.{objects-long}
-use Rattle.ob_store.proofs.SavedSlotLaws.{IsSound, items_all, slot_aged, slot_generation, slot_sound}
+use Rattle.ob_store.proofs.SavedSlotLaws.{IsSlotSound, items_all, slot_aged, slot_generation, slot_sound}
 
 -- each slot has a body exactly where something refers to its object
-all_bodied : (o : waits.Objects) (n : ℕ) → length o.bodies ≡ n → length o.handles ≡ n → length o.blocks ≡ n →
+all_bodied : (o : waits.CountedBodies) (n : ℕ) → length o.bodies ≡ n → length o.handles ≡ n → length o.blocks ≡ n →
     are_bodied o n ≡ true → HasBodies o
 all_bodied o n bodies handles blocks all = record {
   each = λ k. elim (cases_lt k n) [
@@ -66,7 +66,7 @@ object-at j (suc k) (x ∷ xs) lt =
 pub record AreRead (n max_gen clock : ℕ) (p : Places) (slots : List Slot) : Type 0 where
   pub xs : List SavedSlot
   pub length_is : length xs ≡ n
-  pub sound : (k : ℕ) → k < n → IsSound max_gen clock (get_or xs k none_saved)
+  pub sound : (k : ℕ) → k < n → IsSlotSound max_gen clock (get_or xs k none_saved)
   pub places : p ≡ places_from xs
   pub slots_are : slots ≡ map keeper_slot xs
 
@@ -78,7 +78,7 @@ slots-are-read n max_gen clock bytes p slots rest e =
       slots_from xs.0,
       xs.1,
     )) ((p, slots), rest) e in
-    let all = items_all (slot_at max_gen clock) (IsSound max_gen clock)
+    let all = items_all (slot_at max_gen clock) (IsSlotSound max_gen clock)
     (slot_sound max_gen clock) none_saved n bytes b.0.0 b.0.1 b.1 in
     let q = ok_is (slots_from b.0.0, b.0.1) ((p, slots), rest) b.2 in
     record {
@@ -131,7 +131,7 @@ module _ (n max_gen clock : ℕ) (p : Places) (slots : List Slot) (r : AreRead n
     read_agreed : IsAgreed (with_slots (with_blocks waits q) limits slots)
     read_agreed = search (arith, objects-long-here, length-map, object-here, body-here, retired-here, slot-here)
 
-    pub read_tied : IsTied (with_slots (with_blocks waits q) limits slots)
+    pub read_tied : ObjectsInvariant (with_slots (with_blocks waits q) limits slots)
     read_tied = record {
       agreed = read_agreed;
       listed = all_shown (with_slots (with_blocks waits q) limits slots) read_agreed;
@@ -179,7 +179,7 @@ module _ (limits : Limits) (clock : ℕ) (tables : List (List (Option Entry))) (
 
   pub tied_read : (order : Births) → births_from (sum_by made_in slots) [] 0 q.objects ≡ Ok order →
       (waits : List (Option Wait)) → are_bodied (with_blocks waits q).seen (length q.objects) ≡ true →
-      IsTied (with_slots (with_blocks waits q) limits slots)
+      ObjectsInvariant (with_slots (with_blocks waits q) limits slots)
   tied_read order ordered waits bodied =
       search (arith, read_tied, are, counts)
 

@@ -101,12 +101,12 @@ option-given (suc zero ∷ bytes) x rest e =
 option-given (suc (suc n) ∷ bytes) x rest e = absurd cc
 
 -- what is known of a slot that was read
-pub record IsSound (max_gen clock : ℕ) (x : SavedSlot) : Type 0 where
+pub record IsSlotSound (max_gen clock : ℕ) (x : SavedSlot) : Type 0 where
   pub stands : slot_stands max_gen clock x ≡ true
   pub given : Given x.object
 
 pub slot_sound : (max_gen clock : ℕ) (bytes rest : List ℕ) (x : SavedSlot) → slot_at max_gen clock bytes ≡
-    Ok (x, rest) → IsSound max_gen clock x
+    Ok (x, rest) → IsSlotSound max_gen clock x
 slot_sound max_gen clock bytes rest x e =
     let b = bind_ok (any_slot_at bytes) _ (x, rest) e in
     let g = guard_passed (slot_stands max_gen clock b.0.0) Value b.0 (x, rest) b.2 in
@@ -114,7 +114,7 @@ slot_sound max_gen clock bytes rest x e =
     b.1 in
     let c = both-split (number_at w32) (both_at reading.flag_at (option_at object_at)) bytes a.0 b.0.1 a.1 in
     let d = both-split reading.flag_at (option_at object_at) c.0 a.0.1 b.0.1 c.2 in
-    subst (λ (z : SavedSlot × List ℕ). IsSound max_gen clock z.0) g.1
+    subst (λ (z : SavedSlot × List ℕ). IsSlotSound max_gen clock z.0) g.1
     (record {
       stands = g.0;
       given =
@@ -148,7 +148,7 @@ items_all {A = A} at P pass d (suc n) bytes xs rest e =
 pub slot_generation : (x : SavedSlot) → (keeper_slot x).generation ≡ x.generation
 slot_generation x = search arith
 
-module _ (max_gen clock : ℕ) (x : SavedSlot) (sound : IsSound max_gen clock x) where
+module _ (max_gen clock : ℕ) (x : SavedSlot) (sound : IsSlotSound max_gen clock x) where
   abbrev rest : Bool
   rest = may_retire max_gen x && object_stands clock x.object
 

@@ -25,8 +25,8 @@ use Rattle.ob_waits.specs.Waits.{WaitList, ids_of, nowhere}
 use Rattle.ob_waits.specs.declared.wait.Wait.{Wait}
 use Rattle.ob_store.specs.declared.limits.Limits.{Limits}
 use Rattle.ob_store.specs.declared.saved_slot.SavedSlot.{SavedSlot}
-use Rattle.ob_store.specs.Agreement.{IsTied}
-use Rattle.ob_store.specs.Kept.{IsKept, IsLive, IsSound}
+use Rattle.ob_store.specs.Agreement.{ObjectsInvariant}
+use Rattle.ob_store.specs.Kept.{StoreInvariant, IsLive, IsSound}
 use Rattle.ob_store.specs.Objects.{ObjectsState}
 use Rattle.ob_store.specs.Parts.{PartsState, whole_of}
 use Rattle.ob_store.specs.Processes.{ProcessesState}
@@ -56,7 +56,7 @@ moment_codec : IsCodec (to_le_bytes w64) moment_at (λ n. (n < 2 ^ 64) × (is_mo
 moment_codec = where_codec u64_codec is_moment
 
 -- slots keep their generations
-generations_back : (s : ObjectsState) → IsTied s
+generations_back : (s : ObjectsState) → ObjectsInvariant s
     → map generation_of (map keeper_slot (slots_saved s)) ≡ map generation_of s.keeper.slots
 generations_back s tied =
     ext_get_or 0 (map generation_of (map keeper_slot (slots_saved s))) (map generation_of s.keeper.slots)
@@ -70,7 +70,7 @@ generations_back s tied =
     ∙ sym (get_or-map generation_of s.keeper.slots k opening_slot 0 (omega arith))))
 
 -- the threads and the slots of waits that are kept are within the limits
-module _ (p : PartsState) (kept : IsKept p) (tied : IsTied p.objects) where
+module _ (p : PartsState) (kept : StoreInvariant p) (tied : ObjectsInvariant p.objects) where
   slots-there : (n : ℕ) → n < length p.waits.waits
       → are_below p.limits.slots (ids_of (get_or p.waits.waits n None)) ≡ true
   slots-there n within = all_from (λ (id : Id). ltb id.slot p.limits.slots)
@@ -100,7 +100,7 @@ slots_there n xs a b c rest long =
     search (arith, slots-long, length-append)
 
 -- the parts of a store are read again
-module _ (p : PartsState) (kept : IsKept p) (tied : IsTied p.objects) (processes : ListsFit p.processes)
+module _ (p : PartsState) (kept : StoreInvariant p) (tied : ObjectsInvariant p.objects) (processes : ListsFit p.processes)
     (tables : TablesFit p.tables) (waits : WaitsFit p.waits)
     (objects : AllByRecursion (SlotFits p.objects.keeper.shape.max_gen p.waits.clock) (slots_saved p.objects)) where
   abbrev sound : IsSound p

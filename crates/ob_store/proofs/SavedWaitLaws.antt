@@ -6,7 +6,7 @@ use Rattle.std.proofs.lemmas.List.{ext_get_or, get_or-map, length-map, set-get_o
 use Rattle.std.proofs.lemmas.List.Quantifiers.{position-Some}
 use Rattle.ob_arena.specs.Slots.{Slots}
 use Rattle.pin_core.specs.declared.id.Id.{Id}
-use Rattle.ob_waits.specs.Rules.{IsKept, thread_of}
+use Rattle.ob_waits.specs.Rules.{WaitsInvariant, thread_of}
 use Rattle.ob_waits.specs.Spelling.{are_within, is_within}
 use Rattle.ob_waits.specs.Waits.{blocks_among, is_pending, new_wait, number_of}
 use Rattle.ob_waits.specs.declared.wait.Mode.{Mode}
@@ -14,20 +14,20 @@ use Rattle.ob_waits.specs.declared.wait.State.{State}
 use Rattle.ob_waits.specs.declared.wait.State.TheVariants.{Pending, Answered}
 use Rattle.ob_waits.specs.declared.wait.Wait.{Wait}
 use Rattle.ob_waits.proofs.TrackedLaws.{no_number, waits_thread}
-use Rattle.ob_store.specs.declared.seat.Seat.{Seat}
+use Rattle.ob_store.specs.declared.object_header.ObjectHeader.{ObjectHeader}
 use Rattle.ob_store.specs.Kept.{IsLive}
-use Rattle.ob_store.specs.Objects.{ObjectsState, Places, Tag, places_of, seat_blocks}
+use Rattle.ob_store.specs.Objects.{ObjectsState, Places, Tag, places_of, header_blocks}
 use Rattle.ob_store.specs.SavedWaits.{object_blocks, state_stands, wait_of, wait_stands, waits_stand, with_blocks, with_blocks_at}
 use Rattle.ob_store.proofs.LabelLaws.{object_read}
 use Rattle.ob_store.proofs.ByPlace.{all_at, all_from}
 
 -- a slot without an object has no blocks
-no-blocks : (xs : List (Option Seat)) (k : ℕ) → get_or xs k None ≡ None → get_or (map seat_blocks xs) k 0 ≡ 0
+no-blocks : (xs : List (Option ObjectHeader)) (k : ℕ) → get_or xs k None ≡ None → get_or (map header_blocks xs) k 0 ≡ 0
 no-blocks [] k none = refl
-no-blocks (x ∷ xs) zero none = ap seat_blocks none
+no-blocks (x ∷ xs) zero none = ap header_blocks none
 no-blocks (x ∷ xs) (suc k) none = no-blocks xs k none
 
-module _ (s : Slots Seat) (tags : List Tag) (k : ℕ) (waits : List (Option Wait)) where
+module _ (s : Slots ObjectHeader) (tags : List Tag) (k : ℕ) (waits : List (Option Wait)) where
   pub blocks_vacant : get_or s.bodies k None ≡ None →
       places_of s tags ≡ with_blocks_at (places_of s tags) k
       (object_blocks waits (get_or (places_of s tags).objects k None))
@@ -37,9 +37,9 @@ module _ (s : Slots Seat) (tags : List Tag) (k : ℕ) (waits : List (Option Wait
       search (arith, no-blocks, object_read) in
       search (arith, set-get_or)
 
-  pub blocks_seated : (x : Seat) → get_or s.bodies k None ≡ Some x →
+  pub blocks_with_header : (x : ObjectHeader) → get_or s.bodies k None ≡ Some x →
       object_blocks waits (get_or (places_of s tags).objects k None) ≡ blocks_among x.id waits
-  blocks_seated x is = search (arith, object_read)
+  blocks_with_header x is = search (arith, object_read)
 
 -- the blocks of the slots below one are counted, and all else is as it was
 pub record HasCounted (waits : List (Option Wait)) (p : Places) (slot : ℕ) (q : Places) : Type 0 where
@@ -98,7 +98,7 @@ module _ (limit : ℕ) (threads : List (Option ℕ)) (s : ObjectsState) (waits :
           search arith
 
   -- and each wait is that of its thread
-  its-wait : IsKept waits → (n : ℕ) (w : Wait) → get_or waits n None ≡ Some w → wait_of w.thread waits ≡ Some w
+  its-wait : WaitsInvariant waits → (n : ℕ) (w : Wait) → get_or waits n None ≡ Some w → wait_of w.thread waits ≡ Some w
   its-wait kept n w is = search (arith, position-Some, waits_thread, no_number)
 
   pub waits_next : (t : ℕ) → ((u : ℕ) → u < t → stands (wait_of u waits) ≡ true) → stands (wait_of t waits) ≡ true →
@@ -108,7 +108,7 @@ module _ (limit : ℕ) (threads : List (Option ℕ)) (s : ObjectsState) (waits :
     | inr apart ↦ before u (omega arith)
   ]
 
-  pub waits_pass : (bound slots : ℕ) → IsKept waits → are_within bound slots waits ≡ true →
+  pub waits_pass : (bound slots : ℕ) → WaitsInvariant waits → are_within bound slots waits ≡ true →
       ((t : ℕ) → t < bound → stands (wait_of t waits) ≡ true) → waits_stand limit threads waits s ≡ true
   waits_pass bound slots kept within each =
       all_from (λ (w : Option Wait). stands w) waits None (λ n lt. by n (get_or waits n None) refl)

@@ -1,7 +1,7 @@
 -- The settled state, as the code reaches it: an object ends where its last reference leaves, and then the waits settle.
 use Rattle.std.proofs.Common.{◌≡◌, ap, ◌∙◌, sym, arith}
 use Rattle.std.proofs.lemmas.List.{get_or_past}
-use Rattle.ob_waits.specs.Objects.{Objects}
+use Rattle.ob_waits.specs.CountedBodies.{CountedBodies}
 use Rattle.ob_waits.specs.Rules.{HasBodies, IsSettled}
 use Rattle.ob_waits.specs.Waits as waits
 use Rattle.ob_waits.specs.Ends.{HasBlocks, ended, with_ends}
@@ -25,11 +25,12 @@ ends_before s named = search (arith, has_blocks, ends_first)
 pub settled_waits : (s : State) → IsNamed s.objects s.tables s.waits → HasBodies (objects_of s)
     → settled s ≡ with_scene s (waits.settled (scene_of s))
 settled_waits s named bodied = ends_before s named
-    ∙ ap (λ (o : Objects). with_scene s (waits.settled (record { objects = o; waits = s.waits })))
+    ∙ ap (λ (o : CountedBodies). with_scene s (waits.settled (record { objects = o; waits = s.waits })))
     (sym (none_to_end (objects_of s) bodied))
 
 -- and where no wait is ready, what is to end alone ends
-pub settled_ends : (s : State) (after : Objects) → IsNamed s.objects s.tables s.waits → ended (objects_of s) ≡ after
+pub settled_ends : (s : State) (after : CountedBodies) → IsNamed s.objects s.tables s.waits
+    → ended (objects_of s) ≡ after
     → IsSettled after.bodies s.waits → settled s ≡ record s { bodies = after.bodies }
 settled_ends s after named is quiet =
     search (arith, ends_before, settled_same)

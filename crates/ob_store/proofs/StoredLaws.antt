@@ -10,18 +10,18 @@ use Rattle.ob_name.specs.Names.{ObjectName}
 use Rattle.ob_name.specs.Listing.{Rows}
 use Rattle.ob_tables.specs.Counts.{handles_among}
 use Rattle.ob_store.specs.Objects.{Object, ObjectsState}
-use Rattle.ob_store.specs.Agreement.{IsTied}
+use Rattle.ob_store.specs.Agreement.{ObjectsInvariant}
 use Rattle.ob_store.specs.Directory.{rows_of}
 use Rattle.ob_store.specs.Parts.{PartsState, state_of, whole_of}
 use Rattle.ob_store.specs.State.{hold_of}
-use Rattle.ob_store.specs.Kept.{IsKept}
+use Rattle.ob_store.specs.Kept.{StoreInvariant}
 use Rattle.ob_store.specs.Stored.{IsOpenByName, MatchesState, hold_in}
 use Rattle.ob_store.proofs.CountedLaws.{handles_long, blocks_long}
 use Rattle.ob_store.proofs.DirectoryLaws.{IsRow, rows_are, row_there}
 use Rattle.ob_store.proofs.ListingLaws.{placed_agreed}
 use Rattle.ob_store.proofs.PlacedLaws.{own_handles, own_blocks}
 
-module _ (p : PartsState) (kept : IsKept p) (tied : IsTied p.objects) where
+module _ (p : PartsState) (kept : StoreInvariant p) (tied : ObjectsInvariant p.objects) where
   abbrev o : ObjectsState
   o = p.objects
 

@@ -8,17 +8,17 @@ use Rattle.ob_body.specs.Timer as timer
 use Rattle.ob_rights.specs.declared.kind.Kind.TheVariants as kind
 use Rattle.ob_body.specs.Body.{after_fire, due_of, kind_of}
 use Rattle.ob_waits.specs.Form.{form_of}
-use Rattle.ob_waits.specs.Objects.{Objects}
+use Rattle.ob_waits.specs.CountedBodies.{CountedBodies}
 use Rattle.ob_waits.proofs.Room.{room_changed}
 use Rattle.ob_store.specs.Signaled.{SignaledState}
-use Rattle.ob_store.specs.Agreement.{IsTied}
+use Rattle.ob_store.specs.Agreement.{ObjectsInvariant}
 use Rattle.ob_store.specs.Objects.{Object, ObjectsState, KeptRest, kept_rest}
 use Rattle.ob_store.specs.Parts.{PartsState, state_of}
 use Rattle.ob_store.specs.Ticks.{slot_fired, slot_is_due}
-use Rattle.ob_store.specs.Kept.{IsKept, AreFormed, form_in, unset}
+use Rattle.ob_store.specs.Kept.{StoreInvariant, AreFormed, form_in, unset}
 use Rattle.ob_store.specs.UnderWay.{IsUnderWay}
 use Rattle.ob_store.proofs.KeptLaws.{sound_rested, state_rested}
-use Rattle.ob_store.proofs.SeatLaws.{read}
+use Rattle.ob_store.proofs.HeaderLaws.{read}
 
 -- a timer that isn't due stays
 timer_fired : (now : ℕ) (t : TimerState) → is_due now t.due ≡ false → timer.after_fire now t ≡ t
@@ -60,15 +60,15 @@ formed_fired clock now objects bodies f = record {
 
 -- a tick begins: the timers that are due have fired, which q tells
 module _ (p : PartsState) (q : ObjectsState) (a : SignaledState) (now : ℕ)
-    (kept : IsKept p)
-    (tied : IsTied q)
+    (kept : StoreInvariant p)
+    (tied : ObjectsInvariant q)
     (seen : q.seen ≡ record p.objects.seen { bodies = map (slot_fired now) p.objects.seen.bodies })
     (rest : kept_rest q ≡ kept_rest p.objects) where
   abbrev limit : ℕ
   limit = p.limits.max_recursion
 
   bodies_are : q.seen.bodies ≡ map (slot_fired now) p.objects.seen.bodies
-  bodies_are = ap (λ (x : Objects). x.bodies) seen
+  bodies_are = ap (λ (x : CountedBodies). x.bodies) seen
 
   pub way_fired : IsUnderWay p.objects.keeper (record p { objects = q; signaled = a })
       (record (state_of p) { bodies = map (slot_fired now) p.objects.seen.bodies })
@@ -76,8 +76,8 @@ module _ (p : PartsState) (q : ObjectsState) (a : SignaledState) (now : ℕ)
     tied = tied;
     sound = sound_rested p p.processes q p.waits a rest kept.sound refl kept.sound.processes_kept
         (record {
-          handles = ap (λ (x : Objects). x.handles) seen ∙ kept.sound.counted.handles;
-          blocks = ap (λ (x : Objects). x.blocks) seen ∙ kept.sound.counted.blocks;
+          handles = ap (λ (x : CountedBodies). x.handles) seen ∙ kept.sound.counted.handles;
+          blocks = ap (λ (x : CountedBodies). x.blocks) seen ∙ kept.sound.counted.blocks;
         })
         kept.sound.named
         (search (arith, formed_fired, bodies_are))

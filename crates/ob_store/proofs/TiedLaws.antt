@@ -15,38 +15,39 @@ use Rattle.pin_words.specs.declared.view.Look.{Look}
 use Rattle.pin_words.specs.Keepers.{closed, with_looks, opened_again}
 use Rattle.ob_body.specs.declared.body.Body.{Body}
 use Rattle.ob_arena.specs.Slots.{is_vacant_at}
-use Rattle.ob_waits.specs.Objects as waits
-use Rattle.ob_waits.specs.Objects.{without_block}
+use Rattle.ob_waits.specs.CountedBodies as waits
+use Rattle.ob_waits.specs.CountedBodies.{without_block}
 use Rattle.ob_waits.specs.Rules.{HasBodies}
 use Rattle.ob_waits.proofs.Ends.{ends_left}
-use Rattle.ob_store.specs.Objects.{Object, Places, ObjectsState, Head, vacancy, with_keeper, with_object, object_in, with_seat, without_handle, without_seat, with_retired, places_in, is_last_handle, is_last_block, rest_of}
-use Rattle.ob_store.specs.Agreement.{Agrees, IsAgreed, IsTied, made_by, made_in}
+use Rattle.ob_store.specs.Objects.{Object, Places, ObjectsState, ObjectAttributes, vacancy, with_keeper, with_object, object_in, with_header, without_handle, without_header, with_retired, places_in, is_last_handle, is_last_block, rest_of}
+use Rattle.ob_store.specs.Agreement.{Agrees, IsAgreed, ObjectsInvariant, made_by, made_in}
 use Rattle.ob_store.proofs.AgreeLaws.{object_at, body_at, retired_at, slot_at, free_at, object_within}
 use Rattle.ob_store.proofs.ListLaws.{listed_added}
 use Rattle.ob_store.proofs.EndLaws.{bodied_handle_left}
 use Rattle.ob_store.proofs.BirthLaws.{made_set, made_more, made_bound, born_added, born_gone}
 
 -- counts change, and all bodies stay
-pub tied_stays : (s : ObjectsState) (seen : waits.Objects) → seen.bodies ≡ s.seen.bodies → HasBodies seen → IsTied s
-    → IsTied (record s { seen = seen })
+pub tied_stays : (s : ObjectsState) (seen : waits.CountedBodies) → seen.bodies ≡ s.seen.bodies → HasBodies seen
+    → ObjectsInvariant s
+    → ObjectsInvariant (record s { seen = seen })
 tied_stays s seen bodies has h = search arith
 
 -- a body goes, and its slot closes
-pub tied_ended : (s : ObjectsState) (seen : waits.Objects) (k : ℕ) → seen.bodies ≡ set s.seen.bodies k None
-    → is_some (body_at s k) ≡ true → HasBodies seen → IsTied s
-    → IsTied (record s { seen = seen; keeper = closed s.keeper k })
+pub tied_ended : (s : ObjectsState) (seen : waits.CountedBodies) (k : ℕ) → seen.bodies ≡ set s.seen.bodies k None
+    → is_some (body_at s k) ≡ true → HasBodies seen → ObjectsInvariant s
+    → ObjectsInvariant (record s { seen = seen; keeper = closed s.keeper k })
 tied_ended s seen k bodies there has h =
     grind (arith, at_place, made_set)
 
 -- the count of births has room
-pub births_few : (s : ObjectsState) → IsTied s → s.births ≤ 281474976645120
+pub births_few : (s : ObjectsState) → ObjectsInvariant s → s.births ≤ 281474976645120
 births_few s h =
     search (arith, made_bound)
 
 -- the last handle of an object leaves
 pub tied_handle_left : (s : ObjectsState) (k : ℕ) → 0 < get_or s.seen.handles k 0
-    → is_some (body_at s k) && is_last_handle (places_in s) k ≡ true → IsTied s
-    → IsTied (with_keeper (without_handle (places_in s) k) s.births (closed s.keeper k))
+    → is_some (body_at s k) && is_last_handle (places_in s) k ≡ true → ObjectsInvariant s
+    → ObjectsInvariant (with_keeper (without_handle (places_in s) k) s.births (closed s.keeper k))
 tied_handle_left s k some ends h =
     let is = and_parts (is_some (body_at s k)) (is_last_handle (places_in s) k) ends in
     tied_ended s (without_handle (places_in s) k).seen k
@@ -55,37 +56,39 @@ tied_handle_left s k some ends h =
 
 -- a block of an object leaves, and with the last one the body
 module _ (s : ObjectsState) (q : Places) (id : Id) (seen : q.seen ≡ without_block s.seen id)
-    (rest : rest_of q ≡ rest_of (places_in s)) (h : IsTied s) where
+    (rest : rest_of q ≡ rest_of (places_in s)) (h : ObjectsInvariant s) where
   left : q ≡ record (places_in s) { seen = without_block s.seen id }
   left = search arith
 
   pub tied_block_ended : is_some (body_at s id.slot) && is_last_block (places_in s) id.slot ≡ true
-      → IsTied (with_keeper q s.births (closed s.keeper id.slot))
+      → ObjectsInvariant (with_keeper q s.births (closed s.keeper id.slot))
   tied_block_ended ends =
       let is = and_parts (is_some (body_at s id.slot)) (is_last_block (places_in s) id.slot) ends in
-      subst (λ (p : Places). IsTied (with_keeper p s.births (closed s.keeper id.slot))) (sym left)
+      subst (λ (p : Places). ObjectsInvariant (with_keeper p s.births (closed s.keeper id.slot))) (sym left)
       (tied_ended s (without_block s.seen id) id.slot
       (search arith) is.0 (ends_left id s.seen h.bodied) h)
 
   pub tied_block_left : is_some (body_at s id.slot) && is_last_block (places_in s) id.slot ≡ false
-      → IsTied (with_keeper q s.births s.keeper)
+      → ObjectsInvariant (with_keeper q s.births s.keeper)
   tied_block_left ends =
       search (arith, set-get_or, ends_left)
 
 -- a new object in a vacant slot
-pub tied_added : (s t : ObjectsState) (k : ℕ) (head : Head) (body : Body) → t ≡ with_object s k head body
+pub tied_added : (s t : ObjectsState) (k : ℕ) (attributes : ObjectAttributes) (body : Body)
+    → t ≡ with_object s k attributes body
     → is_vacant_at (vacancy (places_in s)) k ≡ true
-    → get_or (with_seat (places_in s) k (object_in s k head) body).seen.handles k 0 ≡ 1 → IsGiven head.descr → IsTied s
-    → IsTied t
-tied_added s t k head body is vacant one given h =
+    → get_or (with_header (places_in s) k (object_in s k attributes) body).seen.handles k 0 ≡ 1
+    → IsGiven attributes.descr → ObjectsInvariant s
+    → ObjectsInvariant t
+tied_added s t k attributes body is vacant one given h =
     let none : get_or s.objects k None ≡ None = search arith in
     let room : k < length s.objects = search arith in
     let unretired : get_or s.retired k false ≡ false = search arith in
     let a : IsAgreed s = h.agreed in
     let inside : k < s.keeper.shape.slots = omega arith in
     let within : k < length s.keeper.slots = omega arith in
-    let seats : k < length s.seen.bodies = omega arith in
-    let y : Slot = with_descr (slot_at s k) head.descr in
+    let headers : k < length s.seen.bodies = omega arith in
+    let y : Slot = with_descr (slot_at s k) attributes.descr in
     let slots : List Slot = set s.keeper.slots k y in
     let stored : slot_of slots k ≡ y = get_or-set_same s.keeper.slots k y opening_slot within in
     let long : k < length slots = omega (arith, length-set s.keeper.slots k y) in
@@ -113,8 +116,8 @@ closing_at s k there ended a inside = search arith
 
 -- the slot of an ended object is taken back, and is free at the next generation
 pub tied_freed : (s : ObjectsState) (k : ℕ) (looks : List Look) → is_some (object_at s k) ≡ true → body_at s k ≡ None
-    → (slot_at s k).generation < s.keeper.shape.max_gen → IsTied s
-    → IsTied (with_keeper (without_seat (places_in s) k) s.births (with_looks (opened_again s.keeper k) looks))
+    → (slot_at s k).generation < s.keeper.shape.max_gen → ObjectsInvariant s
+    → ObjectsInvariant (with_keeper (without_header (places_in s) k) s.births (with_looks (opened_again s.keeper k) looks))
 tied_freed s k looks there ended below h =
     let inside : k < s.keeper.shape.slots = object_within s k there h.agreed in
     let closing = closing_at s k there ended h.agreed inside in
@@ -128,8 +131,8 @@ tied_freed s k looks there ended below h =
 
 -- or at the last generation it is given up for good
 pub tied_retired : (s : ObjectsState) (k : ℕ) (looks : List Look) → is_some (object_at s k) ≡ true → body_at s k ≡ None
-    → s.keeper.shape.max_gen ≤ (slot_at s k).generation → IsTied s
-    → IsTied (with_keeper (with_retired (without_seat (places_in s) k) k) s.births
+    → s.keeper.shape.max_gen ≤ (slot_at s k).generation → ObjectsInvariant s
+    → ObjectsInvariant (with_keeper (with_retired (without_header (places_in s) k) k) s.births
     (with_looks (opened_again s.keeper k) looks))
 tied_retired s k looks there ended last h =
     let inside : k < s.keeper.shape.slots = object_within s k there h.agreed in

@@ -10,7 +10,7 @@ use Rattle.ob_waits.specs.Deadlines.{is_overdue}
 use Rattle.ob_waits.specs.Deadlines as waits_time
 use Rattle.ob_waits.specs.Ends.{ended}
 use Rattle.ob_waits.specs.Form.{slot_form}
-use Rattle.ob_waits.specs.Objects.{Objects}
+use Rattle.ob_waits.specs.CountedBodies.{CountedBodies}
 use Rattle.ob_waits.specs.Rules.{IsSettled}
 use Rattle.ob_waits.specs.Waits as waits
 use Rattle.ob_waits.specs.Waits.{Scene, slot_blocks}
@@ -28,7 +28,7 @@ use Rattle.ob_store.proofs.BySlot.{get_by_slot, length-by_slot}
 use Rattle.ob_store.proofs.LeftLaws.{less_gone}
 use Rattle.ob_store.proofs.SettledLaws.{settled_ends}
 
-ended_left : (o : Objects) → AreLeft o.bodies (ended o).bodies
+ended_left : (o : CountedBodies) → AreLeft o.bodies (ended o).bodies
 ended_left o = search (arith, ended_at, length-ended)
 
 -- where no wait is ready, what is to end alone ends
@@ -94,7 +94,7 @@ module _ (s : State) (now n : ℕ) (named : IsNamed s.objects s.tables s.waits) 
       let bodies : ended (objects_of others) ≡ ended (objects_of all) =
       ended_twice (objects_of all) (objects_of one).blocks fewer_blocks in
       ap settled others_are ∙ by_ends others all_named others_quiet
-      ∙ ap (λ (o : Objects). record all { bodies = o.bodies }) bodies ∙ sym (by_ends all all_named all_quiet)
+      ∙ ap (λ (o : CountedBodies). record all { bodies = o.bodies }) bodies ∙ sym (by_ends all all_named all_quiet)
 
   -- no timer becomes due by it
   pub undue_step : ((k : ℕ) → slot_is_due now (get_or s.bodies k None) ≡ false) → (k : ℕ)
@@ -119,7 +119,7 @@ time_out_last s now still none =
     search (arith, none_lapsed)
 
 -- settling makes no timer due
-pub undue_settled : (first : Scene) (after : Objects) (ws' : List (Option Wait)) (now : ℕ)
+pub undue_settled : (first : Scene) (after : CountedBodies) (ws' : List (Option Wait)) (now : ℕ)
     → ◌≡◌ {A = Scene} (record { objects = after; waits = ws' }) (waits.settled first)
     → ((k : ℕ) → slot_is_due now (get_or first.objects.bodies k None) ≡ false) → (k : ℕ)
     → slot_is_due now (get_or after.bodies k None) ≡ false

@@ -7,35 +7,38 @@ use Rattle.ob_body.specs.declared.body.Body.{Body}
 use Rattle.ob_body.specs.declared.body.Body.TheVariants.{Event}
 use Rattle.ob_body.specs.Timer.{is_due}
 use Rattle.ob_waits.specs.Form.{slot_due}
-use Rattle.ob_waits.specs.Objects.{slot_acquired}
-use Rattle.ob_store.specs.declared.seat.Seat.{Seat}
-use Rattle.ob_store.specs.Objects.{seat_body}
+use Rattle.ob_waits.specs.CountedBodies.{slot_acquired}
+use Rattle.ob_store.specs.declared.object_header.ObjectHeader.{ObjectHeader}
+use Rattle.ob_store.specs.Objects.{header_body}
 use Rattle.ob_store.specs.Ticks.{slot_is_due}
-use Rattle.ob_store.specs.Timers.{seat_due, due_left}
-use Rattle.ob_store.proofs.SeatLaws.{read, mapped_same, mapped_set, mapped_stays}
+use Rattle.ob_store.specs.Timers.{header_due, due_left}
+use Rattle.ob_store.proofs.HeaderLaws.{read, mapped_same, mapped_set, mapped_stays}
 
 -- the due moment of a slot
-pub due_read : (xs : List (Option Seat)) (k : ℕ) →
-    get_or (map seat_due xs) k None ≡ slot_due (get_or (map seat_body xs) k None)
+pub due_read : (xs : List (Option ObjectHeader)) (k : ℕ) →
+    get_or (map header_due xs) k None ≡ slot_due (get_or (map header_body xs) k None)
 due_read xs k = search (arith, read)
 
 -- the least of the slots' is the least of the bodies'
-dues_of_bodies : (xs : List (Option Seat)) → map seat_due xs ≡ map slot_due (map seat_body xs)
+dues_of_bodies : (xs : List (Option ObjectHeader)) → map header_due xs ≡ map slot_due (map header_body xs)
 dues_of_bodies [] = refl
 dues_of_bodies (x ∷ xs) = search (arith, dues_of_bodies xs)
 
-pub least_of_bodies : (xs : List (Option Seat)) (dues : List (Option ℕ)) (least : Option ℕ) → dues ≡ map seat_due xs
-    → IsLeast dues least → IsLeast (map slot_due (map seat_body xs)) least
+pub least_of_bodies : (xs : List (Option ObjectHeader)) (dues : List (Option ℕ)) (least : Option ℕ)
+    → dues ≡ map header_due xs
+    → IsLeast dues least → IsLeast (map slot_due (map header_body xs)) least
 least_of_bodies xs dues least timed is = search (arith, dues_of_bodies)
 
-pub timed_within : (xs : List (Option Seat)) (dues : List (Option ℕ)) (k : ℕ) → dues ≡ map seat_due xs → k < length xs
+pub timed_within : (xs : List (Option ObjectHeader)) (dues : List (Option ℕ)) (k : ℕ) → dues ≡ map header_due xs
+    → k < length xs
     → k < length dues
 timed_within xs dues k timed lt = search (arith, length-map)
 
 -- a body goes, or stays
-pub timed_left_at : (xs : List (Option Seat)) (dues : List (Option ℕ)) (k : ℕ) (x y : Seat) (b : Bool) (o : Option Body)
-    → dues ≡ map seat_due xs → get_or xs k None ≡ Some x → o ≡ cond b x.body None → y.body ≡ cond b None x.body
-    → due_left dues k (slot_due o) ≡ map seat_due (set xs k (Some y))
+pub timed_left_at : (xs : List (Option ObjectHeader)) (dues : List (Option ℕ)) (k : ℕ) (x y : ObjectHeader) (b : Bool)
+    (o : Option Body)
+    → dues ≡ map header_due xs → get_or xs k None ≡ Some x → o ≡ cond b x.body None → y.body ≡ cond b None x.body
+    → due_left dues k (slot_due o) ≡ map header_due (set xs k (Some y))
 timed_left_at xs dues k x y true o timed there went none = search (arith, mapped_set, mapped_stays)
 timed_left_at xs dues k x y false o timed there went same =
     search (arith, mapped_stays)
@@ -47,35 +50,37 @@ due_taken u (Some (Event e)) = refl
 due_taken u x = refl
 
 -- an object without a body leaves
-pub timed_removed : (xs : List (Option Seat)) (dues : List (Option ℕ)) (k : ℕ) → dues ≡ map seat_due xs
-    → get_or (map seat_body xs) k None ≡ None → dues ≡ map seat_due (set xs k None)
+pub timed_removed : (xs : List (Option ObjectHeader)) (dues : List (Option ℕ)) (k : ℕ) → dues ≡ map header_due xs
+    → get_or (map header_body xs) k None ≡ None → dues ≡ map header_due (set xs k None)
 timed_removed xs dues k timed ended =
-    mapped_same seat_due xs dues k None timed (ap slot_due (sym ended ∙ read seat_body xs k))
+    mapped_same header_due xs dues k None timed (ap slot_due (sym ended ∙ read header_body xs k))
 
 -- a vacant slot has no timer
-pub timed_vacant : (xs : List (Option Seat)) (dues : List (Option ℕ)) (k : ℕ) → dues ≡ map seat_due xs
+pub timed_vacant : (xs : List (Option ObjectHeader)) (dues : List (Option ℕ)) (k : ℕ) → dues ≡ map header_due xs
     → get_or xs k None ≡ None → get_or dues k None ≡ None
-timed_vacant xs dues k timed none = ap (λ (z : List (Option ℕ)). get_or z k None) timed ∙ read seat_due xs k
-    ∙ ap seat_due none
+timed_vacant xs dues k timed none = ap (λ (z : List (Option ℕ)). get_or z k None) timed ∙ read header_due xs k
+    ∙ ap header_due none
 
 -- what is known of due moments is known of the bodies
-due_of_slot : (xs : List (Option Seat)) (dues : List (Option ℕ)) (k : ℕ) → dues ≡ map seat_due xs
-    → get_or dues k None ≡ slot_due (get_or (map seat_body xs) k None)
+due_of_slot : (xs : List (Option ObjectHeader)) (dues : List (Option ℕ)) (k : ℕ) → dues ≡ map header_due xs
+    → get_or dues k None ≡ slot_due (get_or (map header_body xs) k None)
 due_of_slot xs dues k timed = search (arith, due_read)
 
 by_due : (now : ℕ) (due : Option ℕ) → is_due now due ≡ is_by now due
 by_due now None = refl
 by_due now (Some due) = refl
 
-pub some_due : (now : ℕ) (xs : List (Option Seat)) (dues : List (Option ℕ)) (r : Option ℕ) → dues ≡ map seat_due xs
+pub some_due : (now : ℕ) (xs : List (Option ObjectHeader)) (dues : List (Option ℕ)) (r : Option ℕ)
+    → dues ≡ map header_due xs
     → IfSome r (λ slot. is_by now (get_or dues slot None) ≡ true)
-    → IfSome r (λ slot. slot_is_due now (get_or (map seat_body xs) slot None) ≡ true)
+    → IfSome r (λ slot. slot_is_due now (get_or (map header_body xs) slot None) ≡ true)
 some_due now xs dues None timed h = tt
 some_due now xs dues (Some slot) timed h = search (arith, due_read, by_due)
 
-pub none_due_slot : (now : ℕ) (xs : List (Option Seat)) (dues : List (Option ℕ)) (r : Option ℕ) → dues ≡ map seat_due xs
+pub none_due_slot : (now : ℕ) (xs : List (Option ObjectHeader)) (dues : List (Option ℕ)) (r : Option ℕ)
+    → dues ≡ map header_due xs
     → IfNone r ((k : ℕ) → is_by now (get_or dues k None) ≡ false)
-    → IfNone r ((k : ℕ) → slot_is_due now (get_or (map seat_body xs) k None) ≡ false)
+    → IfNone r ((k : ℕ) → slot_is_due now (get_or (map header_body xs) k None) ≡ false)
 none_due_slot now xs dues None timed h =
     λ k. by_due now _ ∙ ap (is_by now) (sym (due_of_slot xs dues k timed)) ∙ h k
 none_due_slot now xs dues (Some slot) timed h = tt

@@ -6,15 +6,15 @@ use Rattle.pin_words.specs.Keepers.{KeeperState}
 use Rattle.ob_body.specs.declared.body.Body.{Body}
 use Rattle.ob_body.specs.Body.{is_signaled}
 use Rattle.ob_waits.specs.Ends.{ended}
-use Rattle.ob_waits.specs.Objects.{Objects}
+use Rattle.ob_waits.specs.CountedBodies.{CountedBodies}
 use Rattle.ob_waits.specs.Rules.{IsReadyAt, IsSettled, WaitsHaveRoom}
 use Rattle.ob_waits.specs.Waits as waits
 use Rattle.ob_waits.specs.Waits.{Scene, WaitList, slot_blocks}
 use Rattle.ob_waits.proofs.Apart.{ready_at_change}
 use Rattle.ob_waits.proofs.Settled.{settled_less, settled_unnamed}
 use Rattle.ob_waits.proofs.Settling.{settled_same}
-use Rattle.ob_store.specs.Agreement.{IsTied}
-use Rattle.ob_store.specs.Kept.{AreFormed, IsKept, IsNamed, IsPopulated, IsSound, Yields}
+use Rattle.ob_store.specs.Agreement.{ObjectsInvariant}
+use Rattle.ob_store.specs.Kept.{AreFormed, StoreInvariant, IsNamed, IsPopulated, IsSound, Yields}
 use Rattle.ob_store.specs.Objects.{ObjectsState, KeptRest, kept_rest}
 use Rattle.ob_store.specs.Parts.{PartsState, state_of, whole_of}
 use Rattle.ob_store.specs.Signaled.{SignaledState}
@@ -30,7 +30,7 @@ use Rattle.ob_store.proofs.NamedLaws.{named_settled}
 use Rattle.ob_store.proofs.SettledLaws.{ends_before}
 
 -- a call begins
-pub way_begins : (p : PartsState) → IsSound p → IsTied p.objects → IsUnderWay p.objects.keeper p (state_of p)
+pub way_begins : (p : PartsState) → IsSound p → ObjectsInvariant p.objects → IsUnderWay p.objects.keeper p (state_of p)
 way_begins p sound tied = record {
   tied = tied;
   sound = sound;
@@ -40,7 +40,7 @@ way_begins p sound tied = record {
 }
 
 -- whichever slots are noted, since no wait is ready
-pub ending_begins : (p : PartsState) (a : SignaledState) → IsKept p → IsTied p.objects
+pub ending_begins : (p : PartsState) (a : SignaledState) → StoreInvariant p → ObjectsInvariant p.objects
     → IsEnding p.objects.keeper (record p { signaled = a }) (state_of p)
 ending_begins p a kept tied = record {
   under_way = search arith;
@@ -60,7 +60,7 @@ module _ (p : PartsState) (q : ObjectsState) (ws : WaitList)
 
   pub way_kept : IsPopulated p.processes.processes p.processes.threads
       → WaitsHaveRoom p.limits.max_recursion q.seen.bodies ws.waits → IsSettled q.seen.bodies ws.waits
-      → IsKept (record p { objects = q; waits = ws })
+      → StoreInvariant (record p { objects = q; waits = ws })
   way_kept populated room quiet = record {
     sound = sound_rested p p.processes q ws p.signaled rest sound limit sound.processes_kept
         (counted_settled p.objects.seen (length p.objects.objects) p.tables.tables p.waits.waits sound.counted
@@ -82,7 +82,7 @@ module _ (p : PartsState) (q : ObjectsState) (ws : WaitList)
         let counted : p.objects.seen ≡ objects_of (record s { bodies = p.objects.seen.bodies }) =
         objects_are p sound ∙ ap objects_of way.rest in
         let objects : objects_of s ≡ record p.objects.seen { bodies = s.bodies } =
-        ap (λ (x : Objects). record x { bodies = s.bodies }) (sym counted) in
+        ap (λ (x : CountedBodies). record x { bodies = s.bodies }) (sym counted) in
         ap ended objects ∙ ended_gone p.objects.seen s.bodies way.tied.bodied way.bodies
 
     named_of : IsNamed s.objects s.tables s.waits
@@ -94,7 +94,7 @@ module _ (p : PartsState) (q : ObjectsState) (ws : WaitList)
         ∙ (search arith)
         ∙ ap (λ (x : State). with_scene x (waits.settled (record { objects = p.objects.seen; waits = x.waits })))
         way.rest
-        ∙ ap (λ (x : Objects). with_scene s (waits.settled (record { objects = x; waits = s.waits }))) (sym ends_are)
+        ∙ ap (λ (x : CountedBodies). with_scene s (waits.settled (record { objects = x; waits = s.waits }))) (sym ends_are)
         ∙ sym (ends_before s named_of)
 
 -- where no wait is ready, the state is settled as it is
@@ -105,7 +105,7 @@ way_still first p s way quiet = way_state p p.objects p.waits way.sound
 
 -- a call changed a body
 module _ (p : PartsState) (q : ObjectsState) (id : Id) (old new : Body)
-    (kept : IsKept p) (w : Whole) (view : whole_of p ≡ w)
+    (kept : StoreInvariant p) (w : Whole) (view : whole_of p ≡ w)
     (bodied : get_or w.state.bodies id.slot None ≡ Some old)
     (yielding : Yields w.state.clock old new)
     (put : q.seen ≡ record p.objects.seen { bodies = set p.objects.seen.bodies id.slot (Some new) })
@@ -117,15 +117,16 @@ module _ (p : PartsState) (q : ObjectsState) (id : Id) (old new : Body)
   bodies = set p.objects.seen.bodies id.slot (Some new)
 
   put_bodies : q.seen.bodies ≡ set p.objects.seen.bodies id.slot (Some new)
-  put_bodies = ap (λ (x : Objects). x.bodies) put
+  put_bodies = ap (λ (x : CountedBodies). x.bodies) put
 
-  pub way_put : IsTied q → IsUnderWay p.objects.keeper (record p { objects = q }) (with_body (state_of p) id new)
+  pub way_put : ObjectsInvariant q
+      → IsUnderWay p.objects.keeper (record p { objects = q }) (with_body (state_of p) id new)
   way_put tied = record {
     tied = tied;
     sound = sound_rested p p.processes q p.waits p.signaled rest kept.sound refl kept.sound.processes_kept
         (record {
-          handles = ap (λ (x : Objects). x.handles) put ∙ kept.sound.counted.handles;
-          blocks = ap (λ (x : Objects). x.blocks) put ∙ kept.sound.counted.blocks;
+          handles = ap (λ (x : CountedBodies). x.handles) put ∙ kept.sound.counted.handles;
+          blocks = ap (λ (x : CountedBodies). x.blocks) put ∙ kept.sound.counted.blocks;
         })
         kept.sound.named
         (search (arith, formed_put))
@@ -148,7 +149,7 @@ module _ (p : PartsState) (q : ObjectsState) (id : Id) (old new : Body)
       (search (arith, there, less_put, settled_less))
 
   -- no pending wait is for it: so nothing settles
-  pub settled_unblocked : IsTied p.objects → get_or p.objects.seen.blocks id.slot 0 ≡ 0
+  pub settled_unblocked : ObjectsInvariant p.objects → get_or p.objects.seen.blocks id.slot 0 ≡ 0
       → IsSettled q.seen.bodies p.waits.waits
   settled_unblocked tied none = subst (λ (x : List (Option Body)). IsSettled x p.waits.waits) (sym put_bodies)
       (settled_unnamed p.objects.seen.bodies p.waits.waits id.slot (Some new) unnamed kept.settled)

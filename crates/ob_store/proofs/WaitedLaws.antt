@@ -13,7 +13,7 @@ use Rattle.ob_tables.proofs.Counting.{one_id}
 use Rattle.ob_waits.specs.declared.wait.Mode.{Mode}
 use Rattle.ob_waits.specs.declared.wait.Wait.{Wait}
 use Rattle.ob_waits.specs.Form.{HasWait}
-use Rattle.ob_waits.specs.Objects.{Objects, without_blocks}
+use Rattle.ob_waits.specs.CountedBodies.{CountedBodies, without_blocks}
 use Rattle.ob_waits.specs.Rules.{HasRoom, IsSettled, thread_of}
 use Rattle.ob_waits.specs.Rules as rules
 use Rattle.ob_waits.specs.Waits.{nowhere, WaitList, answered, bodies_after, code_at, code_now, ids_of, list_ready, new_wait, number_of, objects_now, slot_blocks, slot_places}
@@ -24,8 +24,8 @@ use Rattle.ob_waits.proofs.References.{left_all}
 use Rattle.ob_waits.proofs.Room.{room_added, room_answered, room_now, room_removed}
 use Rattle.ob_waits.proofs.Settled.{settled_added, settled_answered, settled_less, settled_now, settled_removed}
 use Rattle.ob_waits.proofs.Staying.{taken}
-use Rattle.ob_store.specs.Agreement.{IsTied}
-use Rattle.ob_store.specs.Kept.{AreFormed, AreOfLive, IsCounted, IsKept, IsLive, IsNamed}
+use Rattle.ob_store.specs.Agreement.{ObjectsInvariant}
+use Rattle.ob_store.specs.Kept.{AreFormed, AreOfLive, IsCounted, StoreInvariant, IsLive, IsNamed}
 use Rattle.ob_store.specs.Objects.{Object, ObjectsState, KeptRest, kept_rest, with_blocks_of}
 use Rattle.ob_store.specs.Parts.{PartsState, state_of, whole_of}
 use Rattle.ob_store.specs.State.{settled}
@@ -84,17 +84,17 @@ formed_taken clock objects bodies t mode ids f =
 
 -- a thread took at once what it waits for
 module _ (p : PartsState) (q : ObjectsState) (t : ℕ) (mode : Mode) (ids : List Id)
-    (kept : IsKept p)
+    (kept : StoreInvariant p)
     (rest : kept_rest q ≡ kept_rest p.objects)
     (alone : number_of t p.waits.waits ≡ None)
     (live : IsLive p.processes.threads t)
     (seen : q.seen ≡ record p.objects.seen { bodies = bodies_after mode t p.objects.seen.bodies ids }) where
-  kept_taken : IsKept (record p { objects = q })
+  kept_taken : StoreInvariant (record p { objects = q })
   kept_taken = record {
     sound = sound_rested p p.processes q p.waits p.signaled rest kept.sound refl kept.sound.processes_kept
         (record {
-          handles = ap (λ (x : Objects). x.handles) seen ∙ kept.sound.counted.handles;
-          blocks = ap (λ (x : Objects). x.blocks) seen ∙ kept.sound.counted.blocks;
+          handles = ap (λ (x : CountedBodies). x.handles) seen ∙ kept.sound.counted.handles;
+          blocks = ap (λ (x : CountedBodies). x.blocks) seen ∙ kept.sound.counted.blocks;
         })
         kept.sound.named
         (search (arith, formed_taken))
@@ -112,19 +112,19 @@ module _ (p : PartsState) (q : ObjectsState) (t : ℕ) (mode : Mode) (ids : List
       → q.seen ≡ record p.objects.seen { bodies = bodies_after mode t p.objects.seen.bodies ids }
   took code is = search arith
 
-  pub kept_now : IsKept p → number_of t p.waits.waits ≡ None → IsLive p.processes.threads t → (code : Option ℕ)
+  pub kept_now : StoreInvariant p → number_of t p.waits.waits ≡ None → IsLive p.processes.threads t → (code : Option ℕ)
       → code ≡ code_now mode t p.objects.seen.bodies ids → IfNone code (q ≡ p.objects)
-      → IsKept (record p { objects = q })
+      → StoreInvariant (record p { objects = q })
   kept_now kept alone live None is same = search arith
   kept_now kept alone live (Some code) is same = kept_taken p q t mode ids kept rest alone live (took code is)
 
-  pub state_now : IsKept (record p { objects = q }) → IsTied q → (code : Option ℕ)
+  pub state_now : StoreInvariant (record p { objects = q }) → ObjectsInvariant q → (code : Option ℕ)
       → code ≡ code_now mode t p.objects.seen.bodies ids
       → OnSome code (state_of (record p { objects = q }) ≡ settled (with_taken (state_of p) t mode ids))
   state_now after tied None is = tt
   state_now after tied (Some code) is = sym (search (arith, settled_kept))
       ∙ ap settled (state_rested p p.processes q p.waits p.signaled rest
-      ∙ ap (λ (o : Objects). record (state_of p) { bodies = o.bodies }) (took code is))
+      ∙ ap (λ (o : CountedBodies). record (state_of p) { bodies = o.bodies }) (took code is))
 
 -- what holds of each of some Ids holds of one that is among them
 among : (P : Id → Type 0) (ids : List Id) → ((i : ℕ) → i < length ids → P (get_or ids i nowhere)) → (id : Id)
@@ -137,7 +137,8 @@ among P (x ∷ ids) each id h = by (same_id id x) refl (among P ids (λ i lt. ea
     by false is rest = search arith
 
 -- the counts of blocks have room for one more wait
-pub few_blocks : (p : PartsState) → IsKept p → rules.IsKept p.waits.waits → length p.waits.waits ≤ 4294967296
+pub few_blocks : (p : PartsState) → StoreInvariant p → rules.WaitsInvariant p.waits.waits
+    → length p.waits.waits ≤ 4294967296
     → (k : ℕ) → get_or p.objects.seen.blocks k 0 + 64 ≤ 18446744073709551615
 few_blocks p kept each few k =
     search (arith, count_few, slot_blocks-few)
@@ -156,7 +157,7 @@ module _ (p : PartsState) (t : ℕ) (mode : Mode) (ids : List Id) (d : Option �
   }
   came = came_stays ids p.objects
 
-  pub whole_waiting : IsKept waiting → IsTied (with_blocks_of p.objects ids)
+  pub whole_waiting : StoreInvariant waiting → ObjectsInvariant (with_blocks_of p.objects ids)
       → whole_of waiting ≡ record (whole_of p) { state = settled (with_wait (state_of p) t mode ids d) }
   whole_waiting after tied =
       let same : state_of waiting ≡ with_wait (state_of p) t mode ids d =
@@ -164,7 +165,7 @@ module _ (p : PartsState) (t : ℕ) (mode : Mode) (ids : List Id) (d : Option �
       let is = sym (settled_kept waiting after tied) ∙ ap settled same in
       search (arith, came_stays)
 
-  module _ (kept : IsKept p)
+  module _ (kept : StoreInvariant p)
       (there : (i : ℕ) → i < length ids → 0 < handles_among (get_or ids i nowhere) p.tables.tables) where
     counted_after : IsCounted (record p.objects.seen { blocks = (with_blocks_of p.objects ids).seen.blocks })
         (length p.objects.objects) p.tables.tables (waits.with_wait p.waits t mode ids d).waits
@@ -187,8 +188,8 @@ module _ (p : PartsState) (t : ℕ) (mode : Mode) (ids : List Id) (d : Option �
     }
 
     pub kept_waiting : HasRoom p.limits.max_recursion t p.objects.seen.bodies ids → IsLive p.processes.threads t
-        → list_ready mode t p.objects.seen.bodies ids ≡ false → IsKept waiting
-    kept_waiting room live unready = subst (λ (z : ObjectsState). IsKept (record p { objects = z; waits = more }))
+        → list_ready mode t p.objects.seen.bodies ids ≡ false → StoreInvariant waiting
+    kept_waiting room live unready = subst (λ (z : ObjectsState). StoreInvariant (record p { objects = z; waits = more }))
         (sym came) (record {
           sound = search (arith, of_live_waiting, counted_after, named_after, room_added);
           populated = kept.populated;
@@ -201,7 +202,7 @@ answered_thread (Some w) code u h = h
 
 -- a pending wait was answered, and its blocks left, which q tells
 module _ (p : PartsState) (q : ObjectsState) (n code : ℕ) (ids : List Id)
-    (kept : IsKept p)
+    (kept : StoreInvariant p)
     (rest : kept_rest q ≡ kept_rest p.objects)
     (are : ids ≡ ids_of (get_or p.waits.waits n None))
     (seen : q.seen ≡ without_blocks p.objects.seen ids) where
@@ -215,27 +216,27 @@ module _ (p : PartsState) (q : ObjectsState) (n code : ℕ) (ids : List Id)
   limit = p.limits.max_recursion
 
   fewer : AreLeft p.objects.seen.bodies q.seen.bodies
-  fewer = subst (λ (x : Objects). AreLeft p.objects.seen.bodies x.bodies) (sym seen) (left_blocks ids p.objects.seen)
+  fewer = subst (λ (x : CountedBodies). AreLeft p.objects.seen.bodies x.bodies) (sym seen) (left_blocks ids p.objects.seen)
 
   counted_left : IsCounted q.seen (length p.objects.objects) p.tables.tables (waits.with_answer p.waits n code).waits
   counted_left = record {
-    handles = ap (λ (x : Objects). x.handles) seen ∙ (sizes_left ids p.objects.seen).handles
+    handles = ap (λ (x : CountedBodies). x.handles) seen ∙ (sizes_left ids p.objects.seen).handles
         ∙ kept.sound.counted.handles;
     blocks = recounted p.objects.seen.blocks q.seen.blocks (length p.objects.objects) (λ k. slot_blocks k p.waits.waits)
         (λ k. slot_blocks k after) kept.sound.counted.blocks
-        (ap (λ (x : Objects). length x.blocks) seen ∙ (sizes_left ids p.objects.seen).blocks)
+        (ap (λ (x : CountedBodies). length x.blocks) seen ∙ (sizes_left ids p.objects.seen).blocks)
         (λ k lt.
         let at = blocks_at p.objects.seen (length p.objects.objects) p.tables.tables p.waits.waits kept.sound.counted k
         lt in
         let x : get_or q.seen.blocks k 0 ≡ get_or (without_blocks p.objects.seen ids).blocks k 0 =
-        ap (λ (z : Objects). get_or z.blocks k 0) seen in
+        ap (λ (z : CountedBodies). get_or z.blocks k 0) seen in
         let y = left_all ids p.objects.seen k in
         let z = slot_answered k p.waits.waits n code in
         let e : slot_places k ids ≡ slot_places k (ids_of (get_or p.waits.waits n None)) = ap (slot_places k) are in
         omega arith);
   }
 
-  pub way_expired : IsTied q → IsUnderWay p.objects.keeper expired (with_answer (state_of p) n code)
+  pub way_expired : ObjectsInvariant q → IsUnderWay p.objects.keeper expired (with_answer (state_of p) n code)
   way_expired tied = record {
     tied = tied;
     sound = sound_rested p p.processes q (waits.with_answer p.waits n code) p.signaled rest kept.sound refl
@@ -258,8 +259,8 @@ module _ (p : PartsState) (q : ObjectsState) (n code : ℕ) (ids : List Id)
 abbrev pub over : PartsState → ℕ → PartsState
 over p n = record p { waits = waits.without_wait p.waits n }
 
-pub kept_over : (p : PartsState) (n code : ℕ) → IsKept p → code_at (get_or p.waits.waits n None) ≡ Some code
-    → IsKept (over p n)
+pub kept_over : (p : PartsState) (n code : ℕ) → StoreInvariant p → code_at (get_or p.waits.waits n None) ≡ Some code
+    → StoreInvariant (over p n)
 kept_over p n code kept is =
     let gone = waits.without_wait p.waits n in
     record {

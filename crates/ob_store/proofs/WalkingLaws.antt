@@ -1,11 +1,11 @@
 -- What a walk finds, by what it looks at.
 use Rattle.std.proofs.Common.{arith}
 use Rattle.std.proofs.Common.{◌≡◌, ℕ, List, Option, None, get_or, is_some}
-use Rattle.ob_store.specs.declared.seat.Seat.{Seat}
+use Rattle.ob_store.specs.declared.object_header.ObjectHeader.{ObjectHeader}
 use Rattle.ob_store.specs.Objects.{Tag, objects_in}
 use Rattle.ob_store.proofs.LabelLaws.{object_read}
 
--- a slot has an object where it has a seat
-pub object_there : (xs : List (Option Seat)) (ls : List Tag) (k : ℕ)
+-- a slot has an object where it has a header
+pub object_there : (xs : List (Option ObjectHeader)) (ls : List Tag) (k : ℕ)
     → is_some (get_or xs k None) ≡ is_some (get_or (objects_in xs ls) k None)
 object_there xs ls k = search (arith, object_read)

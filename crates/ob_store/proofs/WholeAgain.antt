@@ -3,7 +3,7 @@ use Rattle.std.proofs.Common.{◌≡◌, ◌≢◌, ℕ, suc, ◌<◌, ◌&&◌,
 use Rattle.std.specs.Prelude.{is_none}
 use Rattle.std.specs.BTreeMap.{insert_entry}
 use Rattle.std.specs.Ordering.{nat_cmp}
-use Rattle.ob_waits.specs.Objects as waits
+use Rattle.ob_waits.specs.CountedBodies as waits
 use Rattle.ob_waits.specs.Rules.{HasBodies}
 use Rattle.ob_store.specs.Agreement.{AreBorn}
 use Rattle.ob_store.specs.Objects.{Object}
@@ -51,5 +51,5 @@ pub births_again : (objects : List (Option Object)) (births : ℕ) → AreBorn o
 unfolding Fresh Apart
 births_again objects births born = search (arith, from-again)
 
-pub bodied_again : (o : waits.Objects) (n : ℕ) → HasBodies o → are_bodied o n ≡ true
+pub bodied_again : (o : waits.CountedBodies) (n : ℕ) → HasBodies o → are_bodied o n ≡ true
 bodied_again o n has = search (arith, below_from)

@@ -13,7 +13,7 @@ use Rattle.pin_words.specs.declared.pin_keeper.Reclaim.TheVariants as outcome
 use Rattle.pin_words.specs.Keepers.{Reclaims}
 use Rattle.ob_body.specs.declared.body.Body.{Body}
 use Rattle.ob_waits.specs.Rules.{HasBodies}
-use Rattle.ob_store.specs.Objects.{Object, ObjectsState, with_keeper, places_in, without_seat, with_retired}
+use Rattle.ob_store.specs.Objects.{Object, ObjectsState, with_keeper, places_in, without_header, with_retired}
 
 -- live with a body, closing without one
 abbrev pub phase_of : Option Body → Phase
@@ -62,7 +62,7 @@ pub record AreBorn (objects : List (Option Object)) (births : ℕ) : Type 0 wher
       → o.birth ≡ p.birth → j ≡ k
 
 -- what holds of objects and their keeper whenever no call is under way
-pub record IsTied (s : ObjectsState) : Type 0 where
+pub record ObjectsInvariant (s : ObjectsState) : Type 0 where
   pub agreed : IsAgreed s
   pub listed : IsListed s.keeper.published s.objects
   -- a further keeper may begin with the slots, so a word can have each object's descriptor
@@ -76,8 +76,8 @@ pub record IsTied (s : ObjectsState) : Type 0 where
 
 -- what a reclaim leaves: the object leaves a slot that is freed or retired, and stays in one that somebody holds
 abbrev pub Reclaimed : ObjectsState → ℕ → Reclaim → ObjectsState → Type 0
-Reclaimed s k outcome.Freed t = (t ≡ with_keeper (without_seat (places_in s) k) s.births t.keeper)
+Reclaimed s k outcome.Freed t = (t ≡ with_keeper (without_header (places_in s) k) s.births t.keeper)
     × Reclaims s.keeper k outcome.Freed t.keeper
-Reclaimed s k outcome.Retired t = (t ≡ with_keeper (with_retired (without_seat (places_in s) k) k) s.births t.keeper)
+Reclaimed s k outcome.Retired t = (t ≡ with_keeper (with_retired (without_header (places_in s) k) k) s.births t.keeper)
     × Reclaims s.keeper k outcome.Retired t.keeper
 Reclaimed s k (outcome.Held n) t = (t ≡ record s { keeper = t.keeper }) × Reclaims s.keeper k (outcome.Held n) t.keeper

@@ -1,7 +1,7 @@
 -- The slots whose objects ended: such an object is in its slot, without a body, until the slot is taken back.
 use Rattle.std.specs.Prelude.{ℕ, Bool, true, false, List, Option, Some, None, is_none, is_some, slice_index_or}
 use Rattle.ob_body.specs.declared.body.Body.{Body}
-use Rattle.ob_store.specs.declared.seat.Seat.{Seat}
+use Rattle.ob_store.specs.declared.object_header.ObjectHeader.{ObjectHeader}
 use Rattle.ob_store.specs.Objects.{Object}
 use Rattle.ob_store.specs.State.{State}
 
@@ -17,6 +17,6 @@ abbrev pub is_closing_at : State → ℕ → Bool
 is_closing_at s slot = is_closing_in s.objects s.bodies slot
 
 -- whether no ended object is in the slot
-abbrev pub is_open : Option Seat → Bool
+abbrev pub is_open : Option ObjectHeader → Bool
 is_open None = true
-is_open (Some seat) = is_some seat.body
+is_open (Some header) = is_some header.body

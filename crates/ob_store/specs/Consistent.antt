@@ -4,7 +4,7 @@ use Rattle.pin_core.specs.declared.id.Id.{Id}
 use Rattle.pin_core.specs.Worlds.{slot_of}
 use Rattle.ob_name.specs.Listing.{AreDistinct}
 use Rattle.ob_waits.specs.Deadlines.{AreAhead}
-use Rattle.ob_waits.specs.Rules.{IsKept}
+use Rattle.ob_waits.specs.Rules.{WaitsInvariant}
 use Rattle.ob_store.specs.Agreement.{Agrees, AreBorn, IsListed}
 use Rattle.ob_store.specs.State.{Whole, generation_of, handles_of, blocks_of, settled, shape_of}
 use Rattle.ob_store.specs.Directory.{directory_of}
@@ -42,7 +42,7 @@ pub record IsConsistent (w : Whole) : Type 0 where
   -- no name stands twice in the directory
   pub distinct : AreDistinct (directory_of w.state)
   -- each wait is one that may be waited for, a thread has one, and it is live; so is the owner of a mutex
-  pub waits : IsKept w.state.waits
+  pub waits : WaitsInvariant w.state.waits
   pub of_live : AreOfLive w.state.threads w.state.bodies w.state.waits
   -- each deadline of a pending wait is after now
   pub ahead : AreAhead w.state.clock w.state.waits

@@ -4,7 +4,7 @@ use Rattle.std.specs.List.{list_any}
 use Rattle.ob_body.specs.declared.body.Body.{Body}
 use Rattle.ob_body.specs.Body.{after_abandon}
 use Rattle.ob_tables.specs.Tables.{without_entries}
-use Rattle.ob_waits.specs.Objects.{Objects}
+use Rattle.ob_waits.specs.CountedBodies.{CountedBodies}
 use Rattle.ob_waits.specs.Waits.{unless_of}
 use Rattle.ob_store.specs.Processes.{is_of}
 use Rattle.ob_store.specs.State.{State}
@@ -15,7 +15,7 @@ slot_left_by thread None = None
 slot_left_by thread (Some b) = Some (after_abandon thread b)
 
 -- all of them are
-abbrev pub abandoned_by : ℕ → Objects → Objects
+abbrev pub abandoned_by : ℕ → CountedBodies → CountedBodies
 abandoned_by thread o = record o { bodies = map (slot_left_by thread) o.bodies }
 
 -- a thread ends: its wait leaves, pending or answered; its mutexes are abandoned; and its number is gone

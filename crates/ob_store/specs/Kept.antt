@@ -11,7 +11,7 @@ use Rattle.ob_name.specs.Listing.{Rows, AreDistinct}
 use Rattle.ob_tables.specs.declared.entry.Entry.{Entry}
 use Rattle.ob_tables.specs.Counts.{handles_among, slot_handles}
 use Rattle.ob_waits.specs.declared.wait.Wait.{Wait}
-use Rattle.ob_waits.specs.Objects.{Objects}
+use Rattle.ob_waits.specs.CountedBodies.{CountedBodies}
 use Rattle.ob_waits.specs.Form.{Form, IsAfter, form_of, slot_due, slot_owner}
 use Rattle.ob_waits.specs.Rules.{IsSettled, WaitsHaveRoom, thread_of}
 use Rattle.ob_waits.specs.Waits.{blocks_among, slot_blocks}
@@ -50,7 +50,7 @@ IsPopulated processes threads =
     (process : ℕ) → IsLive processes process → list_any (is_of process) threads ≡ true
 
 -- the stored counts are the numbers of entries and of places of pending waits
-pub record IsCounted (seen : Objects) (n : ℕ) (tables : List (List (Option Entry)))
+pub record IsCounted (seen : CountedBodies) (n : ℕ) (tables : List (List (Option Entry)))
     (waits : List (Option Wait)) : Type 0 where
   pub handles : seen.handles ≡ by_slot n (λ k. slot_handles k tables)
   pub blocks : seen.blocks ≡ by_slot n (λ k. slot_blocks k waits)
@@ -121,7 +121,7 @@ pub record IsSound (p : PartsState) : Type 0 where
   pub listing : IsListing p.rows p.tables.tables p.objects.objects p.objects.births
 
 -- and whenever none is. No public clause names it; what a caller sees of it is MatchesState
-pub record IsKept (p : PartsState) : Type 0 where
+pub record StoreInvariant (p : PartsState) : Type 0 where
   pub sound : IsSound p
   pub populated : IsPopulated p.processes.processes p.processes.threads
   pub settled : IsSettled p.objects.seen.bodies p.waits.waits

@@ -12,10 +12,10 @@ use Rattle.ob_name.specs.Names.{ObjectName}
 use Rattle.ob_body.specs.declared.body.Body.{Body}
 use Rattle.ob_arena.specs.Slots.{Slots}
 use Rattle.ob_tables.specs.declared.entry.Entry.{Entry}
-use Rattle.ob_waits.specs.Objects as waits
+use Rattle.ob_waits.specs.CountedBodies as waits
 use Rattle.ob_rights.specs.declared.kind.Kind.TheVariants.{Event}
 use Rattle.ob_store.specs.declared.label.Label.{Label}
-use Rattle.ob_store.specs.declared.seat.Seat.{Seat}
+use Rattle.ob_store.specs.declared.object_header.ObjectHeader.{ObjectHeader}
 
 -- what of an object never changes; its body stands apart
 pub record Object : Type 0 where
@@ -28,13 +28,13 @@ pub record Object : Type 0 where
 -- by slot: the object; its body, its handles and its blocks; and whether the slot is retired
 pub record Places : Type 0 where
   pub objects : List (Option Object)
-  pub seen : waits.Objects
+  pub seen : waits.CountedBodies
   pub retired : List Bool
 
 -- the same, how many objects were made, and what the keeper of the slots says
 pub record ObjectsState : Type 0 where
   pub objects : List (Option Object)
-  pub seen : waits.Objects
+  pub seen : waits.CountedBodies
   pub retired : List Bool
   pub births : ℕ
   pub keeper : KeeperState
@@ -51,7 +51,7 @@ with_keeper p births keeper = record {
 abbrev pub places_in : ObjectsState → Places
 places_in s = record { objects = s.objects; seen = s.seen; retired = s.retired }
 
--- what of an object stands beside its seat: its label, and its name where the label says that it has one
+-- what of an object stands beside its header: its label, and its name where the label says that it has one
 pub record Tag : Type 0 where
   pub birth : ℕ
   pub descr : Descr
@@ -73,61 +73,61 @@ no_label = record { birth = 0; descr = record { kind = Event; manual = false; ma
 abbrev pub no_tag : Tag
 no_tag = tag_of no_label None
 
--- an object is its seat and its tag
-abbrev pub object_of : Seat → Tag → Object
-object_of seat tag = record { id = seat.id; birth = tag.birth; descr = tag.descr; grant = seat.grant; name = tag.name }
+-- an object is its header and its tag
+abbrev pub object_of : ObjectHeader → Tag → Object
+object_of header tag = record { id = header.id; birth = tag.birth; descr = tag.descr; grant = header.grant; name = tag.name }
 
 -- the name of an object, if there is one
 abbrev pub name_in : Option Object → Option ObjectName
 name_in None = None
 name_in (Some object) = object.name
 
-abbrev pub object_at : Option Seat → Tag → Option Object
+abbrev pub object_at : Option ObjectHeader → Tag → Option Object
 object_at None tag = None
-object_at (Some seat) tag = Some (object_of seat tag)
+object_at (Some header) tag = Some (object_of header tag)
 
-abbrev pub objects_in : List (Option Seat) → List Tag → List (Option Object)
+abbrev pub objects_in : List (Option ObjectHeader) → List Tag → List (Option Object)
 objects_in [] tags = []
-objects_in (seat ∷ seats) [] = object_at seat no_tag ∷ objects_in seats []
-objects_in (seat ∷ seats) (tag ∷ tags) = object_at seat tag ∷ objects_in seats tags
+objects_in (header ∷ headers) [] = object_at header no_tag ∷ objects_in headers []
+objects_in (header ∷ headers) (tag ∷ tags) = object_at header tag ∷ objects_in headers tags
 
-abbrev pub seat_body : Option Seat → Option Body
-seat_body None = None
-seat_body (Some seat) = seat.body
+abbrev pub header_body : Option ObjectHeader → Option Body
+header_body None = None
+header_body (Some header) = header.body
 
-abbrev pub seat_handles : Option Seat → ℕ
-seat_handles None = 0
-seat_handles (Some seat) = seat.handles
+abbrev pub header_handles : Option ObjectHeader → ℕ
+header_handles None = 0
+header_handles (Some header) = header.handles
 
-abbrev pub seat_blocks : Option Seat → ℕ
-seat_blocks None = 0
-seat_blocks (Some seat) = seat.blocks
+abbrev pub header_blocks : Option ObjectHeader → ℕ
+header_blocks None = 0
+header_blocks (Some header) = header.blocks
 
 -- an object with one handle, or one block, fewer: without references it has no body
-abbrev pub seat_handle_left : Seat → Seat
-seat_handle_left seat = record seat {
-  handles = seat.handles - 1;
-  body = if (seat.handles - 1) + seat.blocks == 0 then None else seat.body;
+abbrev pub header_handle_left : ObjectHeader → ObjectHeader
+header_handle_left header = record header {
+  handles = header.handles - 1;
+  body = if (header.handles - 1) + header.blocks == 0 then None else header.body;
 }
 
-abbrev pub seat_block_left : Seat → Seat
-seat_block_left seat = record seat {
-  blocks = seat.blocks - 1;
-  body = if seat.handles + (seat.blocks - 1) == 0 then None else seat.body;
+abbrev pub header_block_left : ObjectHeader → ObjectHeader
+header_block_left header = record header {
+  blocks = header.blocks - 1;
+  body = if header.handles + (header.blocks - 1) == 0 then None else header.body;
 }
 
-abbrev pub seen_in : List (Option Seat) → waits.Objects
-seen_in seats = record {
-  bodies = map seat_body seats;
-  handles = map seat_handles seats;
-  blocks = map seat_blocks seats;
+abbrev pub seen_in : List (Option ObjectHeader) → waits.CountedBodies
+seen_in headers = record {
+  bodies = map header_body headers;
+  handles = map header_handles headers;
+  blocks = map header_blocks headers;
 }
 
 -- one body changed
-abbrev pub changed_at : waits.Objects → ℕ → (Option Body → Option Body) → waits.Objects
+abbrev pub changed_at : waits.CountedBodies → ℕ → (Option Body → Option Body) → waits.CountedBodies
 changed_at o slot change = record o { bodies = slice_set o.bodies slot (change (slice_index_or o.bodies slot None)) }
 
-abbrev pub places_of : Slots Seat → List Tag → Places
+abbrev pub places_of : Slots ObjectHeader → List Tag → Places
 places_of s tags = record { objects = objects_in s.bodies tags; seen = seen_in s.bodies; retired = s.retired }
 
 -- the slots with their objects, as an arena has them
@@ -143,8 +143,8 @@ vacant_places n = record {
 }
 
 -- an object in a slot, with so many handles and no block
-abbrev pub with_seated : Places → ℕ → Object → Option Body → ℕ → Places
-with_seated p slot object body handles = record p {
+abbrev pub with_header_of : Places → ℕ → Object → Option Body → ℕ → Places
+with_header_of p slot object body handles = record p {
   objects = slice_set p.objects slot (Some object);
   seen = record {
     bodies = slice_set p.seen.bodies slot body;
@@ -154,8 +154,8 @@ with_seated p slot object body handles = record p {
 }
 
 -- a new object in a slot, with one handle
-abbrev pub with_seat : Places → ℕ → Object → Body → Places
-with_seat p slot object body = with_seated p slot object (Some body) 1
+abbrev pub with_header : Places → ℕ → Object → Body → Places
+with_header p slot object body = with_header_of p slot object (Some body) 1
 
 abbrev pub with_handle : Places → ℕ → Places
 with_handle p slot = record p {
@@ -191,8 +191,8 @@ abbrev pub is_last_block : Places → ℕ → Bool
 is_last_block p slot = slice_index_or p.seen.handles slot 0 + (slice_index_or p.seen.blocks slot 0 - 1) == 0
 
 -- a slot without its object
-abbrev pub without_seat : Places → ℕ → Places
-without_seat p slot = record p {
+abbrev pub without_header : Places → ℕ → Places
+without_header p slot = record p {
   objects = slice_set p.objects slot None;
   seen = record {
     bodies = slice_set p.seen.bodies slot None;
@@ -213,26 +213,26 @@ pub record Rest : Type 0 where
 abbrev pub rest_of : Places → Rest
 rest_of p = record { objects = p.objects; handles = p.seen.handles; retired = p.retired }
 
--- what of a new object its creator says
-pub record Head : Type 0 where
+-- what a create says of a new object (NT's OBJECT_ATTRIBUTES)
+pub record ObjectAttributes : Type 0 where
   pub descr : Descr
   pub grant : Rights
   pub name : Option ObjectName
 
 -- the object that comes to a slot: the slot gives its Id, and the objects made before it are its number
-abbrev pub object_in : ObjectsState → ℕ → Head → Object
-object_in s slot head = record {
+abbrev pub object_in : ObjectsState → ℕ → ObjectAttributes → Object
+object_in s slot attributes = record {
   id = id_of s.keeper.slots slot;
   birth = s.births;
-  descr = head.descr;
-  grant = head.grant;
-  name = head.name;
+  descr = attributes.descr;
+  grant = attributes.grant;
+  name = attributes.name;
 }
 
 -- a new object: its descriptor is stored, and then it is published
-abbrev pub with_object : ObjectsState → ℕ → Head → Body → ObjectsState
-with_object s slot head body = with_keeper (with_seat (places_in s) slot (object_in s slot head) body) (s.births + 1)
-    (published (stored s.keeper slot head.descr) slot)
+abbrev pub with_object : ObjectsState → ℕ → ObjectAttributes → Body → ObjectsState
+with_object s slot attributes body = with_keeper (with_header (places_in s) slot (object_in s slot attributes) body) (s.births + 1)
+    (published (stored s.keeper slot attributes.descr) slot)
 
 -- one handle more
 abbrev pub with_handle_of : ObjectsState → ℕ → ObjectsState

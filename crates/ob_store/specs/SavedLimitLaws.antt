@@ -8,12 +8,12 @@ use Rattle.ob_codec.specs.Codecs.{both_codec, some_codec, u32_codec}
 use Rattle.ob_codec.specs.Laws.{IsCodec}
 use Rattle.ob_codec.specs.Spelling.{Any, BothFit, both}
 use Rattle.ob_store.specs.declared.limits.Limits.{Limits}
-use Rattle.ob_store.specs.SavedLimits.{InRange, Numbers, are_in_range, in_range, is_up_to, limits_at, limits_of, limits_text, limits_where, limits_with, numbers_at, numbers_of}
+use Rattle.ob_store.specs.SavedLimits.{InRange, LimitNumbers, are_in_range, in_range, is_up_to, limits_at, limits_of, limits_text, limits_where, limits_with, numbers_at, numbers_of}
 
 to_up : (most n : ℕ) → (1 ≤ n) × (n ≤ most) → is_up_to most n ≡ true
 to_up most n r = and_from (leb 1 n) (leb n most) (le-leb 1 n r.0) (le-leb n most r.1)
 
-range_in : (n : Numbers) → InRange n → are_in_range n ≡ true
+range_in : (n : LimitNumbers) → InRange n → are_in_range n ≡ true
 range_in n r =
     and_from (is_up_to 65536 n.0 && is_up_to 65536 n.1.0) _
     (and_from (is_up_to 65536 n.0) _ (to_up 65536 n.0 r.slots_in_range) (to_up 65536 n.1.0 r.processes_in_range))
@@ -27,7 +27,7 @@ range_in n r =
     (to_up 2147483647 n.1.1.1.1.1.1.1 r.max_recursion_in_range))))
 
 -- a range holds in one way
-same_range : (n : Numbers) (r s : InRange n) → r ≡ s
+same_range : (n : LimitNumbers) (r s : InRange n) → r ≡ s
 same_range n r s = λ i. record {
   slots_in_range = (le_prop r.slots_in_range.0 s.slots_in_range.0 i, le_prop r.slots_in_range.1 s.slots_in_range.1 i);
   processes_in_range = (
@@ -66,18 +66,18 @@ limits_back l = by (are_in_range (numbers_of l)) refl (range_in (numbers_of l) l
         (same_range (numbers_of l) (in_range (numbers_of l) e) l.in_range)
     by false e is = absurd (cc is)
 
-pub limits_are : (l : Limits) (n : Numbers) → numbers_of l ≡ n → limits_of n ≡ Some l
-limits_are l n e = subst (λ (z : Numbers). limits_of z ≡ Some l) e (limits_back l)
+pub limits_are : (l : Limits) (n : LimitNumbers) → numbers_of l ≡ n → limits_of n ≡ Some l
+limits_are l n e = subst (λ (z : LimitNumbers). limits_of z ≡ Some l) e (limits_back l)
 
 -- and numbers that aren't within their ranges are those of none
-pub limits_none : (n : Numbers) → (InRange n → false ≡ true) → limits_of n ≡ None
+pub limits_none : (n : LimitNumbers) → (InRange n → false ≡ true) → limits_of n ≡ None
 limits_none n out = by (are_in_range n) refl
   where
     by : (b : Bool) (e : are_in_range n ≡ b) → limits_where n b e ≡ None
     by true e = absurd (cc (out (in_range n e)))
     by false e = refl
 
-abbrev NumbersFit : Numbers → Type 0
+abbrev NumbersFit : LimitNumbers → Type 0
 NumbersFit = BothFit (λ n. n < 2 ^ 32) (BothFit (λ n. n < 2 ^ 32) (BothFit (λ n. n < 2 ^ 32) (BothFit (λ n. n < 2 ^ 32)
     (BothFit (λ n. n < 2 ^ 32) (BothFit (λ n. n < 2 ^ 32) (BothFit (λ n. n < 2 ^ 32) (λ n. n < 2 ^ 32)))))))
 
@@ -117,7 +117,7 @@ there l any = (
   ),
 )
 
-back : (n : Numbers) (l : Limits) → NumbersFit n → limits_of n ≡ Some l → (numbers_of l ≡ n) × Any l
+back : (n : LimitNumbers) (l : Limits) → NumbersFit n → limits_of n ≡ Some l → (numbers_of l ≡ n) × Any l
 back n l fits e = (by (are_in_range n) refl e, tt)
   where
     by : (b : Bool) (e : are_in_range n ≡ b) → limits_where n b e ≡ Some l → numbers_of l ≡ n

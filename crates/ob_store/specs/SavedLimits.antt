@@ -7,10 +7,10 @@ use Rattle.ob_codec.specs.Spelling.{both}
 use Rattle.ob_store.specs.declared.limits.Limits.{Limits}
 use Rattle.ob_store.specs.Limits.{AreInRange}
 
-abbrev pub Numbers : Type 0
-Numbers = ℕ × (ℕ × (ℕ × (ℕ × (ℕ × (ℕ × (ℕ × ℕ))))))
+abbrev pub LimitNumbers : Type 0
+LimitNumbers = ℕ × (ℕ × (ℕ × (ℕ × (ℕ × (ℕ × (ℕ × ℕ))))))
 
-abbrev pub numbers_of : Limits → Numbers
+abbrev pub numbers_of : Limits → LimitNumbers
 numbers_of l =
     (l.slots, (l.processes, (l.threads, (l.handles, (l.waits, (l.max_pins, (l.max_gen, l.max_recursion)))))))
 
@@ -25,20 +25,20 @@ abbrev pub is_up_to : ℕ → ℕ → Bool
 is_up_to most n = leb 1 n && leb n most
 
 -- whether each number is within the range of its limit
-abbrev pub are_in_range : Numbers → Bool
+abbrev pub are_in_range : LimitNumbers → Bool
 are_in_range n =
     (is_up_to 65536 n.0 && is_up_to 65536 n.1.0)
     && ((is_up_to 65536 n.1.1.0 && is_up_to 16384 n.1.1.1.0)
     && ((is_up_to 4294967295 n.1.1.1.1.0 && is_up_to 1073741823 n.1.1.1.1.1.0)
     && (is_up_to 4294967295 n.1.1.1.1.1.1.0 && is_up_to 2147483647 n.1.1.1.1.1.1.1)))
 
-abbrev pub InRange : Numbers → Type 0
+abbrev pub InRange : LimitNumbers → Type 0
 InRange n = AreInRange n.0 n.1.0 n.1.1.0 n.1.1.1.0 n.1.1.1.1.0 n.1.1.1.1.1.0 n.1.1.1.1.1.1.0 n.1.1.1.1.1.1.1
 
 up_to : (most n : ℕ) → is_up_to most n ≡ true → (1 ≤ n) × (n ≤ most)
 up_to most n e = let b = and_parts (leb 1 n) (leb n most) e in (leb-true 1 n b.0, leb-true n most b.1)
 
-pub in_range : (n : Numbers) → are_in_range n ≡ true → InRange n
+pub in_range : (n : LimitNumbers) → are_in_range n ≡ true → InRange n
 in_range n e =
     let first = and_parts (is_up_to 65536 n.0 && is_up_to 65536 n.1.0) _ e in
     let second = and_parts (is_up_to 65536 n.1.1.0 && is_up_to 16384 n.1.1.1.0) _ first.1 in
@@ -59,7 +59,7 @@ in_range n e =
     }
 
 -- the limits of some numbers, where each is within its range
-abbrev pub limits_with : (n : Numbers) → InRange n → Limits
+abbrev pub limits_with : (n : LimitNumbers) → InRange n → Limits
 limits_with n r = record {
   slots = n.0;
   processes = n.1.0;
@@ -72,14 +72,14 @@ limits_with n r = record {
   in_range = r;
 }
 
-abbrev pub limits_where : (n : Numbers) (b : Bool) → are_in_range n ≡ b → Option Limits
+abbrev pub limits_where : (n : LimitNumbers) (b : Bool) → are_in_range n ≡ b → Option Limits
 limits_where n true e = Some (limits_with n (in_range n e))
 limits_where n false e = None
 
-abbrev pub limits_of : Numbers → Option Limits
+abbrev pub limits_of : LimitNumbers → Option Limits
 limits_of n = limits_where n (are_in_range n) refl
 
-abbrev pub numbers_at : List ℕ → Read Numbers
+abbrev pub numbers_at : List ℕ → Read LimitNumbers
 numbers_at =
     both_at (number_at w32) (both_at (number_at w32) (both_at (number_at w32) (both_at (number_at w32)
     (both_at (number_at w32) (both_at (number_at w32) (both_at (number_at w32) (number_at w32)))))))

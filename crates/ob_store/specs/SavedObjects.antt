@@ -13,7 +13,7 @@ use Rattle.pin_words.specs.Keepers.{KeeperState, locked}
 use Rattle.ob_body.specs.declared.body.Body.{Body}
 use Rattle.ob_name.specs.Listing.{Rows}
 use Rattle.ob_tables.specs.declared.entry.Entry.{Entry}
-use Rattle.ob_waits.specs.Objects as waits
+use Rattle.ob_waits.specs.CountedBodies as waits
 use Rattle.ob_waits.specs.Waits.{WaitList}
 use Rattle.ob_store.specs.declared.limits.Limits.{Limits}
 use Rattle.ob_store.specs.declared.saved_slot.SavedObject.{SavedObject}
@@ -28,14 +28,14 @@ use Rattle.ob_store.specs.SavedWaits.{all_stand, with_blocks}
 use Rattle.ob_store.specs.State.{shape_of}
 
 -- whether a slot has a body exactly where something refers to its object
-abbrev pub is_bodied : waits.Objects → ℕ → Bool
+abbrev pub is_bodied : waits.CountedBodies → ℕ → Bool
 is_bodied o k =
     if nat_lt 0 (slice_index_or o.handles k 0 + slice_index_or o.blocks k 0) then is_some
     (slice_index_or o.bodies k None)
     else is_none (slice_index_or o.bodies k None)
 
 -- the same of the first slots
-abbrev pub are_bodied : waits.Objects → ℕ → Bool
+abbrev pub are_bodied : waits.CountedBodies → ℕ → Bool
 are_bodied o n = list_all (is_bodied o) (range_with_len 0 n)
 
 -- what a keeper under a lock says that begins with these slots

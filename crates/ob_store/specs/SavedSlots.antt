@@ -19,7 +19,7 @@ use Rattle.ob_body.specs.Spelling.{BodyFits, body_at, body_text}
 use Rattle.ob_waits.specs.Form.{form_of}
 use Rattle.ob_store.specs.declared.saved_slot.SavedObject.{SavedObject}
 use Rattle.ob_store.specs.declared.saved_slot.SavedSlot.{SavedSlot}
-use Rattle.ob_store.specs.Objects.{Object, Places, with_retired, with_seated}
+use Rattle.ob_store.specs.Objects.{Object, Places, with_retired, with_header_of}
 use Rattle.ob_store.specs.Agreement.{phase_of, vacant_phase}
 
 -- an object: its number, its descriptor, its grant, its body, its name
@@ -164,4 +164,4 @@ slots_at n max_gen clock = as_at slots_from (items_at (slot_at max_gen clock) n)
 abbrev pub with_saved : Places → ℕ → ℕ → Bool → Option SavedObject → Places
 with_saved p slot generation retired None = if retired then with_retired p slot else p
 with_saved p slot generation retired (Some o) =
-    with_seated p slot (stored_object (record { slot = slot; generation = generation }) o) o.body 0
+    with_header_of p slot (stored_object (record { slot = slot; generation = generation }) o) o.body 0

@@ -4,7 +4,7 @@ use Rattle.std.specs.List.{list_all}
 use Rattle.pin_core.specs.declared.id.Id.{Id}
 use Rattle.ob_body.specs.declared.body.Body.{Body}
 use Rattle.ob_waits.specs.Form.{slot_owner}
-use Rattle.ob_waits.specs.Objects.{body_of, slot_room}
+use Rattle.ob_waits.specs.CountedBodies.{body_of, slot_room}
 use Rattle.ob_waits.specs.Waits.{blocks_among, list_ready, number_of}
 use Rattle.ob_waits.specs.declared.wait.State.{State}
 use Rattle.ob_waits.specs.declared.wait.State.TheVariants.{Pending, Answered}

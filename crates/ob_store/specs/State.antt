@@ -13,12 +13,12 @@ use Rattle.ob_tables.specs.declared.entry.Entry.{Entry}
 use Rattle.ob_tables.specs.Tables as tables
 use Rattle.ob_tables.specs.Tables.{with_entry_of, with_flags_of, without_entry_of}
 use Rattle.ob_tables.specs.Counts.{entries_in, handles_among, slot_handles}
-use Rattle.ob_waits.specs.Objects as waits
+use Rattle.ob_waits.specs.CountedBodies as waits
 use Rattle.ob_waits.specs.declared.wait.Wait.{Wait}
 use Rattle.ob_waits.specs.Waits.{Scene, blocks_among, slot_blocks}
 use Rattle.ob_waits.specs.Ends.{settled_plainly, with_ends}
 use Rattle.ob_store.specs.declared.limits.Limits.{Limits}
-use Rattle.ob_store.specs.Objects.{Object, Head}
+use Rattle.ob_store.specs.Objects.{Object, ObjectAttributes}
 
 -- Numbers of processes, threads and waits are places of lists. Number 0 is never given, so place 0 has nothing, and the
 -- next number is the length. A number that is gone has None.
@@ -60,7 +60,7 @@ abbrev pub by_slot : ℕ → (ℕ → ℕ) → List ℕ
 by_slot n count = map count (range_with_len 0 n)
 
 -- the objects as waits see them, with all that refers to each counted
-abbrev pub objects_of : State → waits.Objects
+abbrev pub objects_of : State → waits.CountedBodies
 objects_of s = record {
   bodies = s.bodies;
   handles = by_slot (length s.objects) (λ k. slot_handles k s.tables);
@@ -120,14 +120,14 @@ abbrev pub id_at : State → ℕ → Id
 id_at s slot = record { slot = slot; generation = slice_index_or s.generations slot 1 }
 
 -- a new object in a slot: its number is how many were made before it
-abbrev pub with_object : State → ℕ → Head → Body → State
-with_object s slot head body = record s {
+abbrev pub with_object : State → ℕ → ObjectAttributes → Body → State
+with_object s slot attributes body = record s {
   objects = slice_set s.objects slot (Some (record {
     id = id_at s slot;
     birth = s.births;
-    descr = head.descr;
-    grant = head.grant;
-    name = head.name;
+    descr = attributes.descr;
+    grant = attributes.grant;
+    name = attributes.name;
   }));
   bodies = slice_set s.bodies slot (Some body);
   births = s.births + 1;

@@ -5,7 +5,7 @@ use Rattle.pin_core.specs.declared.id.Id.{Id}
 use Rattle.ob_body.specs.declared.body.Body.{Body}
 use Rattle.ob_name.specs.Names.{ObjectName}
 use Rattle.ob_name.specs.Listing.{Rows, AreDistinct}
-use Rattle.ob_waits.specs.Objects as waits
+use Rattle.ob_waits.specs.CountedBodies as waits
 use Rattle.ob_store.specs.Objects.{Object}
 use Rattle.ob_store.specs.Agreement.{IsListed}
 use Rattle.ob_store.specs.State.{State, Whole, handles_of, blocks_of, hold_of, references_of}
@@ -13,7 +13,7 @@ use Rattle.ob_store.specs.State.{State, Whole, handles_of, blocks_of, hold_of, r
 -- by slot, the object, its body and its counters; and the rows of the directory
 pub record StoredState : Type 0 where
   pub objects : List (Option Object)
-  pub seen : waits.Objects
+  pub seen : waits.CountedBodies
   pub rows : Rows
 
 -- an object without a body has a hold

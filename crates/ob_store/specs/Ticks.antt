@@ -5,7 +5,7 @@ use Rattle.ob_body.specs.Body.{after_fire}
 use Rattle.ob_body.specs.Timer.{is_due}
 use Rattle.ob_waits.specs.Deadlines as waits
 use Rattle.ob_waits.specs.Form.{slot_due}
-use Rattle.ob_waits.specs.Objects.{Objects}
+use Rattle.ob_waits.specs.CountedBodies.{CountedBodies}
 use Rattle.ob_store.specs.State.{State, settled}
 
 -- the greatest moment that it can be
@@ -20,7 +20,7 @@ abbrev pub slot_fired : ℕ → Option Body → Option Body
 slot_fired now None = None
 slot_fired now (Some b) = Some (after_fire now b)
 
-abbrev pub timers_fired : ℕ → Objects → Objects
+abbrev pub timers_fired : ℕ → CountedBodies → CountedBodies
 timers_fired now o = record o { bodies = map (slot_fired now) o.bodies }
 
 -- it is the moment now, and the timers that are due have fired

@@ -3,13 +3,13 @@ use Rattle.std.specs.Prelude.{◌≡◌, ℕ, Bool, List, Option, Some, None, le
 use Rattle.ob_name.specs.Names.{ObjectName}
 use Rattle.ob_waits.specs.Form.{slot_due}
 use Rattle.ob_store.specs.declared.label.Label.{Label}
-use Rattle.ob_store.specs.declared.seat.Seat.{Seat}
-use Rattle.ob_store.specs.Objects.{seat_body}
+use Rattle.ob_store.specs.declared.object_header.ObjectHeader.{ObjectHeader}
+use Rattle.ob_store.specs.Objects.{header_body}
 use Rattle.ob_store.specs.Closing.{is_open}
 use Rattle.ob_store.specs.Owners.{IsOwned}
 
-abbrev pub seat_due : Option Seat → Option ℕ
-seat_due x = slot_due (seat_body x)
+abbrev pub header_due : Option ObjectHeader → Option ℕ
+header_due x = slot_due (header_body x)
 
 -- a body that was due then went
 abbrev pub due_left : List (Option ℕ) → ℕ → Option ℕ → List (Option ℕ)
@@ -18,10 +18,11 @@ due_left dues slot (Some due) = slice_set dues slot None
 
 -- the mutexes of each thread are counted, each slot's due moment is known and whether its object ended, and there is a
 -- label and a place for a name for each slot
-pub record AreNoted (seats : List (Option Seat)) (counts : List ℕ) (dues : List (Option ℕ)) (opens : List Bool)
+pub record AreNoted (headers : List (Option ObjectHeader)) (counts : List ℕ) (dues : List (Option ℕ))
+    (opens : List Bool)
     (labels : List Label) (names : List (Option ObjectName)) : Type 0 where
-  pub owned : IsOwned seats counts
-  pub timed : dues ≡ map seat_due seats
-  pub opened : opens ≡ map is_open seats
-  pub labelled : length labels ≡ length seats
-  pub named : length names ≡ length seats
+  pub owned : IsOwned headers counts
+  pub timed : dues ≡ map header_due headers
+  pub opened : opens ≡ map is_open headers
+  pub labelled : length labels ≡ length headers
+  pub named : length names ≡ length headers

@@ -5,7 +5,7 @@ use Rattle.ob_body.specs.declared.body.Body.{Body}
 use Rattle.ob_tables.specs.declared.entry.Entry.{Entry}
 use Rattle.pin_words.specs.Keepers.{KeeperState}
 use Rattle.ob_store.specs.declared.parts.Parts.{Parts}
-use Rattle.ob_store.specs.Agreement.{IsTied}
+use Rattle.ob_store.specs.Agreement.{ObjectsInvariant}
 use Rattle.ob_store.specs.Kept.{IsSound}
 use Rattle.ob_store.specs.Moves.{OnlyCloses}
 use Rattle.ob_store.specs.Parts.{PartsState, parts_of, state_of}
@@ -20,7 +20,7 @@ pub record AreLeft (bodies after : List (Option Body)) : Type 0 where
 
 -- the parts of a store on their way to a state that has not settled yet: an object may have ended before
 pub record IsUnderWay (first : KeeperState) (p : PartsState) (s : State) : Type 0 where
-  pub tied : IsTied p.objects
+  pub tied : ObjectsInvariant p.objects
   pub sound : IsSound p
   pub rest : state_of p ≡ record s { bodies = p.objects.seen.bodies }
   pub bodies : AreLeft s.bodies p.objects.seen.bodies

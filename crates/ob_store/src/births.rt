@@ -4,7 +4,7 @@ ghost use Rattle.ob_store.specs.Agreement.{made_in};
 ghost use Rattle.ob_store.specs.SavedBirths.{births_from, with_birth, with_birth_of};
 ghost use Rattle.std.specs.Prelude.{None, slice_index_or};
 
-use crate::seats::Seats;
+use crate::object_headers::ObjectHeaders;
 use ob_codec::{ReadFault, TextFault};
 use pin_core::{Phase, Slot};
 use std::alloc::Global;
@@ -55,13 +55,13 @@ fn note_birth(
 fn note_slot(
     order: &mut BTreeMap<u64, u32>,
     births: u64,
-    seats: &Seats,
+    headers: &ObjectHeaders,
     slot: u32,
 ) -> Result<(), ReadFault>
     ensures { GivesAll (λ _. order.new.entries) result (with_birth_of births order.old.entries slot
-        (slice_index_or seats.now.objects slot None)) }
+        (slice_index_or headers.now.objects slot None)) }
 {
-    match seats.look(slot) {
+    match headers.look(slot) {
         Some(found) => note_birth(order, births, found.label.birth, slot),
         None => Ok(()),
     }
@@ -71,13 +71,13 @@ fn note_slot(
 pub(crate) fn order_births(
     alloc: Global,
     births: u64,
-    seats: &Seats,
+    headers: &ObjectHeaders,
 ) -> Result<BTreeMap<u64, u32>, ReadFault>
-    ensures { GivesAll (λ order. order.entries) result (births_from births [] 0 seats.now.objects) }
+    ensures { GivesAll (λ order. order.entries) result (births_from births [] 0 headers.now.objects) }
 {
     let mut order = BTreeMap::new(alloc);
-    for slot in 0..seats.len() {
-        note_slot(&mut order, births, seats, slot)?;
+    for slot in 0..headers.len() {
+        note_slot(&mut order, births, headers, slot)?;
     }
     Ok(order)
 }

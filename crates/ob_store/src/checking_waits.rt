@@ -6,9 +6,9 @@ ghost use Rattle.ob_store.specs.SavedWaits.{all_stand, may_wait_for, owner_stand
 ghost use Rattle.ob_store.specs.SavedWaits.{wait_of, wait_stands, waits_stand};
 
 use crate::limits::Limits;
+use crate::object_headers::owner_of;
 use crate::objects::Objects;
 use crate::processes::Processes;
-use crate::seats::owner_of;
 use ob_body::Body;
 use ob_waits::{Mode, Waits, is_satisfied};
 use pin_core::{Id, same_id};
@@ -21,10 +21,10 @@ fn may_wait_for(objects: &Objects<LockedPins>, limit: u32, thread: u32, id: Id) 
     let Some(found) = objects.look(id.slot) else {
         return false;
     };
-    if !same_id(found.seat.id, id) {
+    if !same_id(found.header.id, id) {
         return false;
     }
-    match found.seat.body {
+    match found.header.body {
         Some(body) => body.has_room(thread, limit),
         None => true,
     }
@@ -113,7 +113,7 @@ fn owners_stand(objects: &Objects<LockedPins>, processes: &Processes) -> bool
 {
     objects.kept();
     for slot in 0..objects.slots() {
-        if !owner_stands(processes, objects.seats.body(slot)) {
+        if !owner_stands(processes, objects.headers.body(slot)) {
             return false;
         }
     }

@@ -3,7 +3,7 @@ ghost use Rattle.least.specs.Dues.{IsLeast};
 ghost use Rattle.ob_waits.specs.Form.{slot_due};
 ghost use Rattle.ob_store.specs.Dues.{dues_of, reached};
 
-use crate::seats::Seats;
+use crate::object_headers::ObjectHeaders;
 use crate::store::Store;
 use least::sooner;
 use ob_waits::LAST_MOMENT;
@@ -19,7 +19,7 @@ fn reached(moment: Option<u64>) -> Option<u64>
     }
 }
 
-impl Seats {
+impl ObjectHeaders {
     fn least_due(&self) -> Option<u64>
         ensures { IsLeast (map slot_due self.now.seen.bodies) result }
     {
@@ -35,7 +35,7 @@ impl<K: PinKeeper> Store<K> {
         ensures least { IsLeast (dues_of self.old.state) result }
         ensures same { self.new ≡ self.old }
     {
-        let timers = self.parts.objects.seats.least_due();
+        let timers = self.parts.objects.headers.least_due();
         let waits = self.parts.waits.next_due();
         reached(sooner(timers, waits))
     }

@@ -1,7 +1,7 @@
 ghost use Rattle.std.specs.Prelude.{false, ◌≡◌, ◌+◌, ◌<◌, ℕ, Option, IsSome, None, Some, if◌then◌else◌, length};
 ghost use Rattle.std.specs.Prelude.{slice_index_or, slice_set};
-ghost use Rattle.ob_waits.specs.Objects.{without_blocks};
-ghost use Rattle.ob_waits.specs.Rules.{IsKept as AreWaits};
+ghost use Rattle.ob_waits.specs.CountedBodies.{without_blocks};
+ghost use Rattle.ob_waits.specs.Rules.{WaitsInvariant as AreWaits};
 ghost use Rattle.ob_store.specs.Signaled.{KeepsEnough};
 ghost use Rattle.ob_waits.specs.Waits.{thread_ids};
 ghost use Rattle.ob_store.specs.Ends.{abandoned_by, after_thread_end, exited, process_ended, thread_ended};

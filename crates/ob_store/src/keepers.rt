@@ -16,12 +16,12 @@ impl Objects<LockedPins> {
         ensures { result ≡ record self { keeper = K.kept keeper } }
     {
         let Objects {
-            seats,
+            headers,
             births,
             keeper: _,
         } = self;
         Objects {
-            seats,
+            headers,
             births,
             keeper,
         }

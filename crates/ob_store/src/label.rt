@@ -4,7 +4,7 @@ ghost use Rattle.ob_store.specs.Objects.{no_label};
 use ob_rights::Kind;
 use pin_core::Descr;
 
-/// What an object was created as. It never changes, and few calls read it, so it stands apart from the seat.
+/// What an object was created as. It never changes, and few calls read it, so it stands apart from the header.
 #[derive(Clone, Copy)]
 pub struct Label {
     /// Its number, in the order of births, from 0.

@@ -5,7 +5,7 @@ ghost use Rattle.ob_store.specs.Processes.{IsFromOne};
 ghost use Rattle.ob_store.specs.SavedProcesses.{are_of_live};
 ghost use Rattle.ob_store.specs.ThreadLists.{AreThreadLists, state_of};
 
-use crate::numbers::number_at;
+use crate::number_table::number_at;
 use crate::thread_lists::ThreadLists;
 use std::alloc::{AllocError, Global};
 

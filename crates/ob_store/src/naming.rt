@@ -1,7 +1,7 @@
 ghost use Rattle.ob_codec.specs.Reading.{GivesAll};
 ghost use Rattle.ob_store.specs.SavedNames.{names_in, slot_row, with_name, with_row};
 
-use crate::seats::Seats;
+use crate::object_headers::ObjectHeaders;
 use ob_codec::{ReadFault, TextFault};
 use ob_name::{Directory, Name};
 use pin_core::Id;
@@ -26,17 +26,17 @@ fn enter_name(names: &mut Directory, name: &Name, id: Id) -> Result<(), ReadFaul
 }
 
 /// Enters the name of the object in a slot, if there is one that has handles and a name.
-fn enter_slot(names: &mut Directory, seats: &Seats, slot: u32) -> Result<(), ReadFault>
-    ensures { GivesAll (λ _. names.new.rows) result (with_row names.old.rows (slot_row seats.now slot)) }
+fn enter_slot(names: &mut Directory, headers: &ObjectHeaders, slot: u32) -> Result<(), ReadFault>
+    ensures { GivesAll (λ _. names.new.rows) result (with_row names.old.rows (slot_row headers.now slot)) }
 {
-    let Some(found) = seats.look(slot) else {
+    let Some(found) = headers.look(slot) else {
         return Ok(());
     };
-    if found.seat.handles == 0 || !found.label.is_named {
+    if found.header.handles == 0 || !found.label.is_named {
         return Ok(());
     }
     match found.name {
-        Some(name) => enter_name(names, name, found.seat.id),
+        Some(name) => enter_name(names, name, found.header.id),
         None => Ok(()),
     }
 }
@@ -46,13 +46,13 @@ fn enter_slot(names: &mut Directory, seats: &Seats, slot: u32) -> Result<(), Rea
 pub(crate) fn enter_names(
     alloc: Global,
     order: &BTreeMap<u64, u32>,
-    seats: &Seats,
+    headers: &ObjectHeaders,
 ) -> Result<Directory, ReadFault>
-    ensures { GivesAll (λ names. names.rows) result (names_in order.now.entries seats.now) }
+    ensures { GivesAll (λ names. names.rows) result (names_in order.now.entries headers.now) }
 {
     let mut names = Directory::new(alloc);
     for slot in order.values() {
-        enter_slot(&mut names, seats, *slot)?;
+        enter_slot(&mut names, headers, *slot)?;
     }
     Ok(names)
 }

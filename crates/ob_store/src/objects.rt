@@ -10,12 +10,12 @@ ghost use Rattle.ob_store.specs.Owners.{owns_at};
 ghost use Rattle.ob_store.specs.Objects.{changed_at, kept_rest, name_in, object_of, tag_of, places_in, with_keeper};
 ghost use Rattle.ob_store.specs.Objects.{vacant_places, vacancy, with_object, with_handle_of, with_handle_at};
 ghost use Rattle.ob_store.specs.Objects.{with_handles_of, without_handle_of, with_block_of, with_blocks_of};
-ghost use Rattle.ob_store.specs.Agreement.{IsTied, Reclaimed};
+ghost use Rattle.ob_store.specs.Agreement.{ObjectsInvariant, Reclaimed};
 ghost use Rattle.ob_store.specs.Ends.{slot_left_by};
 ghost use Rattle.ob_store.specs.Ticks.{slot_fired};
 
 use crate::found::Found;
-use crate::seats::Seats;
+use crate::object_headers::ObjectHeaders;
 use ob_arena::SLOTS_MAX;
 use ob_body::Body;
 use ob_name::Name;
@@ -32,20 +32,20 @@ use std::marker::Model;
 /// An object's body goes with the last reference to it, and its slot closes then.
 #[derive(Drop)]
 pub struct Objects<K: PinKeeper> {
-    pub(crate) seats: Seats,
+    pub(crate) headers: ObjectHeaders,
     pub(crate) births: u64,
     pub(crate) keeper: K,
 }
 
 impl<K: PinKeeper> Model for Objects<K> {
     ghost use Rattle.ob_store.specs.Objects.{ObjectsState, with_keeper};
-    ghost use Rattle.ob_store.specs.Agreement.{IsTied};
+    ghost use Rattle.ob_store.specs.Agreement.{ObjectsInvariant};
 
     ghost Value = { ObjectsState };
 
-    ghost view = { λ o. with_keeper o.seats o.births (K.kept o.keeper) };
+    ghost view = { λ o. with_keeper o.headers o.births (K.kept o.keeper) };
 
-    ghost invariant = { λ o. IsTied (with_keeper o.seats o.births (K.kept o.keeper)) };
+    ghost invariant = { λ o. ObjectsInvariant (with_keeper o.headers o.births (K.kept o.keeper)) };
 }
 
 impl<K: PinKeeper> Objects<K> {
@@ -61,9 +61,9 @@ impl<K: PinKeeper> Objects<K> {
         ensures ok { IfOk result (λ o. o ≡ with_keeper (vacant_places slots) 0 (K.kept keeper)) }
         ensures err { IfErr result (λ k. k ≡ keeper) }
     {
-        match Seats::new(alloc, slots, threads) {
-            Ok(seats) => Ok(Objects {
-                seats,
+        match ObjectHeaders::new(alloc, slots, threads) {
+            Ok(headers) => Ok(Objects {
+                headers,
                 births: 0,
                 keeper,
             }),
@@ -75,15 +75,15 @@ impl<K: PinKeeper> Objects<K> {
     pub fn slots(&self) -> u32
         ensures { result ≡ self.now.keeper.shape.slots }
     {
-        self.seats.len()
+        self.headers.len()
     }
 
     /// What holds of the objects and their keeper whenever no call is under way. It does nothing when it runs: callers
     /// call it where their proofs need the fact.
     pub fn kept(&self)
-        ensures { IsTied self.now }
+        ensures { ObjectsInvariant self.now }
     {
-        let _ = &self.seats;
+        let _ = &self.headers;
     }
 
     /// The least vacant slot.
@@ -91,20 +91,20 @@ impl<K: PinKeeper> Objects<K> {
         ensures value { result ≡ least_vacant (vacancy (places_in self.now)) }
         ensures vacant { IfSome result (λ slot. is_vacant_at (vacancy (places_in self.now)) slot ≡ true) }
     {
-        self.seats.least_vacant()
+        self.headers.least_vacant()
     }
 
     /// The object in a slot.
     pub fn look(&self, slot: u32) -> Option<Found<'_>>
         ensures object { slice_index_or self.now.objects slot None
-            ≡ option_map (λ found. object_of found.seat.now (tag_of found.label.now found.name.now)) result }
-        ensures body { IfSome result (λ found. slice_index_or self.now.seen.bodies slot None ≡ found.seat.now.body) }
+            ≡ option_map (λ found. object_of found.header.now (tag_of found.label.now found.name.now)) result }
+        ensures body { IfSome result (λ found. slice_index_or self.now.seen.bodies slot None ≡ found.header.now.body) }
         ensures handles { IfSome result (λ found. slice_index_or self.now.seen.handles slot 0
-            ≡ found.seat.now.handles) }
-        ensures blocks { IfSome result (λ found. slice_index_or self.now.seen.blocks slot 0 ≡ found.seat.now.blocks) }
-        ensures id { IfSome result (λ found. found.seat.now.id.slot ≡ slot) }
+            ≡ found.header.now.handles) }
+        ensures blocks { IfSome result (λ found. slice_index_or self.now.seen.blocks slot 0 ≡ found.header.now.blocks) }
+        ensures id { IfSome result (λ found. found.header.now.id.slot ≡ slot) }
     {
-        self.seats.look(slot)
+        self.headers.look(slot)
     }
 
     /// The name of the object in a slot, if it has one.
@@ -112,7 +112,7 @@ impl<K: PinKeeper> Objects<K> {
         requires { IsSome (slice_index_or self.now.objects slot None) }
         ensures { option_map (λ name. name.now) result ≡ name_in (slice_index_or self.now.objects slot None) }
     {
-        self.seats.name(slot)
+        self.headers.name(slot)
     }
 
     /// How many places of pending waits name the object of a slot, which has a body.
@@ -120,7 +120,7 @@ impl<K: PinKeeper> Objects<K> {
         requires { IsSome (slice_index_or self.now.seen.bodies slot None) }
         ensures { result ≡ slice_index_or self.now.seen.blocks slot 0 }
     {
-        self.seats.blocks(slot)
+        self.headers.blocks(slot)
     }
 
     /// The Id of a slot at its present generation.
@@ -150,7 +150,7 @@ impl<K: PinKeeper> Objects<K> {
             (record { descr = descr; grant = grant; name = name }) body }
     {
         let id = self.id_at(slot);
-        self.seats
+        self.headers
             .add(id, self.births, descr, grant, name, Some(body), 1);
         self.births += 1;
         self.keeper.store_descr(slot, descr);
@@ -164,7 +164,7 @@ impl<K: PinKeeper> Objects<K> {
         requires room { slice_index_or self.old.seen.handles slot 0 < 4294967295 }
         ensures { self.new ≡ with_handle_of self.old slot }
     {
-        self.seats.handle_came(slot);
+        self.headers.handle_came(slot);
     }
 
     /// Counts the handle in the place of a table, if an entry is there, which is of an object that has a body.
@@ -202,8 +202,8 @@ impl<K: PinKeeper> Objects<K> {
         ensures value { self.new ≡ without_handle_of self.old slot }
         ensures last { result ≡ slice_index_or self.old.seen.handles slot 0 == 1 }
     {
-        if self.seats.handles(slot) > 1 {
-            self.seats.drop_handle(slot);
+        if self.headers.handles(slot) > 1 {
+            self.headers.drop_handle(slot);
             return false;
         }
         self.last_handle_left(slot);
@@ -216,7 +216,7 @@ impl<K: PinKeeper> Objects<K> {
         requires { slice_index_or self.old.seen.handles slot 0 ≡ 1 }
         ensures { self.new ≡ without_handle_of self.old slot }
     {
-        if self.seats.last_handle_left(slot) {
+        if self.headers.last_handle_left(slot) {
             self.keeper.close_slot(slot);
         }
     }
@@ -227,7 +227,7 @@ impl<K: PinKeeper> Objects<K> {
         requires room { slice_index_or self.old.seen.blocks slot 0 < 18446744073709551615 }
         ensures { self.new ≡ with_block_of self.old slot }
     {
-        self.seats.block_came(slot);
+        self.headers.block_came(slot);
     }
 
     /// Counts each place of a wait that became pending.
@@ -249,14 +249,14 @@ impl<K: PinKeeper> Objects<K> {
         ensures seen { self.new.seen ≡ changed_at self.old.seen slot (slot_left_by thread) }
         ensures rest { kept_rest self.new ≡ kept_rest self.old }
     {
-        let Some(mut body) = self.seats.body(slot) else {
+        let Some(mut body) = self.headers.body(slot) else {
             return false;
         };
         if body.owner() != Some(thread) {
             return false;
         }
         body.abandon(thread);
-        self.seats.put(slot, body);
+        self.headers.put(slot, body);
         true
     }
 
@@ -264,7 +264,7 @@ impl<K: PinKeeper> Objects<K> {
     pub fn owns_none(&self, thread: u32) -> bool
         ensures { IsTrue result → (k : ℕ) → owns_at thread self.now.seen.bodies k ≡ false }
     {
-        self.seats.owns_none(thread)
+        self.headers.owns_none(thread)
     }
 
     /// Fires the timer in a slot, if it is due.
@@ -273,14 +273,14 @@ impl<K: PinKeeper> Objects<K> {
         ensures seen { self.new.seen ≡ changed_at self.old.seen slot (slot_fired now) }
         ensures rest { kept_rest self.new ≡ kept_rest self.old }
     {
-        let Some(mut body) = self.seats.body(slot) else {
+        let Some(mut body) = self.headers.body(slot) else {
             return;
         };
         if body.kind() != Kind::Timer {
             return;
         }
         body.fire(now);
-        self.seats.put(slot, body);
+        self.headers.put(slot, body);
     }
 
     /// Takes the slot of an ended object back, unless somebody holds it: the object leaves the slot, and a slot at its
@@ -293,12 +293,12 @@ impl<K: PinKeeper> Objects<K> {
     {
         match self.keeper.reclaim(slot) {
             Reclaim::Freed => {
-                self.seats.remove(slot);
+                self.headers.remove(slot);
                 return Reclaim::Freed;
             }
             Reclaim::Retired => {
-                self.seats.remove(slot);
-                self.seats.retire(slot);
+                self.headers.remove(slot);
+                self.headers.retire(slot);
                 return Reclaim::Retired;
             }
             Reclaim::Held { pins } => return Reclaim::Held { pins },
@@ -307,13 +307,13 @@ impl<K: PinKeeper> Objects<K> {
 
     /// How many mutexes a thread owns; 0 for a thread that isn't counted.
     pub fn owned_count(&self, thread: u32) -> u32 {
-        self.seats.owned_count(thread)
+        self.headers.owned_count(thread)
     }
 
     /// The slot that is listed first for a thread, or a number past all slots where none is listed. It is a hint: a
     /// mutex that the thread owns is likely to be there.
     pub fn first_owned(&self, thread: u32) -> u32 {
-        self.seats.first_owned(thread)
+        self.headers.first_owned(thread)
     }
 }
 
@@ -327,21 +327,21 @@ impl<K: PinKeeper> Bodies for Objects<K> {
     ghost rest = { kept_rest };
 
     fn body(&self, id: Id) -> Option<Body> {
-        self.seats.body(id.slot)
+        self.headers.body(id.slot)
     }
 
     #[inline(always)]
     fn put(&mut self, id: Id, body: Body) {
-        self.seats.put(id.slot, body);
+        self.headers.put(id.slot, body);
     }
 
     #[tactic(auto, using(crate::proofs::BodyLaws::signaled_some))]
     fn acquire(&mut self, id: Id, thread: u32) -> bool {
-        self.seats.acquire(id, thread)
+        self.headers.acquire(id, thread)
     }
 
     fn block_left(&mut self, id: Id) {
-        if self.seats.block_left(id) {
+        if self.headers.block_left(id) {
             self.keeper.close_slot(id.slot);
         }
     }

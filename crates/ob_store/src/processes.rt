@@ -12,7 +12,7 @@ ghost use Rattle.ob_store.specs.SavedProcesses.{ListsFit, are_populated, is_popu
 
 use crate::finding::next_place;
 use crate::linking_threads::{are_of_live, link_threads};
-use crate::numbers::{leave, number_at, read_numbers};
+use crate::number_table::{leave, number_at, read_numbers};
 use crate::thread_lists::{ThreadLink, ThreadList, ThreadLists};
 use ob_codec::{Cursor, ReadFault, TextFault, write_list};
 use ob_tables::Tables;

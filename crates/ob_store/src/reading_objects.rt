@@ -13,10 +13,10 @@ use crate::checking_waits::all_stand;
 use crate::counting::{count_blocks, count_tables};
 use crate::limits::Limits;
 use crate::naming::enter_names;
+use crate::object_headers::ObjectHeaders;
 use crate::objects::Objects;
 use crate::processes::Processes;
 use crate::saved_slot::{SavedObject, SavedSlot};
-use crate::seats::Seats;
 use ob_arena::SLOTS_MAX;
 use ob_codec::{Cursor, ReadFault, TextFault};
 use ob_name::Directory;
@@ -27,9 +27,9 @@ use pin_words::LockedPins;
 use std::alloc::Global;
 
 /// Puts into a vacant slot what a savestate says of it.
-fn restore(seats: &mut Seats, slot: u32, saved: SavedSlot)
-    requires { is_vacant_at (vacancy seats.old) slot ≡ true }
-    ensures { seats.new ≡ with_saved seats.old slot saved.generation saved.retired saved.object }
+fn restore(headers: &mut ObjectHeaders, slot: u32, saved: SavedSlot)
+    requires { is_vacant_at (vacancy headers.old) slot ≡ true }
+    ensures { headers.new ≡ with_saved headers.old slot saved.generation saved.retired saved.object }
 {
     let SavedSlot {
         generation,
@@ -45,11 +45,11 @@ fn restore(seats: &mut Seats, slot: u32, saved: SavedSlot)
                 body,
                 name,
             } = object;
-            seats.add(Id { slot, generation }, birth, descr, grant, name, body, 0);
+            headers.add(Id { slot, generation }, birth, descr, grant, name, body, 0);
         }
         None => {
             if retired {
-                seats.retire(slot);
+                headers.retire(slot);
             }
         }
     }
@@ -64,18 +64,18 @@ pub(crate) fn read_slots(
     max_gen: u32,
     clock: u64,
     from: &mut Cursor<'_>,
-) -> Result<(Seats, Vec<Slot>), ReadFault>
+) -> Result<(ObjectHeaders, Vec<Slot>), ReadFault>
     requires { slots ≤ SLOTS_MAX }
     ensures { Gives (λ read. (read.0, read.1.items)) result (slots_at slots max_gen clock from.old) from.new }
 {
-    let mut seats = Seats::new(alloc, slots, threads)?;
+    let mut headers = ObjectHeaders::new(alloc, slots, threads)?;
     let mut begun = Vec::new(alloc);
     for slot in 0..slots {
         let saved = SavedSlot::read(alloc, max_gen, clock, from)?;
         begun.push(saved.keeper_slot())?;
-        restore(&mut seats, slot, saved);
+        restore(&mut headers, slot, saved);
     }
-    Ok((seats, begun))
+    Ok((headers, begun))
 }
 
 /// Reads the objects, counts what refers to them, and enters the names of those that have handles.
@@ -89,7 +89,7 @@ fn read_whole(
     ensures { Gives (λ read. (read.0, read.1.rows)) result
         (whole_at limits tables.now.tables waits.now from.old) from.new }
 {
-    let (mut seats, slots) = read_slots(
+    let (mut headers, slots) = read_slots(
         alloc,
         limits.slots,
         limits.threads + 1,
@@ -97,19 +97,19 @@ fn read_whole(
         waits.clock(),
         from,
     )?;
-    if !count_tables(&mut seats, tables) {
+    if !count_tables(&mut headers, tables) {
         return Err(ReadFault::Text(TextFault::Value));
     }
-    count_blocks(&mut seats, waits);
+    count_blocks(&mut headers, waits);
     let births = count_births(slots.as_slice());
-    let order = order_births(alloc, births, &seats)?;
-    if !seats.are_bodied() {
+    let order = order_births(alloc, births, &headers)?;
+    if !headers.are_bodied() {
         return Err(ReadFault::Text(TextFault::Value));
     }
-    let names = enter_names(alloc, &order, &seats)?;
+    let names = enter_names(alloc, &order, &headers)?;
     let keeper = LockedPins::with_slots(limits.shape(), slots);
     let objects = Objects {
-        seats,
+        headers,
         births,
         keeper,
     };

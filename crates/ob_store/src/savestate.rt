@@ -1,6 +1,6 @@
 ghost use Rattle.std.specs.Prelude.{◌≡◌, ◌<◌, ◌≤◌, ◌+◌, ◌++◌, ℕ, List, IfOk, Ok, OnOk, length, true};
 ghost use Rattle.ob_codec.specs.Reading.{Gives};
-ghost use Rattle.ob_store.specs.Kept.{IsKept, ProcessesKept};
+ghost use Rattle.ob_store.specs.Kept.{StoreInvariant, ProcessesKept};
 ghost use Rattle.ob_waits.specs.Spelling.{are_within};
 ghost use Rattle.ob_store.specs.Parts.{parts_of, whole_of};
 ghost use Rattle.ob_store.specs.SavedProcesses.{are_populated};
@@ -121,7 +121,7 @@ fn read_parts(
 ) -> Result<Parts<LockedPins>, ReadFault>
     requires { clock ≤ LAST_MOMENT }
     ensures read { Gives (λ parts. whole_of (parts_of parts)) result (parts_at limits clock from.old) from.new }
-    ensures kept { IfOk result (λ parts. IsKept (parts_of parts)) }
+    ensures kept { IfOk result (λ parts. StoreInvariant (parts_of parts)) }
 {
     from.has(limits.slots as usize * SLOT_BYTES)?;
     let signaled = SignaledSlots::new(alloc, limits.slots)?;

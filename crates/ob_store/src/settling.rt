@@ -2,7 +2,7 @@ ghost use Rattle.std.specs.Prelude.{◌≡◌};
 ghost use Rattle.ob_waits.specs.Rules.{IsReadyAt};
 ghost use Rattle.ob_waits.specs.Waits.{settled as waits_settled};
 ghost use Rattle.pin_words.specs.Keepers.{KeeperState};
-ghost use Rattle.ob_store.specs.Kept.{IsKept, IsPopulated, IsSound};
+ghost use Rattle.ob_store.specs.Kept.{StoreInvariant, IsPopulated, IsSound};
 ghost use Rattle.ob_store.specs.Moves.{OnlyCloses};
 ghost use Rattle.ob_store.specs.Parts.{parts_of, scene_in, state_of};
 ghost use Rattle.ob_store.specs.Signaled.{IsEnough};
@@ -21,7 +21,7 @@ impl<K: PinKeeper> Parts<K> {
         requires populated { IsPopulated self.old.processes.processes self.old.processes.threads }
         requires enough { IsEnough self.old.signaled self.old.objects.seen.bodies self.old.waits.waits }
         ensures value { scene_in self.new ≡ waits_settled (scene_in self.old) }
-        ensures kept { IsKept (parts_of self.new) }
+        ensures kept { StoreInvariant (parts_of self.new) }
         ensures state { (first : KeeperState) (s : State) → IsUnderWay first (parts_of self.old) s
             → state_of (parts_of self.new) ≡ settled s }
         ensures keeper { OnlyCloses self.old.objects.keeper self.new.objects.keeper }
@@ -39,7 +39,7 @@ impl<K: PinKeeper> Parts<K> {
         requires sound { IsSound (parts_of self.old) }
         requires populated { IsPopulated self.old.processes.processes self.old.processes.threads }
         requires ready { IsReadyAt id.slot self.old.objects.seen.bodies self.old.waits.waits }
-        ensures kept { IsKept (parts_of self.new) }
+        ensures kept { StoreInvariant (parts_of self.new) }
         ensures state { (first : KeeperState) (s : State) → IsUnderWay first (parts_of self.old) s
             → state_of (parts_of self.new) ≡ settled s }
         ensures keeper { OnlyCloses self.old.objects.keeper self.new.objects.keeper }

@@ -39,13 +39,13 @@ pub struct Store<K: PinKeeper> {
 impl<K: PinKeeper> Model for Store<K> {
     ghost use Rattle.ob_store.specs.State.{Whole};
     ghost use Rattle.ob_store.specs.Parts.{parts_of, whole_of};
-    ghost use Rattle.ob_store.specs.Kept.{IsKept};
+    ghost use Rattle.ob_store.specs.Kept.{StoreInvariant};
 
     ghost Value = { Whole };
 
     ghost view = { λ s. whole_of (parts_of s.parts) };
 
-    ghost invariant = { λ s. IsKept (parts_of s.parts) };
+    ghost invariant = { λ s. StoreInvariant (parts_of s.parts) };
 }
 
 impl<K: PinKeeper> Store<K> {
@@ -179,12 +179,13 @@ impl<K: PinKeeper> Store<K> {
     /// The object in a slot, with all that refers to it counted.
     pub fn object(&self, slot: u32) -> Option<Found<'_>>
         ensures object { slice_index_or self.now.state.objects slot None
-            ≡ option_map (λ found. object_of found.seat.now (tag_of found.label.now found.name.now)) result }
-        ensures body { IfSome result (λ found. slice_index_or self.now.state.bodies slot None ≡ found.seat.now.body) }
-        ensures handles { IfSome result (λ found. found.seat.now.handles
-            ≡ handles_of self.now.state found.seat.now.id) }
-        ensures blocks { IfSome result (λ found. found.seat.now.blocks ≡ blocks_of self.now.state found.seat.now.id) }
-        ensures id { IfSome result (λ found. found.seat.now.id.slot ≡ slot) }
+            ≡ option_map (λ found. object_of found.header.now (tag_of found.label.now found.name.now)) result }
+        ensures body { IfSome result (λ found. slice_index_or self.now.state.bodies slot None ≡ found.header.now.body) }
+        ensures handles { IfSome result (λ found. found.header.now.handles
+            ≡ handles_of self.now.state found.header.now.id) }
+        ensures blocks { IfSome result (λ found. found.header.now.blocks
+            ≡ blocks_of self.now.state found.header.now.id) }
+        ensures id { IfSome result (λ found. found.header.now.id.slot ≡ slot) }
         ensures within { IfSome result (λ found. slot < self.now.state.limits.slots) }
     {
         self.parts.objects.kept();

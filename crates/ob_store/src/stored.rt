@@ -33,11 +33,11 @@ impl<'a, K: PinKeeper> Stored<'a, K> {
     /// The object in a slot, with its body and its counters.
     pub fn slot(&self, slot: u32) -> Option<Found<'a>>
         ensures object { slice_index_or self.now.objects slot None
-            ≡ option_map (λ found. object_of found.seat.now (tag_of found.label.now found.name.now)) result }
-        ensures body { IfSome result (λ found. slice_index_or self.now.seen.bodies slot None ≡ found.seat.now.body) }
+            ≡ option_map (λ found. object_of found.header.now (tag_of found.label.now found.name.now)) result }
+        ensures body { IfSome result (λ found. slice_index_or self.now.seen.bodies slot None ≡ found.header.now.body) }
         ensures handles { IfSome result (λ found. slice_index_or self.now.seen.handles slot 0
-            ≡ found.seat.now.handles) }
-        ensures blocks { IfSome result (λ found. slice_index_or self.now.seen.blocks slot 0 ≡ found.seat.now.blocks) }
+            ≡ found.header.now.handles) }
+        ensures blocks { IfSome result (λ found. slice_index_or self.now.seen.blocks slot 0 ≡ found.header.now.blocks) }
     {
         self.objects.look(slot)
     }

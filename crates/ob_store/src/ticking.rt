@@ -19,7 +19,7 @@ fn fire_all<K: PinKeeper>(objects: &mut Objects<K>, signaled: &mut SignaledSlots
     ensures enough { KeepsEnough signaled.old objects.old.seen.bodies signaled.new objects.new.seen.bodies }
     ensures undue { (k : ℕ) → slot_is_due now (slice_index_or objects.new.seen.bodies k None) ≡ false }
 {
-    while let Some(slot) = objects.seats.next_due(now) {
+    while let Some(slot) = objects.headers.next_due(now) {
         signaled.add(slot);
         objects.fire_at(slot, now);
     }

@@ -32,8 +32,8 @@ impl<K: PinKeeper> Store<K> {
         ensures least { IsLeastFrom from (is_closing_at self.now.state) (option_map (λ id. id.slot) result) }
         ensures object { IfSome result (λ id. IsThere self.now.state.objects id) }
     {
-        let slot = self.parts.objects.seats.next_closing(from)?;
-        Some(self.parts.objects.look(slot)?.seat.id)
+        let slot = self.parts.objects.headers.next_closing(from)?;
+        Some(self.parts.objects.look(slot)?.header.id)
     }
 
     /// The object in the least slot that has one, from `from` on.
@@ -41,8 +41,8 @@ impl<K: PinKeeper> Store<K> {
         ensures least { IsLeastFrom from (is_object_at self.now.state) (option_map (λ id. id.slot) result) }
         ensures object { IfSome result (λ id. IsThere self.now.state.objects id) }
     {
-        let slot = self.parts.objects.seats.next_object(from)?;
-        Some(self.parts.objects.look(slot)?.seat.id)
+        let slot = self.parts.objects.headers.next_object(from)?;
+        Some(self.parts.objects.look(slot)?.header.id)
     }
 
     /// The least live process whose number is above `after`.

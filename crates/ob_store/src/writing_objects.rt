@@ -11,8 +11,8 @@ ghost use Rattle.ob_store.specs.SavedSlots.{AnySlotFits, ObjectFits, SlotFits, o
 
 use crate::found::Found;
 use crate::label::Label;
+use crate::object_header::ObjectHeader;
 use crate::objects::Objects;
-use crate::seat::Seat;
 use ob_codec::Spelled;
 use ob_name::Name;
 use pin_core::{Phase, write_descr};
@@ -35,20 +35,20 @@ fn write_name(out: &mut Vec<u8>, is_named: bool, name: &Option<Name>) -> Result<
 /// Writes an object with its body.
 fn write_object(
     out: &mut Vec<u8>,
-    seat: &Seat,
+    header: &ObjectHeader,
     label: &Label,
     name: &Option<Name>,
 ) -> Result<(), AllocError>
     requires { IsGiven label.now.descr }
     ensures text { OnOk result (out.new.items ≡ out.old.items ++ object_text
-        (saved_of (object_of seat.now (tag_of label.now name.now)) seat.now.body)) }
+        (saved_of (object_of header.now (tag_of label.now name.now)) header.now.body)) }
     ensures fits { OnOk result (ObjectFits
-        (saved_of (object_of seat.now (tag_of label.now name.now)) seat.now.body)) }
+        (saved_of (object_of header.now (tag_of label.now name.now)) header.now.body)) }
 {
     label.birth.write(out)?;
     write_descr(out, label.descr)?;
-    seat.grant.write(out)?;
-    seat.body.write(out)?;
+    header.grant.write(out)?;
+    header.body.write(out)?;
     write_name(out, label.is_named, name)
 }
 
@@ -56,16 +56,16 @@ fn write_object(
 fn write_found(out: &mut Vec<u8>, found: Option<Found<'_>>) -> Result<(), AllocError>
     requires { IfSome found (λ found. IsGiven found.label.now.descr) }
     ensures text { OnOk result (out.new.items ≡ out.old.items ++ option object_text
-        (option_map (λ found. saved_of (object_of found.seat.now (tag_of found.label.now found.name.now))
-        found.seat.now.body) found.entry)) }
+        (option_map (λ found. saved_of (object_of found.header.now (tag_of found.label.now found.name.now))
+        found.header.now.body) found.entry)) }
     ensures fits { OnOk result (OptionFits ObjectFits
-        (option_map (λ found. saved_of (object_of found.seat.now (tag_of found.label.now found.name.now))
-        found.seat.now.body) found.entry)) }
+        (option_map (λ found. saved_of (object_of found.header.now (tag_of found.label.now found.name.now))
+        found.header.now.body) found.entry)) }
 {
     match found {
         Some(found) => {
             out.push(1)?;
-            write_object(out, found.seat, found.label, found.name)
+            write_object(out, found.header, found.label, found.name)
         }
         None => {
             out.push(0)?;
@@ -84,7 +84,7 @@ impl<K: PinKeeper> Objects<K> {
         let retired = self.keeper.phase(slot) == Phase::Retired;
         self.keeper.generation(slot).write(out)?;
         retired.write(out)?;
-        write_found(out, self.seats.look(slot))
+        write_found(out, self.headers.look(slot))
     }
 
     /// Writes the slots with their objects behind some bytes, as [`read`](Objects::read) reads them. Pins aren't

@@ -7,7 +7,7 @@ use Rattle.std.proofs.Math.Seq.{map-set_same}
 use Rattle.least.specs.Taken.{least_free}
 use Rattle.least.proofs.TakenLemmas.{slice_get_least_free}
 use Rattle.ob_tables.specs.declared.entry.Entry.{Entry}
-use Rattle.ob_tables.specs.Table.{at, place_of, entry_at, free_place, with_entry, IsKept}
+use Rattle.ob_tables.specs.Table.{at, place_of, entry_at, free_place, with_entry, TableInvariant}
 use Rattle.ob_tables.proofs.Counting.{found_place}
 
 -- the least number that is not taken is the least free place
@@ -30,29 +30,31 @@ with_entry_at (None ∷ t) e h = refl
 with_entry_at (Some x ∷ t) e h = ap (λ r. Some x ∷ r) (with_entry_at t e (omega arith))
 
 -- the least number of a table's set is its least free place, and is free
-pub least_place : (taken : List Bool) (t : List (Option Entry)) → IsKept taken t → least_free taken ≡ free_place t
+pub least_place : (taken : List Bool) (t : List (Option Entry)) → TableInvariant taken t
+    → least_free taken ≡ free_place t
 least_place taken t kept = search (arith, least_free_places)
 
-pub place_is_free : (taken : List Bool) (t : List (Option Entry)) (k : ℕ) → IsKept taken t → k ≡ least_free taken
+pub place_is_free : (taken : List Bool) (t : List (Option Entry)) (k : ℕ) → TableInvariant taken t
+    → k ≡ least_free taken
     → k < length t → slice_get taken k ≡ Some false
 place_is_free taken t k kept is lt = search (arith, length-map, slice_get_least_free)
 
-pub placed_at : (taken : List Bool) (t : List (Option Entry)) (k : ℕ) (e : Entry) → IsKept taken t
+pub placed_at : (taken : List Bool) (t : List (Option Entry)) (k : ℕ) (e : Entry) → TableInvariant taken t
     → k ≡ least_free taken → k < length t → set t k (Some e) ≡ with_entry t e
 placed_at taken t k e kept is lt = search (arith, with_entry_at, least_place)
 
-pub placed_last : (taken : List Bool) (t : List (Option Entry)) (k : ℕ) (e : Entry) → IsKept taken t
+pub placed_last : (taken : List Bool) (t : List (Option Entry)) (k : ℕ) (e : Entry) → TableInvariant taken t
     → k ≡ least_free taken → length t ≤ k → k ≤ length taken → t ++ Some e ∷ [] ≡ with_entry t e
 placed_last taken t k e kept is past bound = search (arith, with_entry_end, least_place, length-map)
 
 -- a place changes, and the set with it
-pub kept_set : (taken taken' : List Bool) (t : List (Option Entry)) (k : ℕ) (x : Option Entry) → IsKept taken t
-    → taken' ≡ set taken k (is_some x) → IsKept taken' (set t k x)
+pub kept_set : (taken taken' : List Bool) (t : List (Option Entry)) (k : ℕ) (x : Option Entry) → TableInvariant taken t
+    → taken' ≡ set taken k (is_some x) → TableInvariant taken' (set t k x)
 kept_set taken taken' t k x kept is = search (arith, length-set, map-set)
 
 -- an entry changes, and the set stays
-pub kept_changed : (taken : List Bool) (t : List (Option Entry)) (k : ℕ) (x : Option Entry) → IsKept taken t
-    → is_some x ≡ is_some (get_or t k None) → IsKept taken (set t k x)
+pub kept_changed : (taken : List Bool) (t : List (Option Entry)) (k : ℕ) (x : Option Entry) → TableInvariant taken t
+    → is_some x ≡ is_some (get_or t k None) → TableInvariant taken (set t k x)
 kept_changed taken t k x kept is = search (arith, length-set, map-set_same)
 
 -- a value with an entry has it at its place
@@ -60,7 +62,7 @@ pub present : (t : List (Option Entry)) (value : ℕ) → IsSome (entry_at t val
 present t value some = search arith
 
 -- the number of a place with an entry is taken
-pub held_number : (taken : List Bool) (t : List (Option Entry)) (value : ℕ) (e : Entry) → IsKept taken t
+pub held_number : (taken : List Bool) (t : List (Option Entry)) (value : ℕ) (e : Entry) → TableInvariant taken t
     → entry_at t value ≡ Some e → slice_get taken (place_of value) ≡ Some true
 held_number taken t value e kept is = grind (arith, elements, found_place)
 

@@ -50,6 +50,6 @@ abbrev pub with_flags : List (Option Entry) → ℕ → HandleFlags → List (Op
 with_flags table value flags = slice_set table (place_of value) (flagged (entry_at table value) flags)
 
 -- the numbers that are taken are those of the places with an entry, and there are few places
-pub record IsKept (taken : List Bool) (places : List (Option Entry)) : Type 0 where
+pub record TableInvariant (taken : List Bool) (places : List (Option Entry)) : Type 0 where
   pub at_most : length places ≤ 16384
   pub same : taken ≡ map is_some places

@@ -48,13 +48,13 @@ pub(crate) struct Table {
 impl Model for Table {
     ghost use Rattle.std.specs.Prelude.{List, Option};
     ghost use Rattle.ob_tables.specs.declared.entry.Entry.{Entry};
-    ghost use Rattle.ob_tables.specs.Table.{IsKept};
+    ghost use Rattle.ob_tables.specs.Table.{TableInvariant};
 
     ghost Value = { List (Option Entry) };
 
     ghost view = { λ t. t.places.items };
 
-    ghost invariant = { λ t. IsKept t.free t.places.items };
+    ghost invariant = { λ t. TableInvariant t.free t.places.items };
 }
 
 impl Table {

@@ -9,9 +9,9 @@ use Rattle.ob_waits.specs.declared.wait.Mode.{Mode}
 use Rattle.ob_waits.specs.declared.wait.Wait.{Wait}
 use Rattle.ob_waits.specs.declared.wait.State.TheVariants.{Answered}
 use Rattle.ob_waits.specs.Rules.{thread_of, IsWaitable, WaitWaitable, Within}
-use Rattle.ob_waits.specs.Numbers.{IsOrdered, numbers_of}
+use Rattle.ob_waits.specs.RisingNumbers.{IsOrdered, numbers_of}
 use Rattle.ob_waits.specs.Waits.{new_wait, nowhere, is_code, is_pending, names_slot, number_of}
-use Rattle.ob_waits.specs.Roster.{Roster, IsRight, HasPlace, IsTracked}
+use Rattle.ob_waits.specs.PendingIndex.{PendingIndex, IsRight, HasPlace, IsTracked}
 use Rattle.ob_waits.proofs.TrackedLaws.{no_number}
 
 -- some element passes
@@ -33,7 +33,8 @@ module _ (ws : List (Option Wait)) (w : Wait) where
   by_number P old new past n = search (arith, get_or_append_left, get_or_past, get_or_push, length_push)
 
 -- The theorem: a wait of a thread that had none is tracked, where the lists have its number as they must.
-pub tracked_came : (limit : ℕ) (ws : List (Option Wait)) (r r' : Roster) (w : Wait) → 0 < length ws → length ws ≤ limit
+pub tracked_came : (limit : ℕ) (ws : List (Option Wait)) (r r' : PendingIndex) (w : Wait) → 0 < length ws
+    → length ws ≤ limit
     → WaitWaitable (Some w) → number_of w.thread ws ≡ None
     → IsTracked limit ws r → IsRight ws r' → (is_pending (Some w) ≡ true → Within (length ws) r'.order)
     → ((s : ℕ) → names_slot s (Some w) ≡ true → Within (length ws) (numbers_of r'.index s))
@@ -72,7 +73,7 @@ tracked_came limit ws r r' w some below waitable alone k right ordered named = r
     ordered_more numbers h = search (arith, length_push)
 
 -- one that is pending, for which the roster has a place
-pub tracked_added : (limit : ℕ) (ws : List (Option Wait)) (r r' : Roster) (n t : ℕ) (mode : Mode) (ids : List Id)
+pub tracked_added : (limit : ℕ) (ws : List (Option Wait)) (r r' : PendingIndex) (n t : ℕ) (mode : Mode) (ids : List Id)
     (d : Option ℕ) → length ws ≡ n → 0 < n → n ≤ limit → IsWaitable mode ids → number_of t ws ≡ None →
     IsTracked limit ws r → IsRight ws r' → HasPlace r' ids n
     → IsTracked limit (ws ++ Some (new_wait t mode ids d) ∷ []) r'
@@ -88,7 +89,8 @@ tracked_added limit ws r r' n t mode ids d len some below waitable alone k right
         search arith
 
 -- one that is answered needs none
-pub tracked_answered : (limit : ℕ) (ws : List (Option Wait)) (r : Roster) (t code : ℕ) (d : Option ℕ) → 0 < length ws
+pub tracked_answered : (limit : ℕ) (ws : List (Option Wait)) (r : PendingIndex) (t code : ℕ) (d : Option ℕ)
+    → 0 < length ws
     → length ws ≤ limit → is_code code ≡ true → number_of t ws ≡ None
     → IsTracked limit ws r → IsTracked limit (ws ++ Some (record { thread = t; deadline = d; state = Answered code })
     ∷ []) r

@@ -6,19 +6,20 @@ use Rattle.std.proofs.lemmas.List.{length-set, get_or_past, get_or_push, get_or-
 use Rattle.std.proofs.lemmas.Bool.{cases_eq}
 use Rattle.least.specs.From.{IsAtMost, IsLeastFrom}
 use Rattle.ob_waits.specs.declared.wait.Wait.{Wait}
-use Rattle.ob_waits.specs.Answers.{is_answered, Untaken, IsAnswered, AreToldBut, AreTold, Drops}
+use Rattle.ob_waits.specs.Answers.{is_answered, AnsweredNumbers, IsAnswered, AreToldBut, AreTold, ThinsAnswered}
 use Rattle.ob_waits.specs.Rules.{thread_of, IsRising, Within}
 use Rattle.ob_waits.specs.Waits.{answered, is_pending}
 use Rattle.ob_waits.proofs.AddedLaws.{by_number}
 use Rattle.ob_waits.proofs.NumberLaws.{last_most, within_left, within_last}
 
 -- the same waits, and more room
-pub told_room : {ws : List (Option Wait)} {u u' : Untaken} → u'.fresh ≡ u.fresh
-    → ((t : ℕ) → get_or u'.late t None ≡ get_or u.late t None) → length u.late ≤ length u'.late → AreTold ws u
+pub told_room : {ws : List (Option Wait)} {u u' : AnsweredNumbers} → u'.queue ≡ u.queue
+    → ((t : ℕ) → get_or u'.out_of_order t None ≡ get_or u.out_of_order t None)
+    → length u.out_of_order ≤ length u'.out_of_order → AreTold ws u
     → AreTold ws u'
-told_room {u = u} {u' = u'} fresh late longer told = record {
-  rising = subst IsRising (sym fresh) told.rising;
-  late = λ t n h. told.late t n (sym (late t) ∙ h);
+told_room {u = u} {u' = u'} queue out_of_order longer told = record {
+  rising = subst IsRising (sym queue) told.rising;
+  out_of_order = λ t n h. told.out_of_order t n (sym (out_of_order t) ∙ h);
   each = search arith;
   placed = search arith;
 }
@@ -28,12 +29,13 @@ unanswered None h = absurd (cc (h))
 unanswered (Some w) h = search arith
 
 -- a wait comes, of a thread that had none; one that is answered still has to be told
-pub told_came : (ws : List (Option Wait)) (w : Wait) (u : Untaken) → w.thread < length u.late → AreTold ws u
+pub told_came : (ws : List (Option Wait)) (w : Wait) (u : AnsweredNumbers) → w.thread < length u.out_of_order
+    → AreTold ws u
     → AreToldBut (Some (length ws)) (ws ++ Some w ∷ []) u
 told_came ws w u place told = record {
   rising = told.rising;
-  late = λ t n h.
-      let old = told.late t n h in
+  out_of_order = λ t n h.
+      let old = told.out_of_order t n h in
       by_number ws w (λ m x. m ≡ n → IsAnswered t x)
       (λ m lt e. subst (λ i. IsAnswered t (get_or ws i None)) (sym e) old)
       (λ e. absurd (let none = get_or_past ws n None (omega arith) in
@@ -41,7 +43,7 @@ told_came ws w u place told = record {
       (λ m past e. absurd (let none = get_or_past ws n None (omega arith) in
       let o : thread_of (get_or ws n None) ≡ Some t = old.0 in let z = ap thread_of none in cc (z, o))) n refl;
   each = λ t n. by_number ws w (λ m x. Some m ≢ Some (length ws) → IsAnswered t x
-      → Within m u.fresh ⊎ (get_or u.late t None ≡ Some m)) (search arith)
+      → Within m u.queue ⊎ (get_or u.out_of_order t None ≡ Some m)) (search arith)
       (λ apart own. absurd (apart refl)) (λ m past apart own. absurd (let o = own.0 in cc (o))) n;
   placed = λ t n own. elim (ours n t own) [
     | inl a ↦ told.placed t n a
@@ -55,11 +57,11 @@ told_came ws w u place told = record {
     ours n t = grind (arith, at_place)
 
 -- one that is pending hasn't
-pub told_added : (ws : List (Option Wait)) (w : Wait) (u : Untaken) → is_pending (Some w) ≡ true
-    → w.thread < length u.late → AreTold ws u → AreTold (ws ++ Some w ∷ []) u
+pub told_added : (ws : List (Option Wait)) (w : Wait) (u : AnsweredNumbers) → is_pending (Some w) ≡ true
+    → w.thread < length u.out_of_order → AreTold ws u → AreTold (ws ++ Some w ∷ []) u
 told_added ws w u pending place told = record {
   rising = came.rising;
-  late = came.late;
+  out_of_order = came.out_of_order;
   each = λ t n apart own. search (arith, get_or_push, came.each);
   placed = came.placed;
 }
@@ -67,11 +69,11 @@ told_added ws w u pending place told = record {
     came : AreToldBut (Some (length ws)) (ws ++ Some w ∷ []) u
     came = told_came ws w u place told
 
-pub told_answered : (ws : List (Option Wait)) (n code : ℕ) (u : Untaken) → is_pending (get_or ws n None) ≡ true
+pub told_answered : (ws : List (Option Wait)) (n code : ℕ) (u : AnsweredNumbers) → is_pending (get_or ws n None) ≡ true
     → AreTold ws u → AreToldBut (Some n) (set ws n (answered (get_or ws n None) code)) u
 told_answered ws n code u pending told = record {
   rising = told.rising;
-  late = λ t m h. let old = told.late t m h in elim (cases_eq m n) [
+  out_of_order = λ t m h. let old = told.out_of_order t m h in elim (cases_eq m n) [
     | inl same ↦ absurd (let passes : is_answered (get_or ws n None) ≡ true =
         search arith in
         let no' = unanswered (get_or ws n None) pending in cc (passes, no'))
@@ -88,26 +90,27 @@ told_answered ws n code u pending told = record {
     same m = grind (arith, at_place)
 
 -- and its number is put at the end of the list, or at its thread
-pub told_fresh : (ws : List (Option Wait)) (n : ℕ) (u u' : Untaken) → u'.fresh ≡ u.fresh ++ n ∷ [] → u'.late ≡ u.late
-    → IsRising u'.fresh → AreToldBut (Some n) ws u → AreTold ws u'
-told_fresh ws n u u' fresh late rising told = record {
+pub told_fresh : (ws : List (Option Wait)) (n : ℕ) (u u' : AnsweredNumbers) → u'.queue ≡ u.queue ++ n ∷ []
+    → u'.out_of_order ≡ u.out_of_order
+    → IsRising u'.queue → AreToldBut (Some n) ws u → AreTold ws u'
+told_fresh ws n u u' queue out_of_order rising told = record {
   rising = rising;
-  late = λ t m h. told.late t m (search arith);
+  out_of_order = λ t m h. told.out_of_order t m (search arith);
   each = search (arith, within_last, within_left);
   placed = search arith;
 }
 
-pub told_late : (ws : List (Option Wait)) (n t : ℕ) (u : Untaken) → IsAnswered t (get_or ws n None)
+pub told_late : (ws : List (Option Wait)) (n t : ℕ) (u : AnsweredNumbers) → IsAnswered t (get_or ws n None)
     → ((m : ℕ) → thread_of (get_or ws m None) ≡ Some t → m ≡ n) → AreToldBut (Some n) ws u
-    → AreTold ws (record u { late = set u.late t (Some n) })
+    → AreTold ws (record u { out_of_order = set u.out_of_order t (Some n) })
 told_late ws n t u own alone told = record {
   rising = told.rising;
-  late = search (arith, get_or-set_other, get_or-set_same);
+  out_of_order = search (arith, get_or-set_other, get_or-set_same);
   each = λ s m apart h. search (arith, get_or-set_other, get_or-set_same);
   placed = search (arith, length-set);
 }
   where
-    place : t < length u.late
+    place : t < length u.out_of_order
     place = told.placed t n own.0
 
 -- a wait goes
@@ -115,25 +118,26 @@ module _ (ws : List (Option Wait)) (n t : ℕ) (own : thread_of (get_or ws n Non
   was : (m s : ℕ) → thread_of (get_or (set ws n None) m None) ≡ Some s → thread_of (get_or ws m None) ≡ Some s
   was m s h = search (arith, get_or-set_same, get_or_past, get_or-set_other)
 
-  pub told_gone : (u : Untaken) → get_or u.late t None ≢ Some n → AreTold ws u → AreTold (set ws n None) u
+  pub told_gone : (u : AnsweredNumbers) → get_or u.out_of_order t None ≢ Some n → AreTold ws u
+      → AreTold (set ws n None) u
   told_gone u free told = record {
     rising = told.rising;
-    late = λ s m h. let old = told.late s m h in subst (IsAnswered s) (sym (get_or-set_other ws n m None None (λ same.
+    out_of_order = λ s m h. let old = told.out_of_order s m h in subst (IsAnswered s) (sym (get_or-set_other ws n m None None (λ same.
         let e : Some t ≡ Some s = search arith in
-        let thread : t ≡ s = cc (e) in free (ap (λ i. get_or u.late i None) thread ∙ h ∙ ap Some same)))) old;
+        let thread : t ≡ s = cc (e) in free (ap (λ i. get_or u.out_of_order i None) thread ∙ h ∙ ap Some same)))) old;
     each = λ s m apart h. search (arith, get_or-set_same, get_or_past, get_or-set_other);
     placed = λ s m h. told.placed s m (was m s h);
   }
 
-  pub told_cleared : (u : Untaken) → get_or u.late t None ≡ Some n → AreTold ws u
-      → AreTold (set ws n None) (record u { late = set u.late t None })
+  pub told_cleared : (u : AnsweredNumbers) → get_or u.out_of_order t None ≡ Some n → AreTold ws u
+      → AreTold (set ws n None) (record u { out_of_order = set u.out_of_order t None })
   told_cleared u at told = record {
     rising = told.rising;
-    late = λ s m h. elim (cases_eq s t) [
+    out_of_order = λ s m h. elim (cases_eq s t) [
       | inl same ↦ search (arith, get_or-set_same)
       | inr other ↦
-          let here : get_or u.late s None ≡ Some m = search (arith, get_or-set_other) in
-          let old = told.late s m here in
+          let here : get_or u.out_of_order s None ≡ Some m = search (arith, get_or-set_other) in
+          let old = told.out_of_order s m here in
           subst (IsAnswered s) (sym (get_or-set_other ws n m None None (λ same. let e : Some t ≡ Some s =
           search arith in
           other (let thread : s ≡ t = cc (e) in thread)))) old
@@ -143,11 +147,12 @@ module _ (ws : List (Option Wait)) (n t : ℕ) (own : thread_of (get_or ws n Non
   }
 
 -- numbers of waits that are over are dropped
-pub told_dropped : (ws : List (Option Wait)) (u u' : Untaken) → Drops ws u.fresh u'.fresh → u'.late ≡ u.late
+pub told_dropped : (ws : List (Option Wait)) (u u' : AnsweredNumbers) → ThinsAnswered ws u.queue u'.queue
+    → u'.out_of_order ≡ u.out_of_order
     → AreTold ws u → AreTold ws u'
-told_dropped ws u u' drops late told = record {
+told_dropped ws u u' drops out_of_order told = record {
   rising = drops.rising told.rising;
-  late = λ t n h. told.late t n (search arith);
+  out_of_order = λ t n h. told.out_of_order t n (search arith);
   each = λ t n apart own. search arith;
   placed = search arith;
 }
@@ -157,11 +162,12 @@ answered_thread : (w : Option Wait) → is_answered w ≡ true → (t : ℕ) × 
 answered_thread None h = absurd (cc (h))
 answered_thread (Some w) h = (w.thread, (refl, h))
 
-pub least_told : (ws : List (Option Wait)) (u : Untaken) (after : ℕ) (first second result : Option ℕ) → AreTold ws u
+pub least_told : (ws : List (Option Wait)) (u : AnsweredNumbers) (after : ℕ) (first second result : Option ℕ)
+    → AreTold ws u
     → IfSome first (λ n. is_answered (get_or ws n None) ≡ true) → IfSome first (λ n. after < n)
-    → ((k : ℕ) → Within k u.fresh → after < k → is_answered (get_or ws k None) ≡ true → IsAtMost first k)
+    → ((k : ℕ) → Within k u.queue → after < k → is_answered (get_or ws k None) ≡ true → IsAtMost first k)
     → IfSome second (λ n. is_answered (get_or ws n None) ≡ true) → IfSome second (λ n. after < n)
-    → ((t n : ℕ) → get_or u.late t None ≡ Some n → after < n → IsAtMost second n)
+    → ((t n : ℕ) → get_or u.out_of_order t None ≡ Some n → after < n → IsAtMost second n)
     → (result ≡ first) ⊎ (result ≡ second) → ((k : ℕ) → IsAtMost first k → IsAtMost result k)
     → ((k : ℕ) → IsAtMost second k → IsAtMost result k)
     → IsLeastFrom (after + 1) (λ n. is_answered (get_or ws n None)) result

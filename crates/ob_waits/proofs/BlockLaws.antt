@@ -10,7 +10,7 @@ use Rattle.ob_waits.specs.Waits.{blocks_in, names_slot, ids_of}
 use Rattle.std.proofs.lemmas.List.{get_or_past, get_or-set_other, set_past}
 use Rattle.std.proofs.lemmas.List.Sums.{sum_by-cons, sum_by-set}
 use Rattle.ob_waits.specs.Rules.{Within, IsRising}
-use Rattle.ob_waits.specs.Numbers.{IsOrdered}
+use Rattle.ob_waits.specs.RisingNumbers.{IsOrdered}
 use Rattle.ob_waits.proofs.Writes.{set_none}
 
 sum_same : (g h : ℕ → ℕ) (ns : List ℕ) → ((k : ℕ) → Within k ns → g k ≡ h k) → sum_by g ns ≡ sum_by h ns

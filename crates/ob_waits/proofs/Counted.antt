@@ -13,7 +13,7 @@ use Rattle.ob_waits.specs.declared.wait.Mode.{Mode}
 use Rattle.ob_waits.specs.declared.wait.Wait.{Wait}
 use Rattle.ob_waits.specs.declared.wait.State.{State}
 use Rattle.ob_waits.specs.declared.wait.State.TheVariants.{Pending, Answered}
-use Rattle.ob_waits.specs.Rules.{thread_of, IsKept}
+use Rattle.ob_waits.specs.Rules.{thread_of, WaitsInvariant}
 use Rattle.ob_waits.specs.Waits.{nowhere, new_wait, answered, ids_of, state_ids, names_slot, slot_places, slot_blocks, blocks_in, blocks_among, code_at, state_code, Scene, is_ready, effect, settled, answered_wait, number_of, numbered_ids, thread_ids, is_waits_of, unless_of}
 use Rattle.ob_waits.proofs.BlockLaws.{sum_cleared}
 use Rattle.ob_waits.proofs.Settling.{answers, settled_by_effects}
@@ -60,7 +60,7 @@ answered_ids (Some w) code h = code_ids w.state code h
 unless_other : (t : ℕ) (w : Option Wait) → is_waits_of t w ≡ false → unless_of t w ≡ w
 unless_other t w h = ap (λ b. cond b None w) h
 
-pub dropped_found : (ws : List (Option Wait)) (t n : ℕ) → IsKept ws → number_of t ws ≡ Some n
+pub dropped_found : (ws : List (Option Wait)) (t n : ℕ) → WaitsInvariant ws → number_of t ws ≡ Some n
     → map (unless_of t) ws ≡ set ws n None
 dropped_found ws t n kept found =
     let at = position-Some (is_waits_of t) ws n None found in
@@ -75,7 +75,7 @@ dropped_missing ws t none = ext_get_or None (map (unless_of t) ws) ws (length-ma
     (search (arith, no_number, waits_thread))))
 
 sum_dropped : (f : Option Wait → ℕ) (g : List Id → ℕ) → ((w : Option Wait) → f w ≡ g (ids_of w)) → g [] ≡ 0
-    → (t : ℕ) (ws : List (Option Wait)) → IsKept ws →
+    → (t : ℕ) (ws : List (Option Wait)) → WaitsInvariant ws →
     sum_by f (map (unless_of t) ws) + g (thread_ids t ws) ≡ sum_by f ws
 sum_dropped f g same zero t ws kept = by (number_of t ws) refl
   where
@@ -88,11 +88,11 @@ sum_dropped f g same zero t ws kept = by (number_of t ws) refl
         let one = sum_cleared f (same None ∙ zero) ws n None (same None ∙ zero) in
         let here = same (get_or ws n None) in omega arith
 
-pub slot_dropped : (k t : ℕ) (ws : List (Option Wait)) → IsKept ws
+pub slot_dropped : (k t : ℕ) (ws : List (Option Wait)) → WaitsInvariant ws
     → slot_blocks k (map (unless_of t) ws) + slot_places k (thread_ids t ws) ≡ slot_blocks k ws
 slot_dropped k t ws kept = sum_dropped (λ w. slot_places k (ids_of w)) (slot_places k) (λ w. refl) refl t ws kept
 
-pub blocks_dropped : (id : Id) (t : ℕ) (ws : List (Option Wait)) → IsKept ws
+pub blocks_dropped : (id : Id) (t : ℕ) (ws : List (Option Wait)) → WaitsInvariant ws
     → blocks_among id (map (unless_of t) ws) + count_by (same_id id) (thread_ids t ws) ≡ blocks_among id ws
 blocks_dropped id t ws kept = sum_dropped (blocks_in id) (count_by (same_id id)) (λ w. refl) refl t ws kept
 
@@ -131,7 +131,7 @@ unnamed_ids k n ws unnamed i lt same =
     subst (λ j. 0 < slot_places j (ids_of (get_or ws n None))) same (search (arith, places_at)) in
     let le = wait_counts k n ws in omega arith
 
-pub slot_blocks-few : (k : ℕ) (ws : List (Option Wait)) → IsKept ws → slot_blocks k ws ≤ length ws * 64
+pub slot_blocks-few : (k : ℕ) (ws : List (Option Wait)) → WaitsInvariant ws → slot_blocks k ws ≤ length ws * 64
 slot_blocks-few k ws kept = sum_by-le (λ w. slot_places k (ids_of w)) 64 ws
     (All-from_get_or (λ w. slot_places k (ids_of w) ≤ 64) ws None
     (search (arith, count_by-le-length)))

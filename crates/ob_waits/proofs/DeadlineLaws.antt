@@ -13,7 +13,7 @@ use Rattle.ob_waits.specs.declared.wait.Wait.{Wait}
 use Rattle.ob_waits.specs.declared.wait.State.TheVariants.{Answered}
 use Rattle.ob_waits.specs.Deadlines.{AreListed, AreTimely, deadline_of, is_overdue}
 use Rattle.ob_waits.specs.Form.{IsAfter}
-use Rattle.ob_waits.specs.Objects.{Objects}
+use Rattle.ob_waits.specs.CountedBodies.{CountedBodies}
 use Rattle.ob_waits.specs.Rules.{thread_of}
 use Rattle.ob_waits.specs.Waits.{Scene, new_wait, number_of, settled}
 use Rattle.ob_waits.proofs.AddedLaws.{by_number}
@@ -34,7 +34,7 @@ pub timely_faded : (clock : ℕ) (ws ws' : List (Option Wait)) (dues : List (Opt
     → AreTimely clock ws dues → AreTimely clock ws' dues
 timely_faded clock ws ws' dues fade timely = search arith
 
-pub timely_settled : (clock : ℕ) (before after : Objects) (ws ws' : List (Option Wait)) (dues : List (Option ℕ))
+pub timely_settled : (clock : ℕ) (before after : CountedBodies) (ws ws' : List (Option Wait)) (dues : List (Option ℕ))
     → ◌≡◌ {A = Scene} (record { objects = after; waits = ws' }) (settled (record { objects = before; waits = ws }))
     → AreTimely clock ws dues → AreTimely clock ws' dues
 timely_settled clock before after ws ws' dues value timely =

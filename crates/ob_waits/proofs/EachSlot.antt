@@ -6,7 +6,7 @@ use Rattle.pin_core.specs.declared.id.Id.{Id}
 use Rattle.ob_body.specs.declared.body.Body.{Body}
 use Rattle.ob_waits.specs.declared.wait.Mode.{Mode}
 use Rattle.ob_waits.specs.declared.wait.Mode.TheVariants.{Any, All}
-use Rattle.ob_waits.specs.Objects.{Objects, slot_acquired, without_block, without_blocks}
+use Rattle.ob_waits.specs.CountedBodies.{CountedBodies, slot_acquired, without_block, without_blocks}
 use Rattle.ob_waits.specs.Waits.{with_acquired, with_all_acquired, bodies_after}
 
 abbrev pub Bodies : Type 0
@@ -42,12 +42,13 @@ module _ (R : Option Body → Option Body → Type 0) (same : (x : Option Body) 
       slots-if true bodies i = search (arith, slots-set)
       slots-if false bodies i = λ k. same (get_or bodies k None)
 
-      slots-left : (ids : List Id) (objects : Objects) → EachSlot R objects.bodies (without_blocks objects ids).bodies
+      slots-left : (ids : List Id) (objects : CountedBodies)
+          → EachSlot R objects.bodies (without_blocks objects ids).bodies
       slots-left [] objects = λ k. same (get_or objects.bodies k None)
       slots-left (id ∷ ids) objects = search (arith, slots-both, slots-if, slots-left ids (without_block objects id))
 
       -- a wait of the thread is satisfied, and its blocks leave
-      pub slots-satisfied : (mode : Mode) (ids : List Id) (objects : Objects) → EachSlot R objects.bodies
+      pub slots-satisfied : (mode : Mode) (ids : List Id) (objects : CountedBodies) → EachSlot R objects.bodies
           (without_blocks (record objects { bodies = bodies_after mode u objects.bodies ids }) ids).bodies
       slots-satisfied mode ids objects = let after : Bodies = bodies_after mode u objects.bodies ids in
           slots-both objects.bodies after (without_blocks (record objects { bodies = after }) ids).bodies

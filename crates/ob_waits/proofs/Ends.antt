@@ -9,7 +9,7 @@ use Rattle.ob_waits.specs.declared.wait.Mode.TheVariants.{Any, All}
 use Rattle.ob_waits.specs.declared.wait.Wait.{Wait}
 use Rattle.ob_waits.specs.declared.wait.State.{State}
 use Rattle.ob_waits.specs.declared.wait.State.TheVariants.{Pending, Answered}
-use Rattle.ob_waits.specs.Objects.{Objects, slot_acquired, bodies_left, without_block, without_blocks}
+use Rattle.ob_waits.specs.CountedBodies.{CountedBodies, slot_acquired, bodies_left, without_block, without_blocks}
 use Rattle.ob_waits.specs.Rules.{HasBodies}
 use Rattle.ob_waits.specs.Waits.{nowhere, first_signaled, with_acquired, with_all_acquired, bodies_after, Scene, effect_of, effect_at, settled}
 use Rattle.ob_waits.proofs.Settling.{settled_by_effects}
@@ -26,7 +26,7 @@ has_still t None = refl
 has_still t (Some b) = refl
 
 -- a thread took what it waits for
-ends_taken : (mode : Mode) (t : ℕ) (ids : List Id) (objects : Objects) → HasBodies objects
+ends_taken : (mode : Mode) (t : ℕ) (ids : List Id) (objects : CountedBodies) → HasBodies objects
     → HasBodies (record objects { bodies = bodies_after mode t objects.bodies ids })
 ends_taken mode t ids objects has = record {
   each = λ k. slots-taken HasStill (λ x. refl) (λ x y z a b. b ∙ a) t (has_still t) mode ids objects.bodies k
@@ -34,16 +34,16 @@ ends_taken mode t ids objects has = record {
 }
 
 -- a block leaves, and with the last one the body
-pub body_left : (objects : Objects) (id : Id) (k : ℕ) →
+pub body_left : (objects : CountedBodies) (id : Id) (k : ℕ) →
     get_or (bodies_left objects id) k None ≡ cond (eqb id.slot k)
     (cond (eqb (get_or objects.handles k 0 + (get_or objects.blocks k 0 - 1)) 0) None
     (get_or objects.bodies k None)) (get_or objects.bodies k None)
 body_left objects id k = search (arith, get_or-set_other, set_none)
 
-pub ends_left : (id : Id) (objects : Objects) → HasBodies objects → HasBodies (without_block objects id)
+pub ends_left : (id : Id) (objects : CountedBodies) → HasBodies objects → HasBodies (without_block objects id)
 ends_left id objects has = search (arith, body_left, left_one)
 
-pub ends_all : (ids : List Id) (objects : Objects) → HasBodies objects → HasBodies (without_blocks objects ids)
+pub ends_all : (ids : List Id) (objects : CountedBodies) → HasBodies objects → HasBodies (without_blocks objects ids)
 ends_all [] objects has = has
 ends_all (id ∷ ids) objects has = ends_all ids (without_block objects id) (ends_left id objects has)
 
@@ -64,18 +64,18 @@ ends_settled scene = settled_by_effects (λ (a b : Scene). HasBodies a.objects
     (λ s n ready. ends_at s n (get_or s.waits n None)) scene
 
 -- handles stay, and no slot comes or goes
-pub record SameSizes (objects after : Objects) : Type 0 where
+pub record SameSizes (objects after : CountedBodies) : Type 0 where
   pub bodies : length after.bodies ≡ length objects.bodies
   pub handles : after.handles ≡ objects.handles
   pub blocks : length after.blocks ≡ length objects.blocks
 
-sizes_same : (objects : Objects) → SameSizes objects objects
+sizes_same : (objects : CountedBodies) → SameSizes objects objects
 sizes_same objects = search arith
 
-sizes_both : (a b c : Objects) → SameSizes a b → SameSizes b c → SameSizes a c
+sizes_both : (a b c : CountedBodies) → SameSizes a b → SameSizes b c → SameSizes a c
 sizes_both a b c x y = search arith
 
-pub sizes_left : (ids : List Id) (objects : Objects) → SameSizes objects (without_blocks objects ids)
+pub sizes_left : (ids : List Id) (objects : CountedBodies) → SameSizes objects (without_blocks objects ids)
 sizes_left [] objects = sizes_same objects
 sizes_left (id ∷ ids) objects = search (arith, length-set, sizes_left ids (without_block objects id))
 

@@ -15,7 +15,7 @@ use Rattle.ob_waits.specs.declared.wait.Mode.TheVariants.{Any, All}
 use Rattle.ob_waits.specs.declared.wait.Wait.{Wait}
 use Rattle.ob_waits.specs.declared.wait.State.{State}
 use Rattle.ob_waits.specs.declared.wait.State.TheVariants.{Pending, Answered}
-use Rattle.ob_waits.specs.Objects.{Objects, slot_acquired, blocks_left, without_block, without_blocks}
+use Rattle.ob_waits.specs.CountedBodies.{CountedBodies, slot_acquired, blocks_left, without_block, without_blocks}
 use Rattle.ob_waits.specs.Rules.{HasBodies}
 use Rattle.ob_waits.specs.Ends.{HasBlocks, all_blocks_left, plain_effect, plain_effect_of, plain_effect_at, settled_plainly, settled_plainly_within, slot_ended, body_ended, ended, with_ends}
 use Rattle.ob_waits.specs.Waits.{nowhere, is_abandoned, first_signaled, list_ready, state_ready, is_ready, first_ready, with_acquired, with_all_acquired, bodies_after, code_of, ids_of, state_ids, Scene, effect, effect_of, effect_at, settled, settled_within}
@@ -28,14 +28,14 @@ use Rattle.ob_waits.proofs.Counted.{named_counts}
 pub ended_none : (handles blocks : ℕ) → slot_ended handles blocks None ≡ None
 ended_none handles blocks = search arith
 
-pub ended_at : (objects : Objects) (k : ℕ) → get_or (ended objects).bodies k None ≡ body_ended objects k
+pub ended_at : (objects : CountedBodies) (k : ℕ) → get_or (ended objects).bodies k None ≡ body_ended objects k
 ended_at objects k = search (arith, get_or-map-range_with_len, get_or_past, length-map-range_with_len)
 
-pub is_ended : (objects : Objects) (bodies : List (Option Body)) → length bodies ≡ length objects.bodies
+pub is_ended : (objects : CountedBodies) (bodies : List (Option Body)) → length bodies ≡ length objects.bodies
     → ((k : ℕ) → get_or bodies k None ≡ body_ended objects k) → bodies ≡ (ended objects).bodies
 is_ended objects bodies len each = ext_get_or None bodies (ended objects).bodies (search (arith, length-map-range_with_len)) (search (arith, ended_at))
 
-pub length-ended : (objects : Objects) → length (ended objects).bodies ≡ length objects.bodies
+pub length-ended : (objects : CountedBodies) → length (ended objects).bodies ≡ length objects.bodies
 length-ended objects = search (arith, length-map-range_with_len)
 
 -- where each slot has a body exactly where something refers to it, nothing is left to end
@@ -43,11 +43,11 @@ pub unended : (handles blocks : ℕ) (x : Option Body) → is_some x ≡ ltb 0 (
     → x ≡ slot_ended handles blocks x
 unended handles blocks x has = search arith
 
-pub none_to_end : (objects : Objects) → HasBodies objects → objects ≡ ended objects
+pub none_to_end : (objects : CountedBodies) → HasBodies objects → objects ≡ ended objects
 none_to_end objects has =
     search (arith, is_ended)
 
-one_ended : (t : ℕ) (objects : Objects) (id : Id) →
+one_ended : (t : ℕ) (objects : CountedBodies) (id : Id) →
     with_acquired t (ended objects).bodies id ≡ (ended
     (record objects { bodies = with_acquired t objects.bodies id })).bodies
 one_ended t objects id = is_ended (record objects { bodies = with_acquired t objects.bodies id })
@@ -61,17 +61,17 @@ one_ended t objects id = is_ended (record objects { bodies = with_acquired t obj
     y : Option Body
     y = slot_acquired t (get_or objects.bodies id.slot None)
 
-all_ended : (t : ℕ) (ids : List Id) (objects : Objects)
+all_ended : (t : ℕ) (ids : List Id) (objects : CountedBodies)
     → with_all_acquired t (ended objects).bodies ids
     ≡ (ended (record objects { bodies = with_all_acquired t objects.bodies ids })).bodies
 all_ended t [] objects = refl
 all_ended t (id ∷ ids) objects = search (arith, one_ended, all_ended t ids (record objects { bodies = with_acquired t objects.bodies id }))
 
 -- a block leaves
-block_ended : (objects : Objects) (id : Id) → without_block (ended objects) id
+block_ended : (objects : CountedBodies) (id : Id) → without_block (ended objects) id
     ≡ ended (record objects { blocks = blocks_left objects.blocks id })
 block_ended objects id =
-    let after : Objects = record objects { blocks = blocks_left objects.blocks id } in
+    let after : CountedBodies = record objects { blocks = blocks_left objects.blocks id } in
     let bodies : (without_block (ended objects) id).bodies ≡ (ended after).bodies =
     is_ended after (without_block (ended objects) id).bodies
     (len (eqb (get_or objects.handles id.slot 0 + (get_or objects.blocks id.slot 0 - 1)) 0)) at in
@@ -92,34 +92,34 @@ block_ended objects id =
         ≡ body_ended (record objects { blocks = blocks_left objects.blocks id }) k
     at k = grind (arith, at_place, ended_at)
 
-blocks_ended : (ids : List Id) (objects : Objects)
+blocks_ended : (ids : List Id) (objects : CountedBodies)
     → without_blocks (ended objects) ids ≡ ended (record objects { blocks = all_blocks_left objects.blocks ids })
 blocks_ended [] objects = refl
 blocks_ended (id ∷ ids) objects = search (arith, block_ended, blocks_ended ids (record objects { blocks = blocks_left objects.blocks id }))
 
 -- each slot that a list names counts a block
-abbrev IsReferred : Objects → List Id → Type 0
+abbrev IsReferred : CountedBodies → List Id → Type 0
 IsReferred objects ids = (k : ℕ) → list_any (in_slot k) ids ≡ true → 0 < get_or objects.blocks k 0
 
-bodies_same : (objects : Objects) (ids : List Id) → IsReferred objects ids
+bodies_same : (objects : CountedBodies) (ids : List Id) → IsReferred objects ids
     → SameAt objects.bodies (ended objects).bodies ids
 bodies_same objects ids has k named =
     search (arith, ended_at)
 
-ready_ended : (objects : Objects) (w : Option Wait) → IsReferred objects (ids_of w)
+ready_ended : (objects : CountedBodies) (w : Option Wait) → IsReferred objects (ids_of w)
     → is_ready (ended objects).bodies w ≡ is_ready objects.bodies w
 ready_ended objects w has = search (arith, ended_at, ready_same)
 
-first_ended : (t : ℕ) (objects : Objects) (ids : List Id) → IsReferred objects ids
+first_ended : (t : ℕ) (objects : CountedBodies) (ids : List Id) → IsReferred objects ids
     → first_signaled t (ended objects).bodies ids ≡ first_signaled t objects.bodies ids
 first_ended t objects ids has = search (arith, bodies_same, first_same)
 
 -- the code and what is taken are the same
-abandoned_ended : (objects : Objects) (ids : List Id) → IsReferred objects ids → (id : Id)
+abandoned_ended : (objects : CountedBodies) (ids : List Id) → IsReferred objects ids → (id : Id)
     → list_any (in_slot id.slot) ids ≡ true → is_abandoned (ended objects).bodies id ≡ is_abandoned objects.bodies id
 abandoned_ended objects ids has id named = search (arith, ended_at)
 
-code_ended : (mode : Mode) (t : ℕ) (objects : Objects) (ids : List Id) → IsReferred objects ids
+code_ended : (mode : Mode) (t : ℕ) (objects : CountedBodies) (ids : List Id) → IsReferred objects ids
     → list_ready mode t objects.bodies ids ≡ true →
     code_of mode t (ended objects).bodies ids ≡ code_of mode t objects.bodies ids
 code_ended Any t objects ids has ready =
@@ -131,7 +131,7 @@ code_ended Any t objects ids has ready =
 code_ended All t objects ids has ready = ap {B = ℕ} (λ b. cond b 128 0)
     (search (arith, abandoned_ended, any_agree))
 
-after_ended : (mode : Mode) (t : ℕ) (objects : Objects) (ids : List Id) → IsReferred objects ids
+after_ended : (mode : Mode) (t : ℕ) (objects : CountedBodies) (ids : List Id) → IsReferred objects ids
     → bodies_after mode t (ended objects).bodies ids
     ≡ (ended (record objects { bodies = bodies_after mode t objects.bodies ids })).bodies
 after_ended Any t objects ids has =

@@ -5,7 +5,7 @@ use Rattle.std.proofs.Common.{arith, ◌≡◌, ℕ, ◌<◌, List, length, Opti
 use Rattle.std.proofs.lemmas.List.{get_or_read}
 use Rattle.ob_waits.specs.declared.wait.Wait.{Wait}
 use Rattle.ob_waits.specs.Rules.{Within}
-use Rattle.ob_waits.specs.Numbers.{IsOrdered, numbers_of, AreOrdered, LosesNone, Thins, ThinsEach}
+use Rattle.ob_waits.specs.RisingNumbers.{IsOrdered, numbers_of, AreOrdered, LosesNone, Thins, ThinsEach}
 use Rattle.ob_waits.proofs.NumberLaws.{thins_both}
 
 thins_changed : (waits : List (Option Wait)) (lists : List (List ℕ)) (k : ℕ) (new : List ℕ)

@@ -5,7 +5,7 @@ use Rattle.std.proofs.lemmas.List.{get_or-set_same, get_or-set_other}
 use Rattle.std.proofs.lemmas.Bool.{cases_eq}
 use Rattle.ob_body.specs.declared.body.Body.{Body}
 use Rattle.ob_waits.specs.declared.wait.Wait.{Wait}
-use Rattle.ob_waits.specs.Rules.{WaitWaitable, thread_of, IsKept, WaitHasRoom, WaitsHaveRoom, Fits}
+use Rattle.ob_waits.specs.Rules.{WaitWaitable, thread_of, WaitsInvariant, WaitHasRoom, WaitsHaveRoom, Fits}
 use Rattle.ob_waits.specs.Waits.{is_code, is_ready, Scene, answered_wait, effect, passed, settled, is_pending, names_slot}
 use Rattle.ob_waits.proofs.Settling.{Answers, answers, ready_within, RoomKept, settled_by_effects}
 
@@ -50,11 +50,11 @@ pub passed_fades : (ns : List ℕ) (scene : Scene) → Fade scene.waits (passed 
 passed_fades [] scene = fade_none scene.waits
 passed_fades (n ∷ ns) scene = search (arith, effect_fades, passed_fades ns (effect scene n), passed_fades ns scene)
 
-pub kept_faded : (old new : List (Option Wait)) → Fade old new → IsKept old → IsKept new
+pub kept_faded : (old new : List (Option Wait)) → Fade old new → WaitsInvariant old → WaitsInvariant new
 kept_faded old new f k = search arith
 
 pub effect_kept : (scene : Scene) (n : ℕ) → is_ready scene.objects.bodies (get_or scene.waits n None) ≡ true
-    → IsKept scene.waits → IsKept (effect scene n).waits
+    → WaitsInvariant scene.waits → WaitsInvariant (effect scene n).waits
 effect_kept scene n ready k = search (arith, effect_fades, kept_faded)
 
 -- an effect leaves the room of the other threads, and the waits that are pending are theirs
@@ -65,7 +65,7 @@ room_other limit u bodies after (Some w) kept other room =
     search arith
 
 pub effect_room : (limit : ℕ) (scene : Scene) (n : ℕ) → is_ready scene.objects.bodies (get_or scene.waits n None) ≡ true
-    → IsKept scene.waits → WaitsHaveRoom limit scene.objects.bodies scene.waits
+    → WaitsInvariant scene.waits → WaitsHaveRoom limit scene.objects.bodies scene.waits
     → WaitsHaveRoom limit (effect scene n).objects.bodies (effect scene n).waits
 effect_room limit scene n ready k r = record {
   each = λ m. elim (cases_eq m n) [

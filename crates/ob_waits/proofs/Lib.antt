@@ -3,11 +3,11 @@ pub mod EachSlot
 pub mod Settling
 pub mod ListedLaws
 pub mod PlaceLaws
-pub mod SeatLaws
+pub mod ByThreadLaws
 pub mod Keeping
 pub mod NumberLaws
 pub mod IndexLaws
-pub mod RosterLaws
+pub mod PendingIndexLaws
 pub mod TrackedLaws
 pub mod BlockLaws
 pub mod AddedLaws

@@ -6,10 +6,10 @@ use Rattle.std.proofs.lemmas.Bool.{cases_lt, false_from_ne_true}
 use Rattle.pin_core.specs.declared.id.Id.{Id}
 use Rattle.least.specs.From.{IsAtMost}
 use Rattle.std.proofs.lemmas.List.Folds.{list_any_at}
-use Rattle.ob_waits.specs.Numbers.{IsNext, IsNextOf, numbers_of}
-use Rattle.ob_waits.specs.Objects.{slot_signaled}
+use Rattle.ob_waits.specs.RisingNumbers.{IsNext, IsNextOf, numbers_of}
+use Rattle.ob_waits.specs.CountedBodies.{slot_signaled}
 use Rattle.ob_waits.specs.Rules.{Within, IsRising, IsReadyAtOne, IsReadyBy, IsSettled}
-use Rattle.ob_waits.specs.Roster.{AreIndexed}
+use Rattle.ob_waits.specs.PendingIndex.{AreIndexed}
 use Rattle.ob_waits.specs.Waits.{nowhere, Scene, has_slot, ids_of, is_ready, names_slot, passed, settled}
 use Rattle.ob_waits.proofs.Keeping.{passed_fades}
 use Rattle.ob_waits.proofs.Settling.{ready_pending}

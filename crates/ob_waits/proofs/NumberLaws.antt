@@ -6,7 +6,7 @@ use Rattle.std.proofs.lemmas.List.{drop-set, drop-take, drop_more, get_or-set_ot
 use Rattle.std.proofs.lemmas.Bool.{cases_lt}
 use Rattle.ob_waits.specs.declared.wait.Wait.{Wait}
 use Rattle.ob_waits.specs.Rules.{Within, IsRising}
-use Rattle.ob_waits.specs.Numbers.{IsOrdered, HasAll, ends_with, has_pending, Thins}
+use Rattle.ob_waits.specs.RisingNumbers.{IsOrdered, HasAll, ends_with, has_pending, Thins}
 use Rattle.ob_waits.specs.Waits.{is_pending}
 
 pub within_left : (n m : ℕ) (ns : List ℕ) → Within n ns → Within n (ns ++ m ∷ [])

@@ -9,9 +9,9 @@ use Rattle.std.proofs.lemmas.Bool.{cases_lt, true_from_ne_false}
 use Rattle.pin_core.specs.declared.id.Id.{Id}
 use Rattle.ob_body.specs.declared.body.Body.{Body}
 use Rattle.ob_waits.specs.declared.wait.Wait.{Wait}
-use Rattle.ob_waits.specs.Numbers.{numbers_of}
-use Rattle.ob_waits.specs.Objects.{Objects, slot_signaled}
-use Rattle.ob_waits.specs.Roster.{AreIndexed}
+use Rattle.ob_waits.specs.RisingNumbers.{numbers_of}
+use Rattle.ob_waits.specs.CountedBodies.{CountedBodies, slot_signaled}
+use Rattle.ob_waits.specs.PendingIndex.{AreIndexed}
 use Rattle.ob_waits.specs.Rules.{Covers, IsReadyAt, IsReadyBy, IsRising, IsSettled, IsSpent, thread_of}
 use Rattle.ob_waits.specs.Waits.{nowhere, Scene, is_ready, is_pending, ids_of, first_ready, effect, passed, settled, settled_within}
 use Rattle.ob_waits.proofs.Settling.{pending_count, ready_within, ready_counted, ready_where, fewer, was_ready, answers, settled_at_end, settled_none, settled_same, settled_first, first_is}
@@ -119,11 +119,12 @@ module _ (changed : ℕ → Bool) (bodies : List (Option Body)) (ws : List (Opti
   settled_spent spent = search (arith, unready)
 
 -- the lists have the numbers of all waits that are ready
-pub covers_order : (objects : Objects) (ws : List (Option Wait)) (order : List ℕ) (index : List (List ℕ))
+pub covers_order : (objects : CountedBodies) (ws : List (Option Wait)) (order : List ℕ) (index : List (List ℕ))
     → AreIndexed ws order index → Covers order (record { objects = objects; waits = ws })
 covers_order objects ws order index a = search arith
 
-pub covers_slot : (objects : Objects) (slot : ℕ) (ws : List (Option Wait)) (order : List ℕ) (index : List (List ℕ))
+pub covers_slot : (objects : CountedBodies) (slot : ℕ) (ws : List (Option Wait)) (order : List ℕ)
+    (index : List (List ℕ))
     → IsReadyAt slot objects.bodies ws → AreIndexed ws order index
     → Covers (numbers_of index slot) (record { objects = objects; waits = ws })
 covers_slot objects slot ws order index at a = record {

@@ -1,4 +1,4 @@
--- What the places and the others have at each number, and how that changes.
+-- What the places and the overflow have at each number, and how that changes.
 use Rattle.ob_codec.proofs.AtPlace.{at_place}
 use Rattle.std.proofs.Common.{◌≡◌, ℕ, ◌<◌, ◌≤◌, ◌+◌, ◌*◌, ◌-◌, ◌%◌, ◌^◌, List, Option, Some, None, length, refl, ap, ◌∙◌, sym, arith, get_or, set, true, false, cond, inl, inr, eqb}
 use Rattle.std.specs.Option.{is_some}
@@ -7,10 +7,10 @@ use Rattle.std.proofs.lemmas.Bool.{cases_eq, cond-false, cond-true, eq-eqb, ne_e
 use Rattle.std.proofs.lemmas.Nat.{and_mask, and_le_r, pow_pos, pow-add}
 use Rattle.std.proofs.lemmas.Option.{same_Some}
 use Rattle.std.proofs.Math.Pow.{mod-mod-pow}
-use Rattle.ob_waits.specs.declared.finder.Waiter.{Waiter}
-use Rattle.ob_waits.specs.Seats.{home, thread_or, thread_in, IsPlaced, AreApart, IsSpread}
+use Rattle.ob_waits.specs.declared.number_map.NumberedThread.{NumberedThread}
+use Rattle.ob_waits.specs.ByThread.{home, thread_or, thread_in, IsPlaced, AreApart, IsSpread}
 
-pub thread_or_none : (n : ℕ) (p : Option Waiter) (other : Option ℕ) → thread_or n p None ≡ None
+pub thread_or_none : (n : ℕ) (p : Option NumberedThread) (other : Option ℕ) → thread_or n p None ≡ None
     → thread_or n p other ≡ other
 thread_or_none n None other is = refl
 thread_or_none n (Some e) other is = search arith
@@ -27,22 +27,22 @@ pub set_read : {A : Type 0} (ps : List (Option A)) (k : ℕ) (y : Option A) → 
     → get_or (set ps k y) i None ≡ cond (eqb k i) y (get_or ps i None)
 set_read ps k y lt i = search (arith, get_or-set_other, get_or-set_same)
 
-module _ (mask : ℕ) (ps qs : List (Option Waiter)) (f g : ℕ → Option ℕ) where
+module _ (mask : ℕ) (ps qs : List (Option NumberedThread)) (f g : ℕ → Option ℕ) where
   -- places that are as they were
   pub same_threads : ((i : ℕ) → get_or qs i None ≡ get_or ps i None) → ((n : ℕ) → g n ≡ f n) → (n : ℕ)
       → thread_in mask qs g n ≡ thread_in mask ps f n
-  same_threads places others n = search arith
+  same_threads places overflow n = search arith
 
   pub same_placed : ((i : ℕ) → get_or qs i None ≡ get_or ps i None) → ((n : ℕ) → g n ≡ f n) → IsPlaced mask ps f
       → IsPlaced mask qs g
-  same_placed places others placed = record {
+  same_placed places overflow placed = record {
     each = λ i entry is. let old = placed.each i entry (sym (places i) ∙ is)
-        in (old.0, others entry.number ∙ old.1);
+        in (old.0, overflow entry.number ∙ old.1);
   }
 
--- a new number at its place, and what stood there among the others
-module _ (mask : ℕ) (ps qs : List (Option Waiter)) (f g : ℕ
-    → Option ℕ) (e : Waiter) (placed : IsPlaced mask ps f) (new : (i : ℕ)
+-- a new number at its place, and what stood there goes to the overflow
+module _ (mask : ℕ) (ps qs : List (Option NumberedThread)) (f g : ℕ
+    → Option ℕ) (e : NumberedThread) (placed : IsPlaced mask ps f) (new : (i : ℕ)
     → get_or qs i None ≡ cond (eqb (home mask e.number) i) (Some e) (get_or ps i None)) (moved : (q : ℕ)
     → g q ≡ thread_or q (get_or ps (home mask e.number) None) (f q)) where
   abbrev at : ℕ
@@ -54,14 +54,14 @@ module _ (mask : ℕ) (ps qs : List (Option Waiter)) (f g : ℕ
   pub inserted_placed : thread_in mask ps f e.number ≡ None → IsPlaced mask qs g
   inserted_placed free = record { each = there }
     where
-      there : (i : ℕ) (entry : Waiter) → get_or qs i None ≡ Some entry
+      there : (i : ℕ) (entry : NumberedThread) → get_or qs i None ≡ Some entry
           → (home mask entry.number ≡ i) × (g entry.number ≡ None)
       there i entry is = elim (cases_eq at i) [
         | inl same ↦
             let it : Some e ≡ Some entry = search arith in
             let own : e ≡ entry = same_Some e entry it in (
-              sym (ap (λ (x : Waiter). home mask x.number) own) ∙ same,
-              ap (λ (x : Waiter). g x.number) (sym own)
+              sym (ap (λ (x : NumberedThread). home mask x.number) own) ∙ same,
+              ap (λ (x : NumberedThread). g x.number) (sym own)
                   ∙ moved e.number ∙ free,
             )
         | inr apart ↦
@@ -71,12 +71,12 @@ module _ (mask : ℕ) (ps qs : List (Option Waiter)) (f g : ℕ
       ]
 
 -- a number is put at its place, of places of which there may be more
-module _ (mask : ℕ) (ps more : List (Option Waiter)) (e : Waiter) (x y : Option Waiter) (room : mask < length more)
+module _ (mask : ℕ) (ps more : List (Option NumberedThread)) (e : NumberedThread) (x y : Option NumberedThread) (room : mask < length more)
     (same : (i : ℕ) → get_or more i None ≡ get_or ps i None) (is : x ≡ get_or more (home mask e.number) x) where
   place : home mask e.number < length more
   place = let le = and_le_r e.number mask in omega arith
 
-  abbrev after : List (Option Waiter)
+  abbrev after : List (Option NumberedThread)
   after = set more (home mask e.number) y
 
   module _ (f g : ℕ → Option ℕ) (placed : IsPlaced mask ps f) (new : y ≡ Some e) (moved : (n : ℕ)
@@ -87,11 +87,11 @@ module _ (mask : ℕ) (ps more : List (Option Waiter)) (e : Waiter) (x y : Optio
     written : (i : ℕ) → get_or after i None ≡ cond (eqb (home mask e.number) i) (Some e) (get_or more i None)
     written i = search (arith, set_read, and_le_r)
 
-    others : (q : ℕ) → g q ≡ thread_or q (get_or more (home mask e.number) None) (f q)
-    others q = search (arith, and_le_r, get_or_default)
+    overflow : (q : ℕ) → g q ≡ thread_or q (get_or more (home mask e.number) None) (f q)
+    overflow q = search (arith, and_le_r, get_or_default)
 
     pub put_threads : (q : ℕ) → thread_in mask after g q ≡ cond (eqb e.number q) (Some e.thread) (thread_in mask ps f q)
-    put_threads q = inserted mask more after f g e old written others q
+    put_threads q = inserted mask more after f g e old written overflow q
         ∙ ap (cond (eqb e.number q) (Some e.thread)) (search arith)
 
     pub put_placed : thread_in mask ps f e.number ≡ None → IsPlaced mask after g
@@ -102,8 +102,8 @@ module _ (mask : ℕ) (ps more : List (Option Waiter)) (e : Waiter) (x y : Optio
   unput kept i = search (arith, set_read, and_le_r, get_or_default)
 
 -- a number leaves its place
-module _ (mask : ℕ) (ps qs : List (Option Waiter)) (f : ℕ
-    → Option ℕ) (n : ℕ) (e : Waiter) (placed : IsPlaced mask ps f) (own : e.number ≡ n)
+module _ (mask : ℕ) (ps qs : List (Option NumberedThread)) (f : ℕ
+    → Option ℕ) (n : ℕ) (e : NumberedThread) (placed : IsPlaced mask ps f) (own : e.number ≡ n)
     (is : get_or ps (home mask n) None ≡ Some e) (new : (i : ℕ)
     → get_or qs i None ≡ cond (eqb (home mask n) i) None (get_or ps i None)) where
   pub left_there : (q : ℕ) → thread_in mask qs f q ≡ cond (eqb n q) None (thread_in mask ps f q)
@@ -117,8 +117,8 @@ module _ (mask : ℕ) (ps qs : List (Option Waiter)) (f : ℕ
     ];
   }
 
--- a number leaves the others
-module _ (mask : ℕ) (ps : List (Option Waiter)) (f g : ℕ → Option ℕ) (n : ℕ) (new : (q : ℕ)
+-- a number leaves the overflow
+module _ (mask : ℕ) (ps : List (Option NumberedThread)) (f g : ℕ → Option ℕ) (n : ℕ) (new : (q : ℕ)
     → g q ≡ cond (eqb n q) None (f q)) where
   pub left_others : thread_or n (get_or ps (home mask n) None) None ≡ None → (q : ℕ)
       → thread_in mask ps g q ≡ cond (eqb n q) None (thread_in mask ps f q)
@@ -133,7 +133,7 @@ module _ (mask : ℕ) (ps : List (Option Waiter)) (f g : ℕ → Option ℕ) (n 
 more_bits : (bits : ℕ) → (2 ^ bits - 1) * 2 + 1 ≡ 2 ^ (1 + bits) - 1
 more_bits bits = search (arith, pow-add, pow_pos)
 
-module _ (mask : ℕ) (ps : List (Option Waiter)) (f : ℕ
+module _ (mask : ℕ) (ps : List (Option NumberedThread)) (f : ℕ
     → Option ℕ) (bits : ℕ) (placed : IsPlaced mask ps f) (is : mask ≡ 2 ^ bits - 1) where
   abbrev wide : ℕ
   wide = mask * 2 + 1
@@ -150,11 +150,11 @@ module _ (mask : ℕ) (ps : List (Option Waiter)) (f : ℕ
   }
 
   -- what is found is the same
-  pub spread_threads : (qs : List (Option Waiter)) → IsSpread wide ps qs → (q : ℕ)
+  pub spread_threads : (qs : List (Option NumberedThread)) → IsSpread wide ps qs → (q : ℕ)
       → thread_in wide qs f q ≡ thread_in mask ps f q
   spread_threads qs spread q = by (get_or ps (home mask q) None) refl
     where
-      new : (p : Option Waiter) → get_or qs (home wide q) None ≡ p
+      new : (p : Option NumberedThread) → get_or qs (home wide q) None ≡ p
           → (thread_or q (get_or ps (home mask q) None) (f q) ≡ f q)
           → thread_or q p (f q) ≡ f q
       new None stands was = refl
@@ -167,24 +167,24 @@ module _ (mask : ℕ) (ps : List (Option Waiter)) (f : ℕ
         | inr apart ↦ unlike e.number q (Some e.thread) (f q) apart
       ]
 
-      by : (p : Option Waiter) → get_or ps (home mask q) None ≡ p → thread_in wide qs f q ≡ thread_or q p (f q)
+      by : (p : Option NumberedThread) → get_or ps (home mask q) None ≡ p → thread_in wide qs f q ≡ thread_or q p (f q)
       by None stands = search arith
       by (Some e) stands = search arith
 
-  pub spread_placed : (qs : List (Option Waiter)) → IsSpread wide ps qs → IsPlaced wide qs f
+  pub spread_placed : (qs : List (Option NumberedThread)) → IsSpread wide ps qs → IsPlaced wide qs f
   spread_placed qs spread = record {
     each = λ i e at. let from = spread.only i e at in
         (from.0, (placed.each from.1.0 e from.1.1).1);
   }
 
 -- the first so many of some places are spread
-pub record Spreads (count mask : ℕ) (from to : List (Option Waiter)) : Type 0 where
-  pub all : (i : ℕ) (entry : Waiter) → i < count → get_or from i None ≡ Some entry
+pub record Spreads (count mask : ℕ) (from to : List (Option NumberedThread)) : Type 0 where
+  pub all : (i : ℕ) (entry : NumberedThread) → i < count → get_or from i None ≡ Some entry
       → get_or to (home mask entry.number) None ≡ Some entry
-  pub only : (i : ℕ) (entry : Waiter) → get_or to i None ≡ Some entry
+  pub only : (i : ℕ) (entry : NumberedThread) → get_or to i None ≡ Some entry
       → (home mask entry.number ≡ i) × ((j : ℕ) × (j < count) × (get_or from j None ≡ Some entry))
 
-module _ (mask : ℕ) (from to : List (Option Waiter)) where
+module _ (mask : ℕ) (from to : List (Option NumberedThread)) where
   pub spreads_all : (count : ℕ) → length from ≤ count → Spreads count mask from to → IsSpread mask from to
   spreads_all count le s = record {
     all = search (arith, get_or_past);
@@ -198,34 +198,34 @@ module _ (mask : ℕ) (from to : List (Option Waiter)) where
       only = λ j e is. let o = s.only j e is in (o.0, (o.1.0, (let lt = o.1.1 in omega arith), o.1.2));
     }
 
-    pub spreads_one : (e : Waiter) → AreApart mask from → mask < length to → get_or from i None ≡ Some e
+    pub spreads_one : (e : NumberedThread) → AreApart mask from → mask < length to → get_or from i None ≡ Some e
         → Spreads (i + 1) mask from (set to (home mask e.number) (Some e))
     spreads_one e apart room is = record {
       all = λ j x lt at. elim (cases_eq j i) [
         | inl same ↦ let it : e ≡ x = search arith in
-            ap (λ (y : Waiter). get_or after (home mask y.number) None) (sym it)
+            ap (λ (y : NumberedThread). get_or after (home mask y.number) None) (sym it)
             ∙ get_or-set_same to (home mask e.number) (Some e) None (fits e) ∙ ap Some it
         | inr other ↦ search (arith, get_or-set_other)
       ];
       only = λ k x at. elim (cases_eq k (home mask e.number)) [
         | inl same ↦ let it : e ≡ x = grind (arith, at_place) in
-            (sym (ap (λ (y : Waiter). home mask y.number) it) ∙ sym same, (i, omega arith, is ∙ ap Some it))
+            (sym (ap (λ (y : NumberedThread). home mask y.number) it) ∙ sym same, (i, omega arith, is ∙ ap Some it))
         | inr other ↦ let o = s.only k x (sym (get_or-set_other to (home mask e.number) k (Some e) None other) ∙ at) in
             (o.0, (o.1.0, (let lt = o.1.1 in omega arith), o.1.2))
       ];
     }
       where
-        after : List (Option Waiter)
+        after : List (Option NumberedThread)
         after = set to (home mask e.number) (Some e)
 
-        fits : (x : Waiter) → home mask x.number < length to
+        fits : (x : NumberedThread) → home mask x.number < length to
         fits x = search (arith, and_le_r)
 
 -- a number stands at a place
-pub stands_there : (n : ℕ) (p : Option Waiter) → is_some (thread_or n p None) ≡ true
-    → (e : Waiter) × (p ≡ Some e) × (e.number ≡ n)
+pub stands_there : (n : ℕ) (p : Option NumberedThread) → is_some (thread_or n p None) ≡ true
+    → (e : NumberedThread) × (p ≡ Some e) × (e.number ≡ n)
 stands_there n None some = absurd (cc (some))
 stands_there n (Some e) some = search arith
 
-pub stands_none : (n : ℕ) (p : Option Waiter) → is_some (thread_or n p None) ≡ false → thread_or n p None ≡ None
+pub stands_none : (n : ℕ) (p : Option NumberedThread) → is_some (thread_or n p None) ≡ false → thread_or n p None ≡ None
 stands_none n p none = search arith

@@ -7,7 +7,7 @@ use Rattle.pin_core.specs.declared.id.Id.{Id}
 use Rattle.ob_waits.specs.declared.wait.Wait.{Wait}
 use Rattle.ob_waits.specs.declared.wait.State.{State}
 use Rattle.ob_waits.specs.declared.wait.State.TheVariants.{Pending, Answered}
-use Rattle.ob_waits.specs.Objects.{Objects, blocks_left, without_block, without_blocks}
+use Rattle.ob_waits.specs.CountedBodies.{CountedBodies, blocks_left, without_block, without_blocks}
 use Rattle.ob_waits.specs.Waits.{slot_places, slot_blocks, Scene, effect_at, effect_of, settled}
 use Rattle.ob_waits.specs.Ends.{HasBlocks}
 use Rattle.ob_waits.proofs.Settling.{settled_by_effects, ready_within}
@@ -16,7 +16,7 @@ pub left_one : (blocks : List ℕ) (id : Id) (k : ℕ)
     → get_or (blocks_left blocks id) k 0 ≡ get_or blocks k 0 - cond (id.slot == k) 1 0
 left_one blocks id k = search (arith, get_or-set_other, get_or-set_same, get_or_past, length-set)
 
-pub left_all : (ids : List Id) (objects : Objects) (k : ℕ)
+pub left_all : (ids : List Id) (objects : CountedBodies) (k : ℕ)
     → get_or (without_blocks objects ids).blocks k 0 ≡ get_or objects.blocks k 0 - slot_places k ids
 left_all [] objects k = omega arith
 left_all (id ∷ ids) objects k =

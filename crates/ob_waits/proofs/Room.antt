@@ -7,7 +7,7 @@ use Rattle.ob_body.specs.declared.body.Body.{Body}
 use Rattle.pin_core.specs.declared.id.Id.{Id}
 use Rattle.ob_waits.specs.declared.wait.Mode.{Mode}
 use Rattle.ob_waits.specs.declared.wait.Wait.{Wait}
-use Rattle.ob_waits.specs.Objects.{slot_room}
+use Rattle.ob_waits.specs.CountedBodies.{slot_room}
 use Rattle.ob_waits.specs.Rules.{HasRoom, WaitHasRoom, WaitsHaveRoom}
 use Rattle.ob_waits.specs.Waits.{new_wait, nowhere, ids_of, unless_of, is_waits_of, number_of, bodies_after, answered, slot_blocks}
 use Rattle.ob_waits.proofs.Settling.{room_after}

@@ -2,21 +2,21 @@
 use Rattle.std.proofs.Common.{arith, ◌≡◌, ℕ, List, Option, sym, subst}
 use Rattle.ob_waits.specs.declared.wait.Wait.{Wait}
 use Rattle.ob_waits.specs.Deadlines.{AreTimely}
-use Rattle.ob_waits.specs.Objects.{Objects}
-use Rattle.ob_waits.specs.Roster.{Roster, Leaves, IsTracked}
-use Rattle.ob_waits.specs.Rules.{IsKept, IsSettled, WaitsHaveRoom}
+use Rattle.ob_waits.specs.CountedBodies.{CountedBodies}
+use Rattle.ob_waits.specs.PendingIndex.{PendingIndex, ThinsIndex, IsTracked}
+use Rattle.ob_waits.specs.Rules.{WaitsInvariant, IsSettled, WaitsHaveRoom}
 use Rattle.ob_waits.specs.Waits.{Scene, settled}
 use Rattle.ob_waits.proofs.Settling.{settled_is_settled}
 use Rattle.ob_waits.proofs.Keeping.{Fade, settled_fits, settled_fades}
 use Rattle.ob_waits.proofs.TrackedLaws.{tracked_faded, tracked_left}
 
-module _ (before after : Objects) (ws ws' : List (Option Wait))
+module _ (before after : CountedBodies) (ws ws' : List (Option Wait))
     (value : ◌≡◌ {A = Scene} (record { objects = after; waits = ws' })
     (settled (record { objects = before; waits = ws }))) where
   abbrev first : Scene
   first = record { objects = before; waits = ws }
 
-  pub kept_after : {limit clock : ℕ} {r r' : Roster} {dues : List (Option ℕ)} → Leaves ws' r r'
+  pub kept_after : {limit clock : ℕ} {r r' : PendingIndex} {dues : List (Option ℕ)} → ThinsIndex ws' r r'
       → IsTracked limit ws r × AreTimely clock ws dues → IsTracked limit ws' r' × AreTimely clock ws' dues
   kept_after {limit = limit} {clock = clock} {r = r} {r' = r'} {dues = dues} leaves k =
       let fade : Fade ws ws' = subst (λ (s : Scene). Fade ws s.waits) (sym value) (settled_fades first) in (
@@ -27,7 +27,7 @@ module _ (before after : Objects) (ws ws' : List (Option Wait))
   pub settled_after : IsSettled after.bodies ws'
   settled_after = subst (λ (s : Scene). IsSettled s.objects.bodies s.waits) (sym value) (settled_is_settled first)
 
-  pub room_settled : {seen : List (Option Wait)} (limit : ℕ) → IsKept ws → ws ≡ seen
+  pub room_settled : {seen : List (Option Wait)} (limit : ℕ) → WaitsInvariant ws → ws ≡ seen
       → WaitsHaveRoom limit before.bodies seen
       → WaitsHaveRoom limit after.bodies ws'
   room_settled limit kept same room = subst (λ (s : Scene). WaitsHaveRoom limit s.objects.bodies s.waits) (sym value)

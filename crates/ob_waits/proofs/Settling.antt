@@ -13,7 +13,7 @@ use Rattle.ob_waits.specs.declared.wait.Mode.TheVariants.{Any, All}
 use Rattle.ob_waits.specs.declared.wait.Wait.{Wait}
 use Rattle.ob_waits.specs.declared.wait.State.{State}
 use Rattle.ob_waits.specs.declared.wait.State.TheVariants.{Pending, Answered}
-use Rattle.ob_waits.specs.Objects.{slot_signaled, slot_room, slot_acquired}
+use Rattle.ob_waits.specs.CountedBodies.{slot_signaled, slot_room, slot_acquired}
 use Rattle.ob_waits.specs.Rules.{IsSettled, WaitWaitable, thread_of}
 use Rattle.ob_waits.specs.Waits.{nowhere, is_code, is_signaled, list_ready, state_ready, is_ready, first_ready, Scene, bodies_after, code_of, answered_wait, effect, effect_of, effect_at, settled_within, settled, ids_of, is_pending, state_ids}
 use Rattle.ob_waits.proofs.EachSlot.{slots-satisfied, slots-taken}

@@ -2,12 +2,12 @@
 use Rattle.std.proofs.Common.{◌≡◌, ℕ, zero, suc, ◌+◌, ◌-◌, ◌≤◌, List, [], ◌∷◌, ◌++◌, length, replicate, Option, None, refl, arith, get_or}
 use Rattle.std.proofs.lemmas.List.{length-append, length-replicate, ext_get_or}
 use Rattle.ob_waits.specs.declared.wait.Wait.{Wait}
-use Rattle.ob_waits.specs.Answers.{AreTold, Untaken}
+use Rattle.ob_waits.specs.Answers.{AreTold, AnsweredNumbers}
 use Rattle.ob_waits.specs.Deadlines.{AreTimely}
 use Rattle.ob_waits.specs.Listed.{IsSparse, listed}
-use Rattle.ob_waits.specs.Numbers.{IsOrdered}
-use Rattle.ob_waits.specs.Roster.{IsTracked, Roster}
-use Rattle.ob_waits.specs.Seats.{AreSeated}
+use Rattle.ob_waits.specs.RisingNumbers.{IsOrdered}
+use Rattle.ob_waits.specs.PendingIndex.{IsTracked, PendingIndex}
+use Rattle.ob_waits.specs.ByThread.{AreByThread}
 use Rattle.ob_waits.specs.Waits.{skipped}
 use Rattle.ob_waits.proofs.ListedLaws.{length_listed, value_at}
 
@@ -34,9 +34,9 @@ listed_skipped given last f le s = ext_get_or None (listed (suc last) f) (skippe
     (search (arith, length-skipped, length_listed))
     (search (arith, get_skipped, value_at))
 
-pub seated_skipped : (given last : ℕ) (seats : _) (threads : ℕ → Option ℕ) → given ≤ last
-    → AreSeated given seats threads → AreSeated last seats threads
-seated_skipped given last seats threads le s = record {
+pub by_thread_skipped : (given last : ℕ) (by_thread : _) (threads : ℕ → Option ℕ) → given ≤ last
+    → AreByThread given by_thread threads → AreByThread last by_thread threads
+by_thread_skipped given last by_thread threads le s = record {
   each = λ t held is. let old = s.each t held is in
       record {
         own = old.own;
@@ -55,18 +55,19 @@ module _ (last : ℕ) (ws : List (Option Wait)) where
       → IsOrdered (length (skipped last ws)) numbers
   ordered le numbers o = search (arith, length-skipped)
 
-  pub tracked_skipped : (limit : ℕ) (roster : Roster) → length ws ≤ last + 1 → last ≤ limit → IsTracked limit ws roster
-      → IsTracked limit (skipped last ws) roster
-  tracked_skipped limit roster le most t = search (arith, length-skipped, at, ordered)
+  pub tracked_skipped : (limit : ℕ) (pending_index : PendingIndex) → length ws ≤ last + 1 → last ≤ limit
+      → IsTracked limit ws pending_index
+      → IsTracked limit (skipped last ws) pending_index
+  tracked_skipped limit pending_index le most t = search (arith, length-skipped, at, ordered)
 
   pub timely_skipped : (clock : ℕ) (dues : List (Option ℕ)) → AreTimely clock ws dues
       → AreTimely clock (skipped last ws) dues
   timely_skipped clock dues a = search (arith, get_skipped)
 
-  pub told_skipped : (u : Untaken) → AreTold ws u → AreTold (skipped last ws) u
+  pub told_skipped : (u : AnsweredNumbers) → AreTold ws u → AreTold (skipped last ws) u
   told_skipped u told = record {
     rising = told.rising;
-    late = λ t n h. search (arith, get_skipped, told.late);
+    out_of_order = λ t n h. search (arith, get_skipped, told.out_of_order);
     each = search (arith, get_skipped);
     placed = search (arith, get_skipped);
   }

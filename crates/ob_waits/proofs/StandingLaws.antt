@@ -7,7 +7,7 @@ use Rattle.std.proofs.lemmas.List.Folds.{list_any_at}
 use Rattle.pin_core.specs.declared.id.Id.{Id}
 use Rattle.ob_waits.specs.Deadlines.{AreTimely, deadline_of}
 use Rattle.ob_waits.specs.Form.{IsAfter}
-use Rattle.ob_waits.specs.Roster.{IsTracked, Roster}
+use Rattle.ob_waits.specs.PendingIndex.{IsTracked, PendingIndex}
 use Rattle.ob_waits.specs.Rules.{IsWaitable, WaitWaitable, thread_of}
 use Rattle.ob_waits.specs.Spelling.{can_be, may_list, may_stand, names_twice, one_each}
 use Rattle.ob_waits.specs.Waits.{has_slot, is_waits_of, nowhere}
@@ -84,7 +84,7 @@ ones (Some w ∷ ws) alone = and_from (not (list_any (is_waits_of w.thread) ws))
     (ones ws (λ n m t p q. let e = alone (suc n) (suc m) t p q in omega arith))
 
 -- The theorem: the waits that are kept from call to call can be.
-pub kept_can_be : (limit clock : ℕ) (ws : List (Option Wait)) (roster : Roster) (dues : List (Option ℕ))
-    → IsTracked limit ws roster → AreTimely clock ws dues → can_be limit clock ws ≡ true
-kept_can_be limit clock ws roster dues tracked timely =
+pub kept_can_be : (limit clock : ℕ) (ws : List (Option Wait)) (pending_index : PendingIndex) (dues : List (Option ℕ))
+    → IsTracked limit ws pending_index → AreTimely clock ws dues → can_be limit clock ws ≡ true
+kept_can_be limit clock ws pending_index dues tracked timely =
     search (arith, standing, all-stand, ones, le-leb, timely.ahead.each, tracked.kept.each, tracked.zero_has_none)

@@ -8,7 +8,7 @@ use Rattle.ob_waits.specs.declared.wait.Mode.{Mode}
 use Rattle.ob_waits.specs.declared.wait.Wait.{Wait}
 use Rattle.ob_waits.specs.declared.wait.State.{State}
 use Rattle.ob_waits.specs.declared.wait.State.TheVariants.{Pending, Answered}
-use Rattle.ob_waits.specs.Objects.{slot_acquired}
+use Rattle.ob_waits.specs.CountedBodies.{slot_acquired}
 use Rattle.ob_waits.specs.Form.{slot_form, slot_owner, HasWait}
 use Rattle.ob_waits.specs.Rules.{thread_of}
 use Rattle.ob_waits.specs.Waits.{bodies_after, is_pending, Scene, effect_of, effect_at, settled}

@@ -10,7 +10,7 @@ use Rattle.ob_body.specs.declared.body.Body.{Body}
 use Rattle.ob_waits.specs.declared.wait.Wait.{Wait}
 use Rattle.ob_waits.specs.Deadlines.{is_overdue, timed_out}
 use Rattle.ob_waits.specs.Ends.{ended, slot_ended}
-use Rattle.ob_waits.specs.Objects.{Objects}
+use Rattle.ob_waits.specs.CountedBodies.{CountedBodies}
 use Rattle.ob_waits.specs.Rules.{IsSettled}
 use Rattle.ob_waits.specs.Waits.{answered, blocks_among, is_ready, slot_blocks}
 use Rattle.ob_waits.proofs.EndsLast.{ended_at, is_ended, length-ended}
@@ -69,11 +69,11 @@ slot_twice : (handles blocks more : ℕ) (x : Option Body) → blocks ≤ more
     → slot_ended handles blocks x ≡ slot_ended handles blocks (slot_ended handles more x)
 slot_twice handles blocks more x le = search arith
 
-pub ended_twice : (o : Objects) (more : List ℕ) → ((k : ℕ) → get_or o.blocks k 0 ≤ get_or more k 0)
+pub ended_twice : (o : CountedBodies) (more : List ℕ) → ((k : ℕ) → get_or o.blocks k 0 ≤ get_or more k 0)
     → ended (record o { bodies = (ended (record o { blocks = more })).bodies }) ≡ ended o
 ended_twice o more le =
-    let first : Objects = record o { blocks = more } in
-    let o' : Objects = record o { bodies = (ended first).bodies } in
+    let first : CountedBodies = record o { blocks = more } in
+    let o' : CountedBodies = record o { bodies = (ended first).bodies } in
     let is : (ended o).bodies ≡ (ended o').bodies =
     search (arith, slot_twice, ended_at, is_ended, length-ended) in
     search arith

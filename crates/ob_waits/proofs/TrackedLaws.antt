@@ -8,9 +8,9 @@ use Rattle.std.proofs.lemmas.List.Sums.{position_or_len_is, fails_before_first}
 use Rattle.ob_waits.specs.declared.wait.Wait.{Wait}
 use Rattle.ob_waits.specs.Rules.{thread_of}
 use Rattle.ob_waits.specs.Waits.{is_code, is_pending, is_waits_of, number_of, answered}
-use Rattle.ob_waits.specs.Roster.{Roster, AreIndexed, Leaves, IsTracked}
+use Rattle.ob_waits.specs.PendingIndex.{PendingIndex, AreIndexed, ThinsIndex, IsTracked}
 use Rattle.ob_waits.proofs.Keeping.{Fade}
-use Rattle.ob_waits.proofs.RosterLaws.{right_left}
+use Rattle.ob_waits.proofs.PendingIndexLaws.{right_left}
 
 pub no_wait : (n : ℕ) → get_or {A = Option Wait} (None ∷ []) n None ≡ None
 no_wait zero = refl
@@ -58,11 +58,12 @@ pub lists_faded : (ws ws' : List (Option Wait)) (order : List ℕ) (index : List
     → AreIndexed ws order index → AreIndexed ws' order index
 lists_faded ws ws' order index f a = search arith
 
-pub tracked_faded : (limit : ℕ) (ws ws' : List (Option Wait)) (r : Roster) → Fade ws ws' → IsTracked limit ws r
+pub tracked_faded : (limit : ℕ) (ws ws' : List (Option Wait)) (r : PendingIndex) → Fade ws ws' → IsTracked limit ws r
     → IsTracked limit ws' r
 tracked_faded limit ws ws' r f k = search arith
 
-pub tracked_left : (limit : ℕ) (ws : List (Option Wait)) (r r' : Roster) → Leaves ws r r' → IsTracked limit ws r
+pub tracked_left : (limit : ℕ) (ws : List (Option Wait)) (r r' : PendingIndex) → ThinsIndex ws r r'
+    → IsTracked limit ws r
     → IsTracked limit ws r'
 tracked_left limit ws r r' l k = search (arith, right_left)
 
@@ -71,6 +72,6 @@ pub fade_answered : (ws : List (Option Wait)) (n code : ℕ) → is_code code �
     → is_pending (get_or ws n None) ≡ true → Fade ws (set ws n (answered (get_or ws n None) code))
 fade_answered ws n code coded pending = grind (arith, at_place)
 
-pub tracked_removed : (limit : ℕ) (ws : List (Option Wait)) (r : Roster) (n t : ℕ)
+pub tracked_removed : (limit : ℕ) (ws : List (Option Wait)) (r : PendingIndex) (n t : ℕ)
     → thread_of (get_or ws n None) ≡ Some t → IsTracked limit ws r → IsTracked limit (set ws n None) r
 tracked_removed limit ws r n t own k = grind (arith, at_place)

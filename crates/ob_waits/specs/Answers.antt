@@ -22,26 +22,27 @@ answer_of number (Some wait) = state_answer number wait.thread wait.state
 
 -- numbers that rose as their waits were answered; and for each thread the number of its answered wait, where that one
 -- did not
-pub record Untaken : Type 0 where
-  pub fresh : List ℕ
-  pub late : List (Option ℕ)
+pub record AnsweredNumbers : Type 0 where
+  pub queue : List ℕ
+  pub out_of_order : List (Option ℕ)
 
 -- a wait of the thread, answered
 abbrev pub IsAnswered : ℕ → Option Wait → Type 0
 IsAnswered thread wait = (thread_of wait ≡ Some thread) × (is_answered wait ≡ true)
 
 -- each answered wait, but for that of one number, has its number here; its thread has a place
-pub record AreToldBut (but : Option ℕ) (waits : List (Option Wait)) (untaken : Untaken) : Type 0 where
-  pub rising : IsRising untaken.fresh
-  pub late : (t n : ℕ) → slice_index_or untaken.late t None ≡ Some n → IsAnswered t (slice_index_or waits n None)
+pub record AreToldBut (but : Option ℕ) (waits : List (Option Wait)) (answered_numbers : AnsweredNumbers) : Type 0 where
+  pub rising : IsRising answered_numbers.queue
+  pub out_of_order : (t n : ℕ) → slice_index_or answered_numbers.out_of_order t None ≡ Some n
+      → IsAnswered t (slice_index_or waits n None)
   pub each : (t n : ℕ) → Some n ≢ but → IsAnswered t (slice_index_or waits n None)
-      → Within n untaken.fresh ⊎ (slice_index_or untaken.late t None ≡ Some n)
-  pub placed : (t n : ℕ) → thread_of (slice_index_or waits n None) ≡ Some t → t < length untaken.late
+      → Within n answered_numbers.queue ⊎ (slice_index_or answered_numbers.out_of_order t None ≡ Some n)
+  pub placed : (t n : ℕ) → thread_of (slice_index_or waits n None) ≡ Some t → t < length answered_numbers.out_of_order
 
-abbrev pub AreTold : List (Option Wait) → Untaken → Type 0
-AreTold waits untaken = AreToldBut None waits untaken
+abbrev pub AreTold : List (Option Wait) → AnsweredNumbers → Type 0
+AreTold waits answered_numbers = AreToldBut None waits answered_numbers
 
 -- a list without some numbers, none of them of a wait that is answered
-pub record Drops (waits : List (Option Wait)) (old new : List ℕ) : Type 0 where
+pub record ThinsAnswered (waits : List (Option Wait)) (old new : List ℕ) : Type 0 where
   pub rising : IsRising old → IsRising new
   pub keeps : (k : ℕ) → is_answered (slice_index_or waits k None) ≡ true → Within k old → Within k new

@@ -7,7 +7,7 @@ use Rattle.ob_body.specs.declared.body.Body.{Body}
 use Rattle.ob_waits.specs.declared.wait.Wait.{Wait}
 use Rattle.ob_waits.specs.declared.wait.State.{State}
 use Rattle.ob_waits.specs.declared.wait.State.TheVariants.{Pending, Answered}
-use Rattle.ob_waits.specs.Objects.{Objects, blocks_left}
+use Rattle.ob_waits.specs.CountedBodies.{CountedBodies, blocks_left}
 use Rattle.ob_waits.specs.Waits.{Scene, bodies_after, code_of, answered_wait, first_ready, slot_blocks}
 
 -- each slot counts the places of pending waits that name it
@@ -51,12 +51,12 @@ settled_plainly scene = settled_plainly_within (length scene.waits) scene
 abbrev pub slot_ended : ℕ → ℕ → Option Body → Option Body
 slot_ended handles blocks body = if handles + blocks == 0 then None else body
 
-abbrev pub body_ended : Objects → ℕ → Option Body
+abbrev pub body_ended : CountedBodies → ℕ → Option Body
 body_ended objects k = slot_ended (slice_index_or objects.handles k 0) (slice_index_or objects.blocks k 0)
     (slice_index_or objects.bodies k None)
 
 -- each object to which nothing refers has ended
-abbrev pub ended : Objects → Objects
+abbrev pub ended : CountedBodies → CountedBodies
 ended objects = record objects { bodies = map (body_ended objects) (range_with_len 0 (length objects.bodies)) }
 
 abbrev pub with_ends : Scene → Scene

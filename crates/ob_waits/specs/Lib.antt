@@ -1,10 +1,10 @@
-pub mod Objects
+pub mod CountedBodies
 pub mod Waits
 pub mod Rules
 pub mod Listed
-pub mod Seats
-pub mod Numbers
-pub mod Roster
+pub mod ByThread
+pub mod RisingNumbers
+pub mod PendingIndex
 pub mod Ends
 pub mod Form
 pub mod Deadlines

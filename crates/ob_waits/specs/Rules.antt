@@ -7,7 +7,7 @@ use Rattle.ob_waits.specs.declared.wait.Mode.TheVariants.{All}
 use Rattle.ob_waits.specs.declared.wait.Wait.{Wait}
 use Rattle.ob_waits.specs.declared.wait.State.{State}
 use Rattle.ob_waits.specs.declared.wait.State.TheVariants.{Pending, Answered}
-use Rattle.ob_waits.specs.Objects.{Objects, slot_room, slot_signaled}
+use Rattle.ob_waits.specs.CountedBodies.{CountedBodies, slot_room, slot_signaled}
 use Rattle.ob_waits.specs.Waits.{nowhere, Scene, has_slot, is_code, is_pending, is_ready, ids_of}
 
 -- each object of a list has room for the thread
@@ -39,7 +39,7 @@ thread_of None = None
 thread_of (Some wait) = Some wait.thread
 
 -- every pending wait may be waited for, each answered one has a code that can be, and a thread has one wait
-pub record IsKept (waits : List (Option Wait)) : Type 0 where
+pub record WaitsInvariant (waits : List (Option Wait)) : Type 0 where
   pub each : (n : ℕ) → WaitWaitable (slice_index_or waits n None)
   pub one_each : (n m t : ℕ) → thread_of (slice_index_or waits n None) ≡ Some t
       → thread_of (slice_index_or waits m None) ≡ Some t → n ≡ m
@@ -54,7 +54,7 @@ pub record WaitsHaveRoom (limit : ℕ) (bodies : List (Option Body)) (waits : Li
 
 -- what settling needs of the waits and the bodies, and keeps
 pub record Fits (limit : ℕ) (bodies : List (Option Body)) (waits : List (Option Wait)) : Type 0 where
-  pub kept : IsKept waits
+  pub kept : WaitsInvariant waits
   pub room : WaitsHaveRoom limit bodies waits
 
 -- no pending wait is ready
@@ -96,6 +96,6 @@ pub record Covers (ns : List ℕ) (scene : Scene) : Type 0 where
   pub each : (n : ℕ) → is_ready scene.objects.bodies (slice_index_or scene.waits n None) ≡ true → Within n ns
 
 -- a slot has a body exactly where something refers to its object
-pub record HasBodies (objects : Objects) : Type 0 where
+pub record HasBodies (objects : CountedBodies) : Type 0 where
   pub each : (k : ℕ) → is_some (slice_index_or objects.bodies k None)
       ≡ nat_lt 0 (slice_index_or objects.handles k 0 + slice_index_or objects.blocks k 0)

@@ -11,7 +11,7 @@ use Rattle.ob_waits.specs.declared.wait.State.{State}
 use Rattle.ob_waits.specs.declared.wait.State.TheVariants.{Pending, Answered}
 use Rattle.ob_waits.specs.declared.wait.WaitState.{WaitState}
 use Rattle.ob_waits.specs.declared.wait.WaitState.TheVariants as shown
-use Rattle.ob_waits.specs.Objects.{Objects, body_of, slot_signaled, slot_abandoned, slot_acquired, without_blocks}
+use Rattle.ob_waits.specs.CountedBodies.{CountedBodies, body_of, slot_signaled, slot_abandoned, slot_acquired, without_blocks}
 
 -- an Id that names the first slot, where a list has none
 abbrev pub nowhere : Id
@@ -63,7 +63,7 @@ abbrev pub code_now : Mode → ℕ → List (Option Body) → List Id → Option
 code_now mode thread bodies ids = if list_ready mode thread bodies ids then Some
     (code_of mode thread bodies ids) else None
 
-abbrev pub objects_now : Mode → ℕ → Objects → List Id → Objects
+abbrev pub objects_now : Mode → ℕ → CountedBodies → List Id → CountedBodies
 objects_now mode thread objects ids =
     if list_ready mode thread objects.bodies ids then record objects {
       bodies =
@@ -85,7 +85,7 @@ first_ready bodies waits = position_or_len (is_ready bodies) waits
 
 -- the objects and the waits
 pub record Scene : Type 0 where
-  pub objects : Objects
+  pub objects : CountedBodies
   pub waits : List (Option Wait)
 
 -- a wait that is answered

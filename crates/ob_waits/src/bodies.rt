@@ -1,5 +1,5 @@
 ghost use Rattle.std.specs.Prelude.{◌≡◌, true, IsSome};
-ghost use Rattle.ob_waits.specs.Objects.{Objects, body_of, slot_room, with_body, without_block};
+ghost use Rattle.ob_waits.specs.CountedBodies.{CountedBodies, body_of, slot_room, with_body, without_block};
 ghost use Rattle.ob_waits.specs.Waits.{is_abandoned, is_signaled, with_acquired};
 
 use ob_body::{Body, RECURSION_MAX};
@@ -12,7 +12,7 @@ use pin_core::Id;
 /// object ends: it has no body any more (*profile*).
 pub trait Bodies {
     /// The bodies, and how many handles and blocks each slot counts.
-    ghost objects: { Self → Objects };
+    ghost objects: { Self → CountedBodies };
 
     /// What `rest` is: by default it says nothing.
     ghost Rest: { Type 0 } = { Unit {0} };

@@ -1,10 +1,10 @@
 ghost use Rattle.std.specs.Prelude.{◌≡◌, ◌<◌, ◌≤◌, ℕ, [], length, slice_index_or, OnOk};
 ghost use Rattle.ob_waits.specs.Rules.{Within};
-ghost use Rattle.ob_waits.specs.Numbers.{numbers_of, AreOrdered, LosesNone, ThinsEach};
+ghost use Rattle.ob_waits.specs.RisingNumbers.{numbers_of, AreOrdered, LosesNone, ThinsEach};
 ghost use Rattle.ob_waits.specs.Waits.{nowhere};
 
 use crate::live::Live;
-use crate::numbers::Numbers;
+use crate::rising_numbers::RisingNumbers;
 use pin_core::Id;
 use std::alloc::{AllocError, Global};
 use std::marker::Model;
@@ -12,7 +12,7 @@ use std::marker::Model;
 /// For each slot numbers of waits, among which are all that are pending for an object there.
 #[derive(Drop)]
 pub(crate) struct Index {
-    lists: Vec<Numbers>,
+    lists: Vec<RisingNumbers>,
     alloc: Global,
 }
 
@@ -75,7 +75,7 @@ impl Index {
     {
         let at = slot as usize;
         while self.lists.len() <= at {
-            self.lists.push(Numbers::new(self.alloc))?;
+            self.lists.push(RisingNumbers::new(self.alloc))?;
         }
         Ok(())
     }

@@ -7,29 +7,29 @@
 #![tactic(auto)]
 
 mod answer;
+mod answer_queue;
+mod answered_numbers;
 mod blocks;
 mod bodies;
+mod by_thread;
 mod codes;
-mod finder;
-mod fresh;
 mod ids;
 mod index;
 mod law;
 mod live;
 mod merge;
+mod number_map;
 mod numbered;
 mod numbered_wait;
-mod numbers;
 mod open;
 mod overdue;
 mod pass;
 mod pending;
+mod pending_index;
 mod reading;
-mod roster;
-mod seats;
+mod rising_numbers;
 mod spelling;
 mod take;
-mod untaken;
 mod wait;
 mod waits;
 mod writing;

@@ -8,8 +8,8 @@ ghost use Rattle.ob_waits.specs.Rules.{thread_of};
 ghost use Rattle.ob_waits.specs.Waits.{answered, is_pending, number_of, skipped};
 
 use crate::answer::Answer;
+use crate::answered_numbers::AnsweredNumbers;
 use crate::numbered::Numbered;
-use crate::untaken::Untaken;
 use crate::wait::{State, Wait};
 use std::alloc::{AllocError, Global};
 use std::marker::Model;
@@ -18,7 +18,7 @@ use std::marker::Model;
 #[derive(Drop)]
 pub(crate) struct Live {
     waits: Numbered,
-    untaken: Untaken,
+    answered_numbers: AnsweredNumbers,
 }
 
 impl Model for Live {
@@ -30,7 +30,7 @@ impl Model for Live {
 
     ghost view = { λ l. l.waits };
 
-    ghost invariant = { λ l. AreTold l.waits l.untaken };
+    ghost invariant = { λ l. AreTold l.waits l.answered_numbers };
 }
 
 impl Live {
@@ -39,7 +39,7 @@ impl Live {
     {
         Live {
             waits: Numbered::new(alloc),
-            untaken: Untaken::new(alloc),
+            answered_numbers: AnsweredNumbers::new(alloc),
         }
     }
 
@@ -93,7 +93,7 @@ impl Live {
             (option_map (λ a. a.wait) result) }
         ensures answer { IfSome result (λ a. answer_of a.wait (slice_index_or self.now a.wait None) ≡ Some a) }
     {
-        let number = self.untaken.least_above(&self.waits, after)?;
+        let number = self.answered_numbers.least_above(&self.waits, after)?;
         self.waits.answer_of(number)
     }
 
@@ -105,7 +105,7 @@ impl Live {
         ensures ok { OnOk result (self.new ≡ self.old ++ Some wait ∷ []) }
         ensures err { OnErr result (self.new ≡ self.old) }
     {
-        self.untaken.make_room(wait.thread)?;
+        self.answered_numbers.make_room(wait.thread)?;
         self.waits.push(wait)?;
         Ok(())
     }
@@ -118,10 +118,10 @@ impl Live {
         ensures ok { OnOk result (self.new ≡ self.old ++ Some wait ∷ []) }
         ensures err { OnErr result (self.new ≡ self.old) }
     {
-        self.untaken.make_room(wait.thread)?;
+        self.answered_numbers.make_room(wait.thread)?;
         self.waits.push(wait)?;
         let number = self.waits.given();
-        self.untaken.came(&self.waits, number);
+        self.answered_numbers.came(&self.waits, number);
         Ok(())
     }
 
@@ -140,7 +140,7 @@ impl Live {
         ensures { self.new ≡ slice_set self.old number (answered (slice_index_or self.old number None) code) }
     {
         self.waits.answer(thread, code);
-        self.untaken.came(&self.waits, number);
+        self.answered_numbers.came(&self.waits, number);
     }
 
     /// Takes a thread's wait away, of this number.
@@ -149,7 +149,7 @@ impl Live {
         ensures { self.new ≡ slice_set self.old number None }
     {
         self.waits.remove(thread, number);
-        self.untaken.forget(thread, number);
-        self.untaken.drop_first(&self.waits, number);
+        self.answered_numbers.forget(thread, number);
+        self.answered_numbers.drop_first(&self.waits, number);
     }
 }

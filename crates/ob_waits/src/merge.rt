@@ -1,13 +1,13 @@
 ghost use Rattle.std.specs.Prelude.{◌≡◌, ◌⊎◌, ◌<◌, ℕ, IfSome};
 ghost use Rattle.least.specs.From.{IsAtMost};
-ghost use Rattle.ob_waits.specs.Numbers.{IsNext, IsNextOf, numbers_of};
-ghost use Rattle.ob_waits.specs.Roster.{IsRight};
+ghost use Rattle.ob_waits.specs.RisingNumbers.{IsNext, IsNextOf, numbers_of};
+ghost use Rattle.ob_waits.specs.PendingIndex.{IsRight};
 ghost use Rattle.ob_waits.specs.Rules.{IsRising, IsSpent, Within};
 
 use crate::bodies::Bodies;
 use crate::live::Live;
 use crate::open::is_open;
-use crate::roster::Roster;
+use crate::pending_index::PendingIndex;
 use pin_core::Id;
 
 /// The least number above the last one, of numbers that rise.
@@ -37,33 +37,39 @@ pub(crate) fn lesser(first: Option<u32>, second: Option<u32>) -> Option<u32>
 
 /// The least number above the last one, of the numbers of an object's slot: none where nobody who waits could have the
 /// object.
-fn next_open<B: Bodies>(live: &Live, bodies: &B, roster: &Roster, id: Id, last: u32) -> Option<u32>
-    requires right { IsRight live.now roster.now }
+fn next_open<B: Bodies>(
+    live: &Live,
+    bodies: &B,
+    pending_index: &PendingIndex,
+    id: Id,
+    last: u32,
+) -> Option<u32>
+    requires right { IsRight live.now pending_index.now }
     ensures above { IfSome result (λ n. last < n) }
-    ensures least { (k : ℕ) → Within k (numbers_of roster.now.index id.slot) → last < k
+    ensures least { (k : ℕ) → Within k (numbers_of pending_index.now.index id.slot) → last < k
         → IsAtMost result k ⊎ IsSpent (B.objects bodies.now).bodies live.now id.slot }
 {
     if !is_open(live, bodies, id) {
         return None;
     }
-    next_of(roster.numbers(id.slot), last)
+    next_of(pending_index.numbers(id.slot), last)
 }
 
 /// The least such number over the slots of several objects.
 pub(crate) fn next_number<B: Bodies>(
     live: &Live,
     bodies: &B,
-    roster: &Roster,
+    pending_index: &PendingIndex,
     ids: &[Id],
     last: u32,
 ) -> Option<u32>
-    requires { IsRight live.now roster.now }
-    ensures { IsNextOf last roster.now.index
+    requires { IsRight live.now pending_index.now }
+    ensures { IsNextOf last pending_index.now.index
         (record { objects = B.objects bodies.now; waits = live.now }) ids.now result }
 {
     let mut least = None;
     for id in ids {
-        least = lesser(least, next_open(live, bodies, roster, *id, last));
+        least = lesser(least, next_open(live, bodies, pending_index, *id, last));
     }
     least
 }

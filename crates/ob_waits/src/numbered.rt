@@ -7,9 +7,9 @@ ghost use Rattle.ob_waits.specs.Rules.{thread_of};
 ghost use Rattle.ob_waits.specs.Waits.{answered, is_pending, number_of, skipped};
 
 use crate::answer::Answer;
-use crate::finder::{Finder, Waiter};
+use crate::by_thread;
+use crate::number_map::{NumberMap, NumberedThread};
 use crate::numbered_wait::NumberedWait;
-use crate::seats;
 use crate::wait::{State, Wait};
 use std::alloc::{AllocError, Global};
 use std::marker::Model;
@@ -18,21 +18,22 @@ use std::marker::Model;
 #[derive(Drop)]
 pub(crate) struct Numbered {
     given: u32,
-    seats: Vec<Option<NumberedWait>>,
-    finder: Finder,
+    by_thread: Vec<Option<NumberedWait>>,
+    number_map: NumberMap,
 }
 
 impl Model for Numbered {
     ghost use Rattle.std.specs.Prelude.{List, Option, suc};
     ghost use Rattle.ob_waits.specs.declared.wait.Wait.{Wait};
     ghost use Rattle.ob_waits.specs.Listed.{listed};
-    ghost use Rattle.ob_waits.specs.Seats.{found, thread_at, AreSeated, IsFinder};
+    ghost use Rattle.ob_waits.specs.ByThread.{found, thread_at, AreByThread, IsNumberMap};
 
     ghost Value = { List (Option Wait) };
 
-    ghost view = { λ l. listed (suc l.given) (found l.seats.items (thread_at l.finder)) };
+    ghost view = { λ l. listed (suc l.given) (found l.by_thread.items (thread_at l.number_map)) };
 
-    ghost invariant = { λ l. AreSeated l.given l.seats.items (thread_at l.finder) × IsFinder l.finder };
+    ghost invariant = { λ l. AreByThread l.given l.by_thread.items (thread_at l.number_map)
+        × IsNumberMap l.number_map };
 }
 
 impl Numbered {
@@ -41,8 +42,8 @@ impl Numbered {
     {
         Numbered {
             given: 0,
-            seats: Vec::new(alloc),
-            finder: Finder::new(alloc),
+            by_thread: Vec::new(alloc),
+            number_map: NumberMap::new(alloc),
         }
     }
 
@@ -55,23 +56,23 @@ impl Numbered {
     }
 
     /// The wait of a number.
-    #[tactic(auto, using(crate::proofs::SeatLaws::number_reads))]
+    #[tactic(auto, using(crate::proofs::ByThreadLaws::number_reads))]
     pub(crate) fn get(&self, number: u32) -> Option<&Wait>
         ensures { option_copied result ≡ slice_index_or self.now number None }
     {
-        let Some(thread) = self.finder.get(number) else {
+        let Some(thread) = self.number_map.get(number) else {
             return None;
         };
-        seats::wait_at(self.seats.as_slice(), thread)
+        by_thread::wait_at(self.by_thread.as_slice(), thread)
     }
 
     /// The number of a thread's wait.
-    #[tactic(auto, using(crate::proofs::SeatLaws::number_held_is, crate::proofs::SeatLaws::number_held))]
+    #[tactic(auto, using(crate::proofs::ByThreadLaws::number_held_is, crate::proofs::ByThreadLaws::number_held))]
     pub(crate) fn number_of(&self, thread: u32) -> Option<u32>
         ensures number { result ≡ number_of thread self.now }
         ensures own { (n : ℕ) → thread_of (slice_index_or self.now n None) ≡ Some thread → result ≡ Some n }
     {
-        seats::number_at(self.seats.as_slice(), thread)
+        by_thread::number_at(self.by_thread.as_slice(), thread)
     }
 
     /// Whether the wait of a number is pending.
@@ -137,9 +138,9 @@ impl Numbered {
     {
         let number = self.given + 1;
         let thread = wait.thread;
-        seats::make_room(&mut self.seats, thread)?;
-        self.finder.put(Waiter { number, thread })?;
-        self.seats[thread as usize] = Some(NumberedWait { number, wait });
+        by_thread::make_room(&mut self.by_thread, thread)?;
+        self.number_map.put(NumberedThread { number, thread })?;
+        self.by_thread[thread as usize] = Some(NumberedWait { number, wait });
         self.given = number;
         Ok(())
     }
@@ -157,7 +158,7 @@ impl Numbered {
         ensures { (n : ℕ) → thread_of (slice_index_or self.old n None) ≡ Some thread
             → self.new ≡ slice_set self.old n (answered (slice_index_or self.old n None) code) }
     {
-        seats::answer(&mut self.seats, thread, code);
+        by_thread::answer(&mut self.by_thread, thread, code);
     }
 
     /// Takes a thread's wait away, of this number.
@@ -165,7 +166,7 @@ impl Numbered {
         requires { thread_of (slice_index_or self.old number None) ≡ Some thread }
         ensures { self.new ≡ slice_set self.old number None }
     {
-        self.finder.remove(number);
-        seats::clear(&mut self.seats, thread);
+        self.number_map.remove(number);
+        by_thread::clear(&mut self.by_thread, thread);
     }
 }

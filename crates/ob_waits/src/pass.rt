@@ -1,7 +1,7 @@
 ghost use Rattle.std.specs.Prelude.{[], ◌∷◌, ◌≡◌, ◌<◌, ◌≤◌, true, false, None, Some, length, slice_index_or};
-ghost use Rattle.ob_waits.specs.Objects.{without_blocks};
-ghost use Rattle.ob_waits.specs.Numbers.{numbers_of};
-ghost use Rattle.ob_waits.specs.Roster.{IsRight};
+ghost use Rattle.ob_waits.specs.CountedBodies.{without_blocks};
+ghost use Rattle.ob_waits.specs.RisingNumbers.{numbers_of};
+ghost use Rattle.ob_waits.specs.PendingIndex.{IsRight};
 ghost use Rattle.ob_waits.specs.Rules.{Covers, Fits, IsReadyAt, IsReadyAtOne, IsRising, IsSettled};
 ghost use Rattle.ob_waits.specs.Waits.{passed, settled};
 
@@ -9,7 +9,7 @@ use crate::bodies::Bodies;
 use crate::live::Live;
 use crate::merge::next_number;
 use crate::open::is_open;
-use crate::roster::Roster;
+use crate::pending_index::PendingIndex;
 use crate::take::try_now;
 use crate::wait::State;
 use ob_body::RECURSION_MAX;
@@ -67,18 +67,18 @@ pub(crate) fn pass<B: Bodies>(live: &mut Live, bodies: &mut B, numbers: &[u32])
 pub(crate) fn pass_slot<B: Bodies>(
     live: &mut Live,
     bodies: &mut B,
-    roster: &Roster,
+    pending_index: &PendingIndex,
     id: Id,
 ) -> usize
     requires fits { Fits RECURSION_MAX (B.objects bodies.old).bodies live.old }
-    requires right { IsRight live.old roster.now }
+    requires right { IsRight live.old pending_index.now }
     requires ready { IsReadyAt id.slot (B.objects bodies.old).bodies live.old }
     ensures rest { B.rest bodies.new ≡ B.rest bodies.old }
     ensures scene { record { objects = B.objects bodies.new; waits = live.new }
         ≡ settled (record { objects = B.objects bodies.old; waits = live.old }) }
-    ensures bound { result ≤ length (numbers_of roster.now.index id.slot) }
+    ensures bound { result ≤ length (numbers_of pending_index.now.index id.slot) }
 {
-    let numbers = roster.numbers(id.slot);
+    let numbers = pending_index.numbers(id.slot);
     for (at, number) in numbers.iter().enumerate() {
         if at > 0 && !is_open(live, bodies, id) {
             return at;
@@ -93,24 +93,24 @@ pub(crate) fn pass_slot<B: Bodies>(
 fn pass_some<B: Bodies>(
     live: &mut Live,
     bodies: &mut B,
-    roster: &Roster,
+    pending_index: &PendingIndex,
     ids: &[Id],
     count: usize,
 ) -> bool
     requires fits { Fits RECURSION_MAX (B.objects bodies.old).bodies live.old }
-    requires right { IsRight live.old roster.now }
+    requires right { IsRight live.old pending_index.now }
     requires zero { slice_index_or live.old 0 None ≡ None }
     requires ready { IsReadyAtOne ids.now (B.objects bodies.old).bodies live.old }
     ensures rest { B.rest bodies.new ≡ B.rest bodies.old }
     ensures fits { Fits RECURSION_MAX (B.objects bodies.new).bodies live.new }
-    ensures covers { Covers roster.now.order (record { objects = B.objects bodies.new; waits = live.new }) }
+    ensures covers { Covers pending_index.now.order (record { objects = B.objects bodies.new; waits = live.new }) }
     ensures same { settled (record { objects = B.objects bodies.new; waits = live.new })
         ≡ settled (record { objects = B.objects bodies.old; waits = live.old }) }
     ensures all { result ≡ true → IsSettled (B.objects bodies.new).bodies live.new }
 {
     let mut last = 0;
     for _ in 0..count {
-        let Some(number) = next_number(live, bodies, roster, ids, last) else {
+        let Some(number) = next_number(live, bodies, pending_index, ids, last) else {
             return true;
         };
         take_effect(live, bodies, number);
@@ -121,17 +121,28 @@ fn pass_some<B: Bodies>(
 
 /// Settles, where only waits for objects in the slots of these can be ready. Where that would look at more numbers than
 /// there are waits, the rest settles by the waits of all slots.
-pub(crate) fn pass_each<B: Bodies>(live: &mut Live, bodies: &mut B, roster: &Roster, ids: &[Id])
+pub(crate) fn pass_each<B: Bodies>(
+    live: &mut Live,
+    bodies: &mut B,
+    pending_index: &PendingIndex,
+    ids: &[Id],
+)
     requires fits { Fits RECURSION_MAX (B.objects bodies.old).bodies live.old }
-    requires right { IsRight live.old roster.now }
+    requires right { IsRight live.old pending_index.now }
     requires zero { slice_index_or live.old 0 None ≡ None }
     requires ready { IsReadyAtOne ids.now (B.objects bodies.old).bodies live.old }
     ensures rest { B.rest bodies.new ≡ B.rest bodies.old }
     ensures scene { record { objects = B.objects bodies.new; waits = live.new }
         ≡ settled (record { objects = B.objects bodies.old; waits = live.old }) }
 {
-    let order = roster.order();
-    if !pass_some(live, bodies, roster, ids, order.len() / ids.len().max(1)) {
+    let order = pending_index.order();
+    if !pass_some(
+        live,
+        bodies,
+        pending_index,
+        ids,
+        order.len() / ids.len().max(1),
+    ) {
         pass(live, bodies, order);
     }
 }

@@ -12,7 +12,7 @@ ghost use Rattle.least.specs.From.{IsLeastFrom};
 ghost use Rattle.ob_waits.specs.Answers.{answer_of, is_answered};
 ghost use Rattle.ob_waits.specs.Deadlines.{AreAhead, deadline_of, is_overdue};
 ghost use Rattle.ob_waits.specs.Form.{IsAfter};
-ghost use Rattle.ob_waits.specs.Rules.{IsKept, IsWaitable, WaitsHaveRoom, IsSettled, IsReadyAt, IsReadyAtOne};
+ghost use Rattle.ob_waits.specs.Rules.{WaitsInvariant, IsWaitable, WaitsHaveRoom, IsSettled, IsReadyAt, IsReadyAtOne};
 
 use crate::answer::Answer;
 use crate::blocks::blocks_of;
@@ -23,8 +23,8 @@ use crate::live::Live;
 use crate::overdue::{next_due, next_overdue};
 use crate::pass::{pass, pass_each, pass_slot};
 use crate::pending::Pending;
+use crate::pending_index::PendingIndex;
 use crate::reading::{put_all, read_rows, rows_within};
-use crate::roster::Roster;
 use crate::wait::{Mode, State, Wait, WaitState};
 use crate::writing::write_rows;
 use least::Dues;
@@ -57,7 +57,7 @@ pub struct Waits {
     clock: u64,
     alloc: Global,
     live: Live,
-    roster: Roster,
+    pending_index: PendingIndex,
     // For each thread the deadline of its wait.
     deadlines: Dues,
 }
@@ -65,13 +65,13 @@ pub struct Waits {
 impl Model for Waits {
     ghost use Rattle.ob_waits.specs.Waits.{WaitList};
     ghost use Rattle.ob_waits.specs.Deadlines.{AreTimely};
-    ghost use Rattle.ob_waits.specs.Roster.{IsTracked};
+    ghost use Rattle.ob_waits.specs.PendingIndex.{IsTracked};
 
     ghost Value = { WaitList };
 
     ghost view = { λ w. record { limit = w.limit; waits = w.live; clock = w.clock } };
 
-    ghost invariant = { λ w. IsTracked w.limit w.live w.roster × AreTimely w.clock w.live w.deadlines };
+    ghost invariant = { λ w. IsTracked w.limit w.live w.pending_index × AreTimely w.clock w.live w.deadlines };
 }
 
 impl Waits {
@@ -84,7 +84,7 @@ impl Waits {
             clock: 0,
             alloc,
             live: Live::new(alloc),
-            roster: Roster::new(alloc),
+            pending_index: PendingIndex::new(alloc),
             deadlines: Dues::new(alloc),
         }
     }
@@ -99,7 +99,7 @@ impl Waits {
         ensures fits { OnOk result (WaitsFit self.now) }
     {
         let mut rows = Vec::new(self.alloc);
-        let count = write_rows(&self.live, self.roster.order(), &mut rows)?;
+        let count = write_rows(&self.live, self.pending_index.order(), &mut rows)?;
         self.live.given().write(out)?;
         count.write(out)?;
         out.extend_from_slice(rows.as_slice())
@@ -161,7 +161,7 @@ impl Waits {
     pub fn wait_of(&self, thread: u32) -> Option<u32>
         ensures number { result ≡ number_of thread self.now.waits }
         // Whatever the waits are: each thread has one, and each that is pending may be waited for.
-        ensures kept { IsKept self.now.waits }
+        ensures kept { WaitsInvariant self.now.waits }
         ensures at_most { length self.now.waits ≤ 4294967296 }
     {
         self.live.number_of(thread)
@@ -171,7 +171,7 @@ impl Waits {
     pub fn blocks_of(&self, id: Id) -> u64
         ensures { result ≡ blocks_among id self.now.waits }
     {
-        blocks_of(&self.live, self.roster.numbers(id.slot), id)
+        blocks_of(&self.live, self.pending_index.numbers(id.slot), id)
     }
 
     /// Where the wait of a number stands, and which objects it is for: none once it is answered.
@@ -240,7 +240,7 @@ impl Waits {
     {
         let number = self.live.given() + 1;
         let list = Ids::new(self.alloc, ids)?;
-        self.roster.make_room(&self.live, ids, number)?;
+        self.pending_index.make_room(&self.live, ids, number)?;
         self.deadlines.make_room(thread)?;
         self.live.push(Wait {
             thread,
@@ -307,7 +307,7 @@ impl Waits {
         ensures full { (result ≡ Err Fault.Limit) ↔ (is_full self.old ≡ true) }
         ensures memory { IfErr result (λ fault. is_full self.old ≡ false → fault ≡ Fault.Memory) }
         // Whatever the waits are: each that is pending may be waited for, and their numbers fit in 32 bits.
-        ensures kept { IsKept self.old.waits }
+        ensures kept { WaitsInvariant self.old.waits }
         ensures at_most { length self.old.waits ≤ 4294967296 }
     {
         if self.live.given() >= self.limit {
@@ -334,8 +334,8 @@ impl Waits {
         ensures room { (limit : ℕ) → WaitsHaveRoom limit (B.objects bodies.old).bodies self.old.waits
             → WaitsHaveRoom limit (B.objects bodies.new).bodies self.new.waits }
     {
-        pass(&mut self.live, bodies, self.roster.order());
-        self.roster.thin(&self.live);
+        pass(&mut self.live, bodies, self.pending_index.order());
+        self.pending_index.thin(&self.live);
     }
 
     /// Settles, as [`settle`](Waits::settle) does, where only waits for this object can be ready, as after a change of
@@ -354,8 +354,8 @@ impl Waits {
         ensures room { (limit : ℕ) → WaitsHaveRoom limit (B.objects bodies.old).bodies self.old.waits
             → WaitsHaveRoom limit (B.objects bodies.new).bodies self.new.waits }
     {
-        let looked = pass_slot(&mut self.live, bodies, &self.roster, id);
-        self.roster.thin_slot(&self.live, id.slot, looked);
+        let looked = pass_slot(&mut self.live, bodies, &self.pending_index, id);
+        self.pending_index.thin_slot(&self.live, id.slot, looked);
     }
 
     /// Settles, as [`settle`](Waits::settle) does, where only waits for one of these objects can be ready, as after
@@ -377,8 +377,8 @@ impl Waits {
         ensures room { (limit : ℕ) → WaitsHaveRoom limit (B.objects bodies.old).bodies self.old.waits
             → WaitsHaveRoom limit (B.objects bodies.new).bodies self.new.waits }
     {
-        pass_each(&mut self.live, bodies, &self.roster, ids);
-        self.roster.thin_slots(&self.live, ids);
+        pass_each(&mut self.live, bodies, &self.pending_index, ids);
+        self.pending_index.thin_slots(&self.live, ids);
     }
 
     /// Ends a pending wait without satisfying it: its answer is 258, `WAIT_TIMEOUT` ([Wait Functions]). The caller
@@ -455,7 +455,7 @@ impl Waits {
         };
         let (thread, code) = (*thread, *code);
         self.live.remove(thread, wait);
-        self.roster.forget(wait);
+        self.pending_index.forget(wait);
         code
     }
 }

@@ -4,7 +4,7 @@ ghost use Rattle.std.specs.Prelude.{slice_index_or};
 ghost use Rattle.std.specs.List.{AllByRecursion, flat_map};
 ghost use Rattle.least.specs.From.{IsAtMost};
 ghost use Rattle.ob_codec.specs.Sparse.{entries_from};
-ghost use Rattle.ob_waits.specs.Numbers.{HasAll};
+ghost use Rattle.ob_waits.specs.RisingNumbers.{HasAll};
 ghost use Rattle.ob_waits.specs.Rows.{row_of};
 ghost use Rattle.ob_waits.specs.Rules.{IsRising};
 ghost use Rattle.ob_waits.specs.Spelling.{RowFits, row_text};

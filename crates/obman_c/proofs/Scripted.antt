@@ -1,14 +1,14 @@
 -- What C is told of a script, by what a function knows of it.
 use Rattle.std.proofs.Common.{◌≡◌, ℕ, List}
-use Rattle.obman_c.specs.declared.limits.Bounds.{Bounds}
+use Rattle.obman_c.specs.declared.limits.CLimits.{CLimits}
 use Rattle.obman_c.specs.Allowed.{AreAllowed}
 use Rattle.obman_c.specs.Scripts as scripts
 
-pub outside : {b : Bounds} {script : List ℕ} {status : ℕ} {room room' : List ℕ} {length length' : ℕ}
+pub outside : {b : CLimits} {script : List ℕ} {status : ℕ} {room room' : List ℕ} {length length' : ℕ}
     → (AreAllowed b → ⊥) → status ≡ 87 → room' ≡ room → length' ≡ length
     → scripts.ScriptAnswered b script status room room' length length'
 outside = scripts.outside
 
-pub lacks : {b : Bounds} {script : List ℕ} {status : ℕ} {room room' : List ℕ} {length length' : ℕ} → AreAllowed b
+pub lacks : {b : CLimits} {script : List ℕ} {status : ℕ} {room room' : List ℕ} {length length' : ℕ} → AreAllowed b
     → status ≡ 8 → room' ≡ room → length' ≡ length → scripts.ScriptAnswered b script status room room' length length'
 lacks = scripts.lacks

@@ -2,14 +2,14 @@
 use Rattle.std.specs.Prelude.{◌≡◌}
 use Rattle.ob_store.specs.declared.limits.Limits.{Limits}
 use Rattle.ob_store.specs.Limits.{AreInRange}
-use Rattle.obman_c.specs.declared.limits.Bounds.{Bounds}
+use Rattle.obman_c.specs.declared.limits.CLimits.{CLimits}
 
 -- each is within its range
-abbrev pub AreAllowed : Bounds → Type 0
+abbrev pub AreAllowed : CLimits → Type 0
 AreAllowed b = AreInRange b.slots b.processes b.threads b.handles b.waits b.max_pins b.max_gen b.max_recursion
 
 -- limits that are as C gave them
-pub record AreAs (b : Bounds) (limits : Limits) : Type 0 where
+pub record AreAs (b : CLimits) (limits : Limits) : Type 0 where
   pub slots : limits.slots ≡ b.slots
   pub processes : limits.processes ≡ b.processes
   pub threads : limits.threads ≡ b.threads

@@ -2,17 +2,17 @@
 use Rattle.std.specs.Borrow.{Fml, Lends, MutBor}
 use Rattle.obman_c.specs.declared.owned.OwnedManager.{OwnedManager}
 use Rattle.obman_c.specs.declared.owned.OwnedReader.{OwnedReader}
-use Rattle.obman_c.specs.declared.owner.Owner.{Owner}
+use Rattle.obman_c.specs.declared.owner.ManagerOwner.{ManagerOwner}
 use Rattle.obman_c.specs.declared.reader_owner.ReaderOwner.{ReaderOwner}
 use Rattle.obman_c.specs.contracts.owned.OwnedManager as manager
 use Rattle.obman_c.specs.contracts.owned.OwnedReader as reader
-use Rattle.obman_c.specs.contracts.owner.Owner as owner
+use Rattle.obman_c.specs.contracts.owner.ManagerOwner as owner
 use Rattle.obman_c.specs.contracts.reader_owner.ReaderOwner as reader_owner
 
-abbrev pub with_manager : Owner → OwnedManager → Owner
+abbrev pub with_manager : ManagerOwner → OwnedManager → ManagerOwner
 with_manager o value = record { at = o.at; alloc = o.alloc; value = value }
 
-abbrev pub LendsManager : MutBor Owner → MutBor OwnedManager → Fml
+abbrev pub LendsManager : MutBor ManagerOwner → MutBor OwnedManager → Fml
 LendsManager s r = Lends owner.the_row manager.the_row s r (with_manager s.now)
 
 abbrev pub with_reader : ReaderOwner → OwnedReader → ReaderOwner

@@ -22,7 +22,7 @@ use Rattle.ob_manager.specs.declared.object_state.ObjectState.{ObjectState}
 use Rattle.ob_manager.specs.declared.object_state.ObjectState.TheVariants.{Event, Mutex, Semaphore, Timer, Ended}
 use Rattle.obman_c.specs.declared.looking.HandleEntry.{HandleEntry}
 use Rattle.obman_c.specs.declared.looking.PendingWait.{PendingWait}
-use Rattle.obman_c.specs.declared.looking.Standing.{Standing}
+use Rattle.obman_c.specs.declared.looking.CObjectState.{CObjectState}
 use Rattle.obman_c.specs.declared.values.Object.{Object}
 use Rattle.obman_c.specs.Telling.{object_of}
 
@@ -32,7 +32,7 @@ or_zero None = 0
 or_zero (Some n) = n
 
 -- the state of no object: each number 0, and 4 in place of a kind
-abbrev pub ended : Standing
+abbrev pub ended : CObjectState
 ended = record {
   due = 0;
   kind = 4;
@@ -45,27 +45,27 @@ ended = record {
 }
 
 -- what state an object is in, by its kind; what the kind hasn't is 0
-abbrev pub standing_of : ObjectState → Standing
-standing_of (Event set) = record ended { kind = 0; signaled = set }
-standing_of (Mutex owner recursion abandoned) = record ended {
+abbrev pub c_object_state_of : ObjectState → CObjectState
+c_object_state_of (Event set) = record ended { kind = 0; signaled = set }
+c_object_state_of (Mutex owner recursion abandoned) = record ended {
   kind = 1;
   count = recursion;
   owner = or_zero owner;
   signaled = is_none owner;
   abandoned = abandoned;
 }
-standing_of (Semaphore count max) = record ended { kind = 2; count = count; max = max; signaled = nat_lt 0 count }
-standing_of (Timer signaled due) = record ended {
+c_object_state_of (Semaphore count max) = record ended { kind = 2; count = count; max = max; signaled = nat_lt 0 count }
+c_object_state_of (Timer signaled due) = record ended {
   kind = 3;
   due = or_zero due;
   signaled = signaled;
   has_due = is_some due;
 }
-standing_of Ended = ended
+c_object_state_of Ended = ended
 
 -- at its place and 0, or 6, and the place as it was
-abbrev pub TellsState : Option ObjectState → ℕ → Standing → Standing → Type 0
-TellsState (Some state) status before after = (status ≡ 0) × (after ≡ standing_of state)
+abbrev pub TellsState : Option ObjectState → ℕ → CObjectState → CObjectState → Type 0
+TellsState (Some state) status before after = (status ≡ 0) × (after ≡ c_object_state_of state)
 TellsState None status before after = (status ≡ 6) × (after ≡ before)
 
 -- a handle with what it names

@@ -8,7 +8,7 @@ use Rattle.ob_store.specs.declared.limits.Limits.{Limits}
 use Rattle.ob_store.specs.State.{Whole, opening, shape_of}
 use Rattle.obman_c.specs.Owned.{unrecorded}
 use Rattle.obman_c.specs.declared.owned.OwnedManager.{OwnedManager}
-use Rattle.obman_c.specs.declared.limits.Bounds.{Bounds}
+use Rattle.obman_c.specs.declared.limits.CLimits.{CLimits}
 use Rattle.obman_c.specs.Allowed.{AreAllowed, AreAs}
 
 -- a keeper of words, of which nothing was published, and one reader was given
@@ -25,7 +25,7 @@ new_owned limits t = unrecorded (new_manager limits t)
 
 -- A place gets a new manager with these limits, over words of its own, and 0 is told; or it stays as it is, and 87 is
 -- told where a limit is out of its range, else 8, for want of memory.
-pub data Opens (b : Bounds) (status : ℕ) (before after : Option OwnedManager) : Type 0 where
+pub data Opens (b : CLimits) (status : ℕ) (before after : Option OwnedManager) : Type 0 where
   opens : (limits : Limits) (t : TableState) → AreAs b limits → status ≡ 0
       → after ≡ Some (new_owned limits t) → Opens b status before after
   outside : (AreAllowed b → ⊥) → status ≡ 87 → after ≡ before → Opens b status before after

@@ -2,7 +2,7 @@
 use Rattle.std.specs.Prelude.{◌≡◌, ◌<◌, ◌≤◌, ℕ, List, ◌++◌, ◌⊎◌, drop, length}
 use Rattle.ob_store.specs.declared.limits.Limits.{Limits}
 use Rattle.ob_console.specs.Runs.{AnswersAll}
-use Rattle.obman_c.specs.declared.limits.Bounds.{Bounds}
+use Rattle.obman_c.specs.declared.limits.CLimits.{CLimits}
 use Rattle.obman_c.specs.Allowed.{AreAllowed, AreAs}
 
 -- the bytes stand at the front and 0 is told; or they don't fit, and 122 is told
@@ -13,7 +13,7 @@ HandsOver bytes status room room' length' = (length' ≡ length bytes)
 
 -- The answers are what the program prints for the script, over a new manager with these limits; or nothing changes, and
 -- 87 is told where a limit is out of its range, else 8, for want of memory.
-pub data ScriptAnswered (b : Bounds) (script : List ℕ) (status : ℕ) (room room' : List ℕ)
+pub data ScriptAnswered (b : CLimits) (script : List ℕ) (status : ℕ) (room room' : List ℕ)
     (length length' : ℕ) : Type 0 where
   answers : (limits : Limits) → AreAs b limits → (output : List ℕ) → AnswersAll limits script output
       → HandsOver output status room room' length' → ScriptAnswered b script status room room' length length'

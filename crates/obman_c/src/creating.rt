@@ -5,7 +5,7 @@ ghost use Rattle.ob_manager.specs.declared.call.CallOf.TheVariants as Call;
 ghost use Rattle.obman_c.specs.Asking.{asked_for, mask_of, rights_in};
 ghost use Rattle.obman_c.specs.Telling.{TellsValue, opening_in};
 
-use crate::owner::Owner;
+use crate::owner::ManagerOwner;
 use crate::values::{Opening, tell_opening};
 use ob_manager::{Ask, Make};
 use ob_rights::{Kind, Rights};
@@ -52,7 +52,7 @@ fn rights_in(is_there: bool, mask: u32) -> Option<Rights>
 /// [`Manager::create_event`](ob_manager::Manager::create_event): 0, 183, 87, 170, 206, 3, 6, 5, 1450 or 8.
 #[unsafe(no_mangle)]
 pub extern "C" fn om_create_event(
-    owner: &mut Owner,
+    owner: &mut ManagerOwner,
     thread: u32,
     asking: &Asking,
     name: &[u8],
@@ -79,7 +79,7 @@ pub extern "C" fn om_create_event(
 /// [`Manager::create_mutex`](ob_manager::Manager::create_mutex): 0, 183, 87, 170, 206, 3, 6, 5, 1450 or 8.
 #[unsafe(no_mangle)]
 pub extern "C" fn om_create_mutex(
-    owner: &mut Owner,
+    owner: &mut ManagerOwner,
     thread: u32,
     asking: &Asking,
     name: &[u8],
@@ -104,7 +104,7 @@ pub extern "C" fn om_create_mutex(
 /// [`Manager::create_semaphore`](ob_manager::Manager::create_semaphore): 0, 183, 87, 170, 206, 3, 6, 5, 1450 or 8.
 #[unsafe(no_mangle)]
 pub extern "C" fn om_create_semaphore(
-    owner: &mut Owner,
+    owner: &mut ManagerOwner,
     thread: u32,
     asking: &Asking,
     name: &[u8],
@@ -131,7 +131,7 @@ pub extern "C" fn om_create_semaphore(
 /// [`Manager::create_timer`](ob_manager::Manager::create_timer): 0, 183, 87, 170, 206, 3, 6, 5, 1450 or 8.
 #[unsafe(no_mangle)]
 pub extern "C" fn om_create_timer(
-    owner: &mut Owner,
+    owner: &mut ManagerOwner,
     thread: u32,
     asking: &Asking,
     name: &[u8],
@@ -157,7 +157,7 @@ pub extern "C" fn om_create_timer(
 #[inline(always)]
 #[tactic(auto, using(crate::proofs::Told::tells_as))]
 fn open(
-    owner: &mut Owner,
+    owner: &mut ManagerOwner,
     thread: u32,
     kind: Kind,
     access: u32,
@@ -185,7 +185,7 @@ fn open(
 /// [`Manager::open_named`](ob_manager::Manager::open_named) of an event: 0, 87, 170, 206, 3, 2, 6, 5, 1450 or 8.
 #[unsafe(no_mangle)]
 pub extern "C" fn om_open_event(
-    owner: &mut Owner,
+    owner: &mut ManagerOwner,
     thread: u32,
     access: u32,
     inherit: bool,
@@ -202,7 +202,7 @@ pub extern "C" fn om_open_event(
 /// [`Manager::open_named`](ob_manager::Manager::open_named) of a mutex: 0, 87, 170, 206, 3, 2, 6, 5, 1450 or 8.
 #[unsafe(no_mangle)]
 pub extern "C" fn om_open_mutex(
-    owner: &mut Owner,
+    owner: &mut ManagerOwner,
     thread: u32,
     access: u32,
     inherit: bool,
@@ -219,7 +219,7 @@ pub extern "C" fn om_open_mutex(
 /// [`Manager::open_named`](ob_manager::Manager::open_named) of a semaphore: 0, 87, 170, 206, 3, 2, 6, 5, 1450 or 8.
 #[unsafe(no_mangle)]
 pub extern "C" fn om_open_semaphore(
-    owner: &mut Owner,
+    owner: &mut ManagerOwner,
     thread: u32,
     access: u32,
     inherit: bool,
@@ -244,7 +244,7 @@ pub extern "C" fn om_open_semaphore(
 /// [`Manager::open_named`](ob_manager::Manager::open_named) of a timer: 0, 87, 170, 206, 3, 2, 6, 5, 1450 or 8.
 #[unsafe(no_mangle)]
 pub extern "C" fn om_open_timer(
-    owner: &mut Owner,
+    owner: &mut ManagerOwner,
     thread: u32,
     access: u32,
     inherit: bool,

@@ -7,7 +7,7 @@ ghost use Rattle.obman_c.specs.Finding.{Finds};
 ghost use Rattle.obman_c.specs.Telling.{TellsStatus, TellsValue, flags_in, opening_in};
 
 use crate::codes::SUCCESS;
-use crate::owner::Owner;
+use crate::owner::ManagerOwner;
 use crate::status::told;
 use crate::values::{Object, Opening, object_of, tell_flags, tell_opening};
 use ob_manager::Ask;
@@ -16,7 +16,7 @@ use ob_rights::{Rights, code_of};
 /// [`Manager::duplicate`](ob_manager::Manager::duplicate), where the target 0 is none: 0, 87, 170, 6, 5, 1450 or 8.
 #[unsafe(no_mangle)]
 pub extern "C" fn om_duplicate(
-    owner: &mut Owner,
+    owner: &mut ManagerOwner,
     thread: u32,
     source: u32,
     handle: u32,
@@ -56,7 +56,7 @@ fn number_at(number: u32) -> Option<u32>
 /// [`Manager::close`](ob_manager::Manager::close): 0, 87, 170 or 6.
 #[tactic(auto, using(crate::proofs::Told::tells))]
 #[unsafe(no_mangle)]
-pub extern "C" fn om_close(owner: &mut Owner, thread: u32, handle: u32) -> u32
+pub extern "C" fn om_close(owner: &mut ManagerOwner, thread: u32, handle: u32) -> u32
     ensures { TellsStatus owner.old.value (Call.CloseHandle thread handle) result owner.new.value }
 {
     told(owner.call(&Ask::CloseHandle { thread, handle }))
@@ -66,7 +66,7 @@ pub extern "C" fn om_close(owner: &mut Owner, thread: u32, handle: u32) -> u32
 #[tactic(auto, using(crate::proofs::Told::tells_as, crate::proofs::Told::flags_same))]
 #[unsafe(no_mangle)]
 pub extern "C" fn om_handle_flags(
-    owner: &mut Owner,
+    owner: &mut ManagerOwner,
     thread: u32,
     handle: u32,
     flags: &mut u32,
@@ -82,7 +82,7 @@ pub extern "C" fn om_handle_flags(
 #[tactic(auto, using(crate::proofs::Told::tells))]
 #[unsafe(no_mangle)]
 pub extern "C" fn om_set_handle_flags(
-    owner: &mut Owner,
+    owner: &mut ManagerOwner,
     thread: u32,
     handle: u32,
     mask: u32,
@@ -101,7 +101,7 @@ pub extern "C" fn om_set_handle_flags(
 /// [`Manager::resolve`](ob_manager::Manager::resolve): 0, 87 or 6.
 #[unsafe(no_mangle)]
 pub extern "C" fn om_resolve(
-    owner: &mut Owner,
+    owner: &mut ManagerOwner,
     process: u32,
     handle: u32,
     object: &mut Object,

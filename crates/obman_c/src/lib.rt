@@ -1,7 +1,8 @@
 //! The object manager as a C library: a static library whose functions a C program calls, as `include/obman.h` at the
 //! top of the repository declares them.
 //!
-//! C holds a pointer that tells it nothing. To a contract it is an [`Owner`](crate::owner::Owner) with the manager's
+//! C holds a pointer that tells it nothing. To a contract it is a
+//! [`ManagerOwner`](crate::owner::ManagerOwner) with the manager's
 //! state as its value, so each function's contract is that of the manager's call: the same step from the state before
 //! to the state after, and the same answer, told by a number (0, or a Win32 error code) and by what is written where C
 //! asks for it.

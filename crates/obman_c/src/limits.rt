@@ -8,7 +8,7 @@ use ob_rights::Fault;
 /// How much a manager may hold (`om_limits`), as [`Limits`] has it.
 #[repr(C)]
 #[derive(Clone, Copy)]
-pub struct Bounds {
+pub struct CLimits {
     /// Slots of the arena: 1 to 65,536.
     pub slots: u32,
     /// Process numbers ever given: 1 to 65,536.
@@ -28,7 +28,7 @@ pub struct Bounds {
 }
 
 /// The limits of a manager that C gives; [`Fault::Parameter`] where one is out of its range.
-pub fn limits_of(bounds: &Bounds) -> Result<Limits, Fault>
+pub fn limits_of(bounds: &CLimits) -> Result<Limits, Fault>
     ensures same { IfOk result (λ limits. AreAs bounds.now limits) }
     ensures allowed { IfOk result (λ limits. AreAllowed bounds.now) }
     ensures refused { IfErr result (λ fault. AreAllowed bounds.now → ⊥) }

@@ -8,12 +8,12 @@ ghost use Rattle.ob_manager.specs.Handles.{entry_of};
 ghost use Rattle.ob_manager.specs.States.{state_of};
 ghost use Rattle.obman_c.specs.Asking.{number_at};
 ghost use Rattle.obman_c.specs.Looking.{FindsEntry, IdsTell, NextHandle, NextObject, SessionTold, TellsState};
-ghost use Rattle.obman_c.specs.Looking.{WaitTells, handle_entry, or_zero, pending_wait, places, standing_of};
+ghost use Rattle.obman_c.specs.Looking.{WaitTells, handle_entry, or_zero, pending_wait, places, c_object_state_of};
 ghost use Rattle.obman_c.specs.Pinning.{id_at};
 ghost use Rattle.obman_c.specs.Telling.{object_of};
 
 use crate::codes::{SUCCESS, TOO_SMALL};
-use crate::owner::Owner;
+use crate::owner::ManagerOwner;
 use crate::pinning::id_at;
 use crate::status::NO_MORE;
 use crate::values::{Object, object_of};
@@ -25,7 +25,7 @@ use pin_core::Id;
 /// What state an object is in (`om_object_state`). What its kind hasn't is 0.
 #[repr(C)]
 #[derive(Clone, Copy)]
-pub struct Standing {
+pub struct CObjectState {
     /// The moment at which a timer is due, in units of 100 ns.
     pub due: u64,
     /// Its kind: an event 0, a mutex 1, a semaphore 2, a timer 3; 4 once it has ended.
@@ -74,7 +74,7 @@ pub struct PendingWait {
 }
 
 /// The state of an object that has ended.
-const ENDED: Standing = Standing {
+const ENDED: CObjectState = CObjectState {
     due: 0,
     kind: 4,
     count: 0,
@@ -96,11 +96,11 @@ fn or_zero(number: Option<u32>) -> u32
 }
 
 /// A state as C is told of it.
-fn standing_of(state: ObjectState) -> Standing
-    ensures { result ≡ standing_of state }
+fn c_object_state_of(state: ObjectState) -> CObjectState
+    ensures { result ≡ c_object_state_of state }
 {
     match state {
-        ObjectState::Event { set } => Standing {
+        ObjectState::Event { set } => CObjectState {
             kind: 0,
             signaled: set,
             ..ENDED
@@ -109,7 +109,7 @@ fn standing_of(state: ObjectState) -> Standing
             owner,
             recursion,
             abandoned,
-        } => Standing {
+        } => CObjectState {
             kind: 1,
             count: recursion,
             owner: or_zero(owner),
@@ -117,14 +117,14 @@ fn standing_of(state: ObjectState) -> Standing
             abandoned,
             ..ENDED
         },
-        ObjectState::Semaphore { count, max } => Standing {
+        ObjectState::Semaphore { count, max } => CObjectState {
             kind: 2,
             count,
             max,
             signaled: count > 0,
             ..ENDED
         },
-        ObjectState::Timer { signaled, due } => Standing {
+        ObjectState::Timer { signaled, due } => CObjectState {
             kind: 3,
             due: due.unwrap_or(0),
             signaled,
@@ -150,10 +150,10 @@ fn handle_entry(handle: u32, entry: Entry) -> HandleEntry
 /// [`Manager::state_of`](ob_manager::Manager::state_of): 0, or 6 where there is no such object.
 #[unsafe(no_mangle)]
 pub extern "C" fn om_state(
-    owner: &mut Owner,
+    owner: &mut ManagerOwner,
     slot: u32,
     generation: u32,
-    state: &mut Standing,
+    state: &mut CObjectState,
 ) -> u32
     ensures stands { TellsState (state_of owner.old.value.manager.state
         (id_at slot generation)) result state.old state.new }
@@ -161,7 +161,7 @@ pub extern "C" fn om_state(
 {
     match owner.lend().manager.state_of(id_at(slot, generation)) {
         Some(found) => {
-            *state = standing_of(found);
+            *state = c_object_state_of(found);
             SUCCESS
         }
         None => code_of(Fault::Handle),
@@ -171,7 +171,7 @@ pub extern "C" fn om_state(
 /// [`Manager::handle`](ob_manager::Manager::handle): 0, 87 or 6.
 #[unsafe(no_mangle)]
 pub extern "C" fn om_handle(
-    owner: &mut Owner,
+    owner: &mut ManagerOwner,
     process: u32,
     handle: u32,
     entry: &mut HandleEntry,
@@ -192,7 +192,7 @@ pub extern "C" fn om_handle(
 /// [`Manager::next_process`](ob_manager::Manager::next_process): 0 for none.
 #[tactic(auto, using(crate::proofs::Looked::numbered))]
 #[unsafe(no_mangle)]
-pub extern "C" fn om_next_process(owner: &mut Owner, after: u32) -> u32
+pub extern "C" fn om_next_process(owner: &mut ManagerOwner, after: u32) -> u32
     ensures next { IsLeastFrom (after + 1) (is_process owner.old.value.manager.state) (number_at result) }
     ensures same { owner.new.value ≡ owner.old.value }
 {
@@ -202,7 +202,7 @@ pub extern "C" fn om_next_process(owner: &mut Owner, after: u32) -> u32
 /// [`Manager::next_thread`](ob_manager::Manager::next_thread): 0 for none.
 #[tactic(auto, using(crate::proofs::Looked::numbered))]
 #[unsafe(no_mangle)]
-pub extern "C" fn om_next_thread(owner: &mut Owner, process: u32, after: u32) -> u32
+pub extern "C" fn om_next_thread(owner: &mut ManagerOwner, process: u32, after: u32) -> u32
     ensures next { IsLeastFrom (after + 1) (is_thread_of owner.old.value.manager.state process) (number_at result) }
     ensures same { owner.new.value ≡ owner.old.value }
 {
@@ -212,7 +212,7 @@ pub extern "C" fn om_next_thread(owner: &mut Owner, process: u32, after: u32) ->
 /// [`Manager::next_object`](ob_manager::Manager::next_object): 0, or 259 behind the last.
 #[tactic(auto, using(crate::proofs::Looked::object_next))]
 #[unsafe(no_mangle)]
-pub extern "C" fn om_next_object(owner: &mut Owner, from: u32, object: &mut Object) -> u32
+pub extern "C" fn om_next_object(owner: &mut ManagerOwner, from: u32, object: &mut Object) -> u32
     ensures next { NextObject owner.old.value.manager.state from result object.old object.new }
     ensures same { owner.new.value ≡ owner.old.value }
 {
@@ -229,7 +229,7 @@ pub extern "C" fn om_next_object(owner: &mut Owner, from: u32, object: &mut Obje
 #[tactic(auto, using(crate::proofs::Looked::handle_next))]
 #[unsafe(no_mangle)]
 pub extern "C" fn om_next_handle(
-    owner: &mut Owner,
+    owner: &mut ManagerOwner,
     process: u32,
     after: u32,
     entry: &mut HandleEntry,
@@ -248,7 +248,7 @@ pub extern "C" fn om_next_handle(
 
 /// [`Manager::process_of`](ob_manager::Manager::process_of): 0 where the thread isn't live.
 #[unsafe(no_mangle)]
-pub extern "C" fn om_process_of(owner: &mut Owner, thread: u32) -> u32
+pub extern "C" fn om_process_of(owner: &mut ManagerOwner, thread: u32) -> u32
     ensures process { result ≡ or_zero (slice_index_or owner.old.value.manager.state.threads thread None) }
     ensures same { owner.new.value ≡ owner.old.value }
 {
@@ -257,7 +257,7 @@ pub extern "C" fn om_process_of(owner: &mut Owner, thread: u32) -> u32
 
 /// [`Manager::session_of`](ob_manager::Manager::session_of): 0, or 87 where the process isn't live.
 #[unsafe(no_mangle)]
-pub extern "C" fn om_session_of(owner: &mut Owner, process: u32, session: &mut u32) -> u32
+pub extern "C" fn om_session_of(owner: &mut ManagerOwner, process: u32, session: &mut u32) -> u32
     ensures session { SessionTold (slice_index_or owner.old.value.manager.state.processes process None) result
         session.old session.new }
     ensures same { owner.new.value ≡ owner.old.value }
@@ -273,7 +273,7 @@ pub extern "C" fn om_session_of(owner: &mut Owner, process: u32, session: &mut u
 
 /// [`Manager::wait_of`](ob_manager::Manager::wait_of): 0 where the thread has no wait.
 #[unsafe(no_mangle)]
-pub extern "C" fn om_wait_of(owner: &mut Owner, thread: u32) -> u32
+pub extern "C" fn om_wait_of(owner: &mut ManagerOwner, thread: u32) -> u32
     ensures wait { result ≡ or_zero (number_of thread owner.old.value.manager.state.waits) }
     ensures same { owner.new.value ≡ owner.old.value }
 {
@@ -282,7 +282,7 @@ pub extern "C" fn om_wait_of(owner: &mut Owner, thread: u32) -> u32
 
 /// [`Manager::now`](ob_manager::Manager::now).
 #[unsafe(no_mangle)]
-pub extern "C" fn om_now(owner: &mut Owner) -> u64
+pub extern "C" fn om_now(owner: &mut ManagerOwner) -> u64
     ensures moment { result ≡ owner.old.value.manager.state.clock }
     ensures same { owner.new.value ≡ owner.old.value }
 {
@@ -327,7 +327,7 @@ fn tell_ids(ids: &[Id], objects: &mut [Object]) -> u32
 #[tactic(auto, using(crate::proofs::Looked::waited, crate::proofs::Looked::unwaited))]
 #[unsafe(no_mangle)]
 pub extern "C" fn om_objects_waited_for(
-    owner: &mut Owner,
+    owner: &mut ManagerOwner,
     wait: u32,
     pending: &mut PendingWait,
     objects: &mut [Object],

@@ -7,9 +7,9 @@ ghost use Rattle.obman_c.specs.declared.owned.OwnedManager.{OwnedManager};
 ghost use Rattle.obman_c.specs.Opening.{Opens, new_keeper, new_owned};
 
 use crate::codes::SUCCESS;
-use crate::limits::{Bounds, limits_of};
+use crate::limits::{CLimits, limits_of};
 use crate::owned::OwnedManager;
-use crate::owner::{Ending, Owner, Place};
+use crate::owner::{ManagerOut, ManagerOwner, ManagerTaken};
 use ob_manager::{Limits, Manager};
 use ob_rights::{Fault, code_of};
 use pin_core::Shape;
@@ -19,7 +19,7 @@ use std::alloc::Global;
 /// A new manager, at a place of C's: 0, 87 where a limit is out of its range, or 8. What stood at the place isn't read.
 #[tactic(auto, using(crate::proofs::Opened::out_of_range, crate::proofs::Opened::no_memory))]
 #[unsafe(no_mangle)]
-pub extern "C" fn om_new(alloc: Global, bounds: &Bounds, place: &mut Place) -> u32
+pub extern "C" fn om_new(alloc: Global, bounds: &CLimits, place: &mut ManagerOut) -> u32
     ensures { Opens bounds.now result place.old.value place.new.value }
 {
     let Ok(limits) = limits_of(bounds) else {
@@ -27,7 +27,7 @@ pub extern "C" fn om_new(alloc: Global, bounds: &Bounds, place: &mut Place) -> u
     };
     match held(alloc, limits) {
         Ok(held) => {
-            *place = Place::of(held);
+            *place = ManagerOut::of(held);
             SUCCESS
         }
         Err(fault) => code_of(fault),
@@ -37,7 +37,7 @@ pub extern "C" fn om_new(alloc: Global, bounds: &Bounds, place: &mut Place) -> u
 /// The end of a manager: its memory is given back, and C may use what it passed no more. Zeros are no manager, and
 /// nothing is done.
 #[unsafe(no_mangle)]
-pub extern "C" fn om_free(ending: Ending) {
+pub extern "C" fn om_free(ending: ManagerTaken) {
     if let Some(owner) = ending.owner() {
         drop(owner.into_box());
     }
@@ -45,13 +45,13 @@ pub extern "C" fn om_free(ending: Ending) {
 
 /// [`Manager::limits`](ob_manager::Manager::limits): 0.
 #[unsafe(no_mangle)]
-pub extern "C" fn om_limits_of(owner: &mut Owner, bounds: &mut Bounds) -> u32
+pub extern "C" fn om_limits_of(owner: &mut ManagerOwner, bounds: &mut CLimits) -> u32
     ensures answer { result ≡ 0 }
     ensures limits { AreAs bounds.new owner.old.value.manager.state.limits }
     ensures same { owner.new.value ≡ owner.old.value }
 {
     let limits = owner.lend().manager.limits();
-    *bounds = Bounds {
+    *bounds = CLimits {
         slots: limits.slots,
         processes: limits.processes,
         threads: limits.threads,

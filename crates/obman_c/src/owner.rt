@@ -11,7 +11,7 @@ ghost use Rattle.obman_c.specs.Made.{Makes, call_of};
 ghost use Rattle.obman_c.specs.Owning.{owner_owns, owns_or_null, place_owns};
 
 use crate::owned::OwnedManager;
-use crate::parts::Parts;
+use crate::parts::BoxParts;
 use ob_manager::{Ask, Reply};
 use ob_rights::Fault;
 use std::alloc::Global;
@@ -19,13 +19,13 @@ use std::marker::Model;
 
 /// A manager that C owns (`om_manager`).
 #[repr(C)]
-pub struct Owner {
+pub struct ManagerOwner {
     at: *mut u8,
     alloc: Global,
     pub ghost value: { OwnedManager } by { the_row.coded },
 }
 
-impl Model for Owner {
+impl Model for ManagerOwner {
     ghost also_owns = { λ owner. owner_owns the_row owner.alloc owner.at owner.value };
 }
 
@@ -33,34 +33,34 @@ impl Model for Owner {
 /// nobody's.
 #[repr(C)]
 #[derive(Drop)]
-pub struct Place {
+pub struct ManagerOut {
     at: *mut u8,
     alloc: Global,
     pub ghost value: { Option OwnedManager } by { coded_option the_row.coded },
 }
 
-impl Model for Place {
+impl Model for ManagerOut {
     ghost also_owns = { λ place. place_owns the_row place.alloc place.at place.value };
 }
 
 /// What C ends: the same bytes, a manager, or nothing where they are zeros.
 #[repr(C)]
-pub struct Ending {
+pub struct ManagerTaken {
     at: *mut u8,
     alloc: Global,
     pub ghost value: { Option OwnedManager } by { coded_option the_row.coded },
 }
 
-impl Model for Ending {
+impl Model for ManagerTaken {
     ghost also_owns = { λ ending. owns_or_null the_row ending.alloc ending.at ending.value };
 }
 
 // C may pass a manager from thread to thread, as long as one call at a time has it.
-unsafe impl Send for Owner {}
+unsafe impl Send for ManagerOwner {}
 
-unsafe impl Send for Ending {}
+unsafe impl Send for ManagerTaken {}
 
-impl Owner {
+impl ManagerOwner {
     ghost use Rattle.obman_c.specs.Lending.{LendsManager};
 
     /// The manager, lent.
@@ -80,35 +80,35 @@ impl Owner {
     }
 }
 
-impl Place {
+impl ManagerOut {
     /// A place with the manager of a box.
-    pub fn of(held: Box<OwnedManager>) -> Place
+    pub fn of(held: Box<OwnedManager>) -> ManagerOut
         ensures { result.value ≡ Some held.value }
     {
-        Place::of_parts(Parts::of(held))
+        ManagerOut::of_parts(BoxParts::of(held))
     }
 
-    fn of_parts(parts: Parts<OwnedManager, Global>) -> Place
+    fn of_parts(parts: BoxParts<OwnedManager, Global>) -> ManagerOut
         ensures { result.value ≡ Some parts.value }
     {
-        let Parts { at, alloc } = parts;
-        Place {
+        let BoxParts { at, alloc } = parts;
+        ManagerOut {
             at: at as *mut u8,
             alloc,
         }
     }
 }
 
-impl Ending {
+impl ManagerTaken {
     /// What owns the manager, where there is one.
-    pub fn owner(self) -> Option<Parts<OwnedManager, Global>>
+    pub fn owner(self) -> Option<BoxParts<OwnedManager, Global>>
         ensures { option_map (λ owner. owner.value) result ≡ self.value }
     {
-        let Ending { at, alloc } = self;
+        let ManagerTaken { at, alloc } = self;
         if at.is_null() {
             None
         } else {
-            Some(Parts {
+            Some(BoxParts {
                 at: at as *mut OwnedManager,
                 alloc,
             })

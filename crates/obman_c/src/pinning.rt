@@ -6,7 +6,7 @@ ghost use Rattle.obman_c.specs.Finding.{Describes, description_of, kind_number};
 ghost use Rattle.obman_c.specs.Pinning.{id_at, pin_status};
 
 use crate::codes::SUCCESS;
-use crate::owner::Owner;
+use crate::owner::ManagerOwner;
 use ob_manager::Card;
 use ob_rights::{Fault, Kind, code_of};
 use pin_core::Id;
@@ -75,7 +75,7 @@ pub(crate) fn description_of(card: Card) -> Description
 /// [`Manager::card`](ob_manager::Manager::card): 0, or 6 where there is no such object.
 #[unsafe(no_mangle)]
 pub extern "C" fn om_card(
-    owner: &mut Owner,
+    owner: &mut ManagerOwner,
     slot: u32,
     generation: u32,
     description: &mut Description,

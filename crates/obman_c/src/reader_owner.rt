@@ -10,7 +10,7 @@ ghost use Rattle.obman_c.specs.declared.owned.OwnedReader.{OwnedReader};
 ghost use Rattle.obman_c.specs.Owning.{owner_owns, owns_or_null, place_owns};
 
 use crate::owned::OwnedReader;
-use crate::parts::Parts;
+use crate::parts::BoxParts;
 use std::alloc::Global;
 use std::marker::Model;
 
@@ -30,32 +30,32 @@ impl Model for ReaderOwner {
 /// nobody's.
 #[repr(C)]
 #[derive(Drop)]
-pub struct ReaderPlace {
+pub struct ReaderOut {
     at: *mut u8,
     alloc: Global,
     pub ghost value: { Option OwnedReader } by { coded_option the_row.coded },
 }
 
-impl Model for ReaderPlace {
+impl Model for ReaderOut {
     ghost also_owns = { λ place. place_owns the_row place.alloc place.at place.value };
 }
 
 /// What C ends: the same bytes, a reader, or nothing where they are zeros.
 #[repr(C)]
-pub struct ReaderEnding {
+pub struct ReaderTaken {
     at: *mut u8,
     alloc: Global,
     pub ghost value: { Option OwnedReader } by { coded_option the_row.coded },
 }
 
-impl Model for ReaderEnding {
+impl Model for ReaderTaken {
     ghost also_owns = { λ ending. owns_or_null the_row ending.alloc ending.at ending.value };
 }
 
 // C may pass a reader from thread to thread, as long as one call at a time has it.
 unsafe impl Send for ReaderOwner {}
 
-unsafe impl Send for ReaderEnding {}
+unsafe impl Send for ReaderTaken {}
 
 impl ReaderOwner {
     ghost use Rattle.obman_c.specs.Lending.{LendsReader};
@@ -69,35 +69,35 @@ impl ReaderOwner {
     }
 }
 
-impl ReaderPlace {
+impl ReaderOut {
     /// A place with the reader of a box.
-    pub fn of(owned: Box<OwnedReader>) -> ReaderPlace
+    pub fn of(owned: Box<OwnedReader>) -> ReaderOut
         ensures { result.value ≡ Some owned.value }
     {
-        ReaderPlace::of_parts(Parts::of(owned))
+        ReaderOut::of_parts(BoxParts::of(owned))
     }
 
-    fn of_parts(parts: Parts<OwnedReader, Global>) -> ReaderPlace
+    fn of_parts(parts: BoxParts<OwnedReader, Global>) -> ReaderOut
         ensures { result.value ≡ Some parts.value }
     {
-        let Parts { at, alloc } = parts;
-        ReaderPlace {
+        let BoxParts { at, alloc } = parts;
+        ReaderOut {
             at: at as *mut u8,
             alloc,
         }
     }
 }
 
-impl ReaderEnding {
+impl ReaderTaken {
     /// What owns the reader, where there is one.
-    pub fn owner(self) -> Option<Parts<OwnedReader, Global>>
+    pub fn owner(self) -> Option<BoxParts<OwnedReader, Global>>
         ensures { option_map (λ owner. owner.value) result ≡ self.value }
     {
-        let ReaderEnding { at, alloc } = self;
+        let ReaderTaken { at, alloc } = self;
         if at.is_null() {
             None
         } else {
-            Some(Parts {
+            Some(BoxParts {
                 at: at as *mut OwnedReader,
                 alloc,
             })

@@ -14,9 +14,9 @@ ghost use Rattle.obman_c.specs.Reading.{descriptor_of};
 
 use crate::codes::SUCCESS;
 use crate::owned::OwnedReader;
-use crate::owner::Owner;
+use crate::owner::ManagerOwner;
 use crate::pinning::{Description, description_of, id_at, number_of, number_of_kind};
-use crate::reader_owner::{ReaderEnding, ReaderOwner, ReaderPlace};
+use crate::reader_owner::{ReaderOut, ReaderOwner, ReaderTaken};
 use ob_rights::{Fault, code_of};
 use pin_core::{Descr, Id};
 use pin_words::Reader;
@@ -37,7 +37,11 @@ pub struct Descriptor {
 /// A reader of the manager's pins, at a place of C's: 0, or 8. What stood at the place isn't read.
 #[tactic(auto, using(crate::proofs::Read::opened, crate::proofs::Read::lacking, crate::proofs::Read::lacking_owner))]
 #[unsafe(no_mangle)]
-pub extern "C" fn om_reader_new(alloc: Global, owner: &mut Owner, place: &mut ReaderPlace) -> u32
+pub extern "C" fn om_reader_new(
+    alloc: Global,
+    owner: &mut ManagerOwner,
+    place: &mut ReaderOut,
+) -> u32
     ensures opens { ReaderOpens owner.old.value.manager result owner.new.value.manager place.old.value place.new.value }
     ensures recorder { owner.new.value.recorder ≡ owner.old.value.recorder }
 {
@@ -46,7 +50,7 @@ pub extern "C" fn om_reader_new(alloc: Global, owner: &mut Owner, place: &mut Re
     };
     match Box::new(alloc, OwnedReader { reader }) {
         Ok(owned) => {
-            *place = ReaderPlace::of(owned);
+            *place = ReaderOut::of(owned);
             SUCCESS
         }
         Err(_) => code_of(Fault::Memory),
@@ -56,7 +60,7 @@ pub extern "C" fn om_reader_new(alloc: Global, owner: &mut Owner, place: &mut Re
 /// The end of a reader, which lets go what it holds. C may use what it passed no more. Zeros are no reader, and nothing
 /// is done.
 #[unsafe(no_mangle)]
-pub extern "C" fn om_reader_free(ending: ReaderEnding) {
+pub extern "C" fn om_reader_free(ending: ReaderTaken) {
     if let Some(owner) = ending.owner() {
         let OwnedReader { mut reader } = Box::into_inner(owner.into_box());
         let_go(&mut reader);
@@ -162,7 +166,7 @@ pub extern "C" fn om_reader_describe(
 #[tactic(auto, using(crate::proofs::Read::inspected, crate::proofs::Read::uninspected))]
 #[unsafe(no_mangle)]
 pub extern "C" fn om_inspect(
-    owner: &mut Owner,
+    owner: &mut ManagerOwner,
     reader: &mut ReaderOwner,
     slot: u32,
     generation: u32,

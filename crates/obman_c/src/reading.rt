@@ -6,7 +6,7 @@ ghost use Rattle.ob_store.specs.Directory.{directory_of};
 ghost use Rattle.obman_c.specs.Listing.{RowTold, RowTells};
 
 use crate::codes::{SUCCESS, TOO_SMALL};
-use crate::owner::Owner;
+use crate::owner::ManagerOwner;
 use crate::status::NO_MORE;
 use crate::values::{Object, object_of};
 use ob_name::{NameRef, Space};
@@ -26,7 +26,7 @@ pub struct Row {
 
 /// [`Manager::directory_len`](ob_manager::Manager::directory_len).
 #[unsafe(no_mangle)]
-pub extern "C" fn om_directory_len(owner: &mut Owner) -> usize
+pub extern "C" fn om_directory_len(owner: &mut ManagerOwner) -> usize
     ensures value { result ≡ length (directory_of owner.old.value.manager.state) }
     ensures same { owner.new.value ≡ owner.old.value }
 {
@@ -37,7 +37,7 @@ pub extern "C" fn om_directory_len(owner: &mut Owner) -> usize
 /// doesn't fit; the row then says how long it is. A loop over all places is linear.
 #[unsafe(no_mangle)]
 pub extern "C" fn om_directory_at(
-    owner: &mut Owner,
+    owner: &mut ManagerOwner,
     at: usize,
     name: &mut [u8],
     row: &mut Row,

@@ -7,7 +7,7 @@ ghost use Rattle.obman_c.specs.Telling.{TellsValue, reaping_in, references_in};
 
 use crate::codes::SUCCESS;
 use crate::owned::OwnedManager;
-use crate::owner::Owner;
+use crate::owner::ManagerOwner;
 use crate::values::{Reaping, References, tell_reaping, tell_references};
 use ob_manager::Ask;
 use pin_core::Id;
@@ -15,7 +15,7 @@ use pin_core::Id;
 /// [`Manager::reap`](ob_manager::Manager::reap): 0, 87 or 6.
 #[tactic(auto, using(crate::proofs::Told::tells_as))]
 #[unsafe(no_mangle)]
-pub extern "C" fn om_reap(owner: &mut Owner, slot: u32, reaping: &mut Reaping) -> u32
+pub extern "C" fn om_reap(owner: &mut ManagerOwner, slot: u32, reaping: &mut Reaping) -> u32
     ensures { TellsValue reaping_in owner.old.value
         (Call.Reap slot) result owner.new.value reaping.old reaping.new }
 {
@@ -44,7 +44,7 @@ fn take_ended(held: &mut OwnedManager, reapings: &mut [Reaping]) -> usize
 /// always 0.
 #[unsafe(no_mangle)]
 pub extern "C" fn om_take_ended(
-    owner: &mut Owner,
+    owner: &mut ManagerOwner,
     reapings: &mut [Reaping],
     count: &mut usize,
 ) -> u32
@@ -59,7 +59,7 @@ pub extern "C" fn om_take_ended(
 #[tactic(auto, using(crate::proofs::Told::tells_as, crate::proofs::Told::counts_same))]
 #[unsafe(no_mangle)]
 pub extern "C" fn om_counts(
-    owner: &mut Owner,
+    owner: &mut ManagerOwner,
     slot: u32,
     generation: u32,
     references: &mut References,

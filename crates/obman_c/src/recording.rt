@@ -4,12 +4,12 @@ ghost use Rattle.ob_script.specs.Recording.{TakesLines};
 ghost use Rattle.obman_c.specs.Noting.{RecordTold, TakeTold};
 
 use crate::codes::{SUCCESS, TOO_SMALL};
-use crate::owner::Owner;
+use crate::owner::ManagerOwner;
 use ob_rights::{Fault, code_of};
 
 /// [`Recorder::start`](ob_script::Recorder::start), or [`Recorder::stop`](ob_script::Recorder::stop): 0 or 8.
 #[unsafe(no_mangle)]
-pub extern "C" fn om_record(owner: &mut Owner, on: bool) -> u32
+pub extern "C" fn om_record(owner: &mut ManagerOwner, on: bool) -> u32
     ensures told { RecordTold on owner.old.value.recorder result owner.new.value.recorder }
     ensures manager { owner.new.value.manager ≡ owner.old.value.manager }
 {
@@ -26,7 +26,11 @@ pub extern "C" fn om_record(owner: &mut Owner, on: bool) -> u32
 
 /// [`Recorder::take`](ob_script::Recorder::take): 0, or 122 where lines are left and not even the first one fits.
 #[unsafe(no_mangle)]
-pub extern "C" fn om_take_record(owner: &mut Owner, bytes: &mut [u8], written: &mut usize) -> u32
+pub extern "C" fn om_take_record(
+    owner: &mut ManagerOwner,
+    bytes: &mut [u8],
+    written: &mut usize,
+) -> u32
     ensures lines { TakesLines owner.old.value.recorder.text bytes.old written.new
         owner.new.value.recorder.text bytes.new }
     ensures told { TakeTold written.new owner.new.value.recorder.text result }

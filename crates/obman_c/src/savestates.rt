@@ -5,7 +5,7 @@ ghost use Rattle.obman_c.specs.Savestates.{Loads, Saves, loaded_owned};
 
 use crate::codes::{INVALID_DATA, SUCCESS, TOO_SMALL};
 use crate::owned::OwnedManager;
-use crate::owner::{Owner, Place};
+use crate::owner::{ManagerOut, ManagerOwner};
 use ob_codec::ReadFault;
 use ob_manager::Manager;
 use ob_rights::{Fault, code_of};
@@ -17,7 +17,7 @@ use std::alloc::Global;
 #[unsafe(no_mangle)]
 pub extern "C" fn om_save(
     alloc: Global,
-    owner: &mut Owner,
+    owner: &mut ManagerOwner,
     bytes: &mut [u8],
     written: &mut usize,
 ) -> u32
@@ -39,13 +39,13 @@ pub extern "C" fn om_save(
 /// [`Manager::load`](ob_manager::Manager::load), over words of its own, at a place of C's: 0, 13 where the bytes are no
 /// savestate, or 8. What stood at the place isn't read.
 #[unsafe(no_mangle)]
-pub extern "C" fn om_load(alloc: Global, bytes: &[u8], place: &mut Place) -> u32
+pub extern "C" fn om_load(alloc: Global, bytes: &[u8], place: &mut ManagerOut) -> u32
     ensures { Loads bytes.now result place.old.value place.new.value }
 {
     match Manager::load(alloc, bytes) {
         Ok(manager) => match held(alloc, manager) {
             Ok(held) => {
-                *place = Place::of(held);
+                *place = ManagerOut::of(held);
                 SUCCESS
             }
             Err(fault) => code_of(fault),

@@ -3,7 +3,7 @@ ghost use Rattle.std.specs.Prelude.{◌≡◌, ◌⊎◌};
 ghost use Rattle.obman_c.specs.Scripts.{ScriptAnswered, HandsOver};
 
 use crate::codes::{SUCCESS, TOO_SMALL};
-use crate::limits::{Bounds, limits_of};
+use crate::limits::{CLimits, limits_of};
 use ob_console::run_whole;
 use ob_rights::{Fault, code_of};
 use ob_script::Collected;
@@ -16,7 +16,7 @@ use std::alloc::Global;
 #[unsafe(no_mangle)]
 pub extern "C" fn om_script(
     alloc: Global,
-    bounds: &Bounds,
+    bounds: &CLimits,
     script: &[u8],
     answers: &mut [u8],
     length: &mut usize,
@@ -36,7 +36,7 @@ pub extern "C" fn om_script(
 /// Puts what was collected at the front of a room, where it fits, and says how long it is. The 8 never comes: a sink
 /// keeps what fits the room that it was made for.
 fn hand_over(collected: &Collected, room: &mut [u8], length: &mut usize) -> u32
-    ensures { HandsOver collected.now.account.bytes result room.old room.new length.new
+    ensures { HandsOver collected.now.io_trace.bytes result room.old room.new length.new
         ⊎ ((result ≡ 8) × (room.new ≡ room.old) × (length.new ≡ length.old)) }
 {
     if collected.len() > room.len() {

@@ -2,7 +2,7 @@
 ghost use Rattle.ob_manager.specs.declared.call.CallOf.TheVariants as Call;
 ghost use Rattle.obman_c.specs.Telling.{TellsStatus, TellsValue, count_in};
 
-use crate::owner::Owner;
+use crate::owner::ManagerOwner;
 use crate::status::told;
 use crate::values::tell_count;
 use ob_manager::Ask;
@@ -10,7 +10,7 @@ use ob_manager::Ask;
 /// [`Manager::set_event`](ob_manager::Manager::set_event): 0, 87, 170, 6 or 5.
 #[tactic(auto, using(crate::proofs::Told::tells))]
 #[unsafe(no_mangle)]
-pub extern "C" fn om_set_event(owner: &mut Owner, thread: u32, handle: u32) -> u32
+pub extern "C" fn om_set_event(owner: &mut ManagerOwner, thread: u32, handle: u32) -> u32
     ensures { TellsStatus owner.old.value (Call.SetEvent thread handle) result owner.new.value }
 {
     told(owner.call(&Ask::SetEvent { thread, handle }))
@@ -19,7 +19,7 @@ pub extern "C" fn om_set_event(owner: &mut Owner, thread: u32, handle: u32) -> u
 /// [`Manager::reset_event`](ob_manager::Manager::reset_event): 0, 87, 170, 6 or 5.
 #[tactic(auto, using(crate::proofs::Told::tells))]
 #[unsafe(no_mangle)]
-pub extern "C" fn om_reset_event(owner: &mut Owner, thread: u32, handle: u32) -> u32
+pub extern "C" fn om_reset_event(owner: &mut ManagerOwner, thread: u32, handle: u32) -> u32
     ensures { TellsStatus owner.old.value (Call.ResetEvent thread handle) result owner.new.value }
 {
     told(owner.call(&Ask::ResetEvent { thread, handle }))
@@ -28,7 +28,7 @@ pub extern "C" fn om_reset_event(owner: &mut Owner, thread: u32, handle: u32) ->
 /// [`Manager::release_semaphore`](ob_manager::Manager::release_semaphore): 0, 87, 170, 6, 5 or 298.
 #[unsafe(no_mangle)]
 pub extern "C" fn om_release_semaphore(
-    owner: &mut Owner,
+    owner: &mut ManagerOwner,
     thread: u32,
     handle: u32,
     count: i32,
@@ -50,7 +50,7 @@ pub extern "C" fn om_release_semaphore(
 /// [`Manager::release_mutex`](ob_manager::Manager::release_mutex): 0, 87, 170, 6 or 288.
 #[tactic(auto, using(crate::proofs::Told::tells))]
 #[unsafe(no_mangle)]
-pub extern "C" fn om_release_mutex(owner: &mut Owner, thread: u32, handle: u32) -> u32
+pub extern "C" fn om_release_mutex(owner: &mut ManagerOwner, thread: u32, handle: u32) -> u32
     ensures { TellsStatus owner.old.value (Call.ReleaseMutex thread handle) result owner.new.value }
 {
     told(owner.call(&Ask::ReleaseMutex { thread, handle }))

@@ -8,7 +8,7 @@ ghost use Rattle.obman_c.specs.Waiting.{TakesAll, mode_of};
 
 use crate::codes::SUCCESS;
 use crate::owned::OwnedManager;
-use crate::owner::Owner;
+use crate::owner::ManagerOwner;
 use crate::status::told;
 use crate::values::tell_answer;
 use ob_manager::{Answer, Ask, Mode, Timeout};
@@ -16,7 +16,7 @@ use ob_manager::{Answer, Ask, Mode, Timeout};
 /// The answer of a wait (`om_answer`).
 #[repr(C)]
 #[derive(Clone, Copy)]
-pub struct Answered {
+pub struct CAnswer {
     /// The wait, which is over.
     pub wait: u32,
     /// Its thread, which may make calls again.
@@ -36,7 +36,7 @@ fn mode_of(all: bool) -> Mode
 /// or 87, 170, 6, 5, 1450 or 8.
 #[unsafe(no_mangle)]
 pub extern "C" fn om_wait(
-    owner: &mut Owner,
+    owner: &mut ManagerOwner,
     thread: u32,
     all: bool,
     milliseconds: u32,
@@ -63,7 +63,7 @@ pub extern "C" fn om_wait(
 /// [`Manager::wait_result`](ob_manager::Manager::wait_result): 0 with the wait's code, 997 with its number, or 87.
 #[tactic(auto, using(crate::proofs::Told::tells_as))]
 #[unsafe(no_mangle)]
-pub extern "C" fn om_wait_result(owner: &mut Owner, wait: u32, answer: &mut u32) -> u32
+pub extern "C" fn om_wait_result(owner: &mut ManagerOwner, wait: u32, answer: &mut u32) -> u32
     ensures { TellsValue answer_in owner.old.value
         (Call.WaitResult wait) result owner.new.value answer.old answer.new }
 {
@@ -72,7 +72,7 @@ pub extern "C" fn om_wait_result(owner: &mut Owner, wait: u32, answer: &mut u32)
 
 /// The answers of waits by rising number, each taken by [`Manager::wait_result`], as far as there are any and places
 /// for them. Answers how many.
-fn take_answers(held: &mut OwnedManager, answers: &mut [Answered]) -> usize
+fn take_answers(held: &mut OwnedManager, answers: &mut [CAnswer]) -> usize
     ensures { TakesAll held.old answers.old result held.new answers.new }
 {
     for place in 0..answers.len() {
@@ -80,7 +80,7 @@ fn take_answers(held: &mut OwnedManager, answers: &mut [Answered]) -> usize
             return place;
         };
         let _ = held.call(&Ask::WaitResult { wait });
-        answers[place] = Answered { wait, thread, code };
+        answers[place] = CAnswer { wait, thread, code };
     }
     answers.len()
 }
@@ -88,8 +88,8 @@ fn take_answers(held: &mut OwnedManager, answers: &mut [Answered]) -> usize
 /// As many steps [`Manager::wait_result`] as waits are answered, by rising number, or as there are places: always 0.
 #[unsafe(no_mangle)]
 pub extern "C" fn om_take_answered(
-    owner: &mut Owner,
-    answers: &mut [Answered],
+    owner: &mut ManagerOwner,
+    answers: &mut [CAnswer],
     count: &mut usize,
 ) -> u32
     ensures taken { TakesAll owner.old.value answers.old count.new owner.new.value answers.new }
@@ -102,7 +102,7 @@ pub extern "C" fn om_take_answered(
 /// [`Manager::expire`](ob_manager::Manager::expire): 0 or 87.
 #[tactic(auto, using(crate::proofs::Told::tells))]
 #[unsafe(no_mangle)]
-pub extern "C" fn om_expire(owner: &mut Owner, wait: u32) -> u32
+pub extern "C" fn om_expire(owner: &mut ManagerOwner, wait: u32) -> u32
     ensures { TellsStatus owner.old.value (Call.Expire wait) result owner.new.value }
 {
     told(owner.call(&Ask::Expire { wait }))
@@ -110,7 +110,7 @@ pub extern "C" fn om_expire(owner: &mut Owner, wait: u32) -> u32
 
 /// [`Manager::is_pending`](ob_manager::Manager::is_pending).
 #[unsafe(no_mangle)]
-pub extern "C" fn om_is_pending(owner: &mut Owner, wait: u32) -> bool
+pub extern "C" fn om_is_pending(owner: &mut ManagerOwner, wait: u32) -> bool
     ensures pending { result ≡ waits.is_pending (slice_index_or owner.old.value.manager.state.waits wait None) }
     ensures same { owner.new.value ≡ owner.old.value }
 {

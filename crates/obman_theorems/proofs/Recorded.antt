@@ -18,9 +18,11 @@ noted : (journal : List Entry) (r t : Recording) → AreNoted r journal t → t.
 noted [] r t is on = search (is, on, append-nil)
 noted (entry ∷ entries) r t are on =
     let rest = noted entries are.0 t are.2 on in
-    let here = on_before r.is_on r are.0 (text_for entry.call entry.reply) are.1 refl rest.0 in
-    (here.0, rest.1 ∙ ap (λ text. text ++ script_of entries) here.1
-        ∙ append-assoc r.text (text_for entry.call entry.reply) (script_of entries))
+    let here = on_before r.is_on r are.0 (text_for entry.call entry.reply) are.1 refl rest.0 in (
+      here.0,
+      rest.1 ∙ ap (λ text. text ++ script_of entries) here.1
+          ∙ append-assoc r.text (text_for entry.call entry.reply) (script_of entries),
+    )
 
 pub record_is : (journal : List Entry) (r : Recording) → AreNoted (recording [] true) journal r → IsRecord journal r
 record_is journal r are on = (noted journal (recording [] true) r are on).1

@@ -5,8 +5,8 @@ use Rattle.ob_store.specs.declared.limits.Limits.{Limits}
 use Rattle.ob_store.specs.State.{State}
 use Rattle.ob_manager.specs.Steps.{next}
 use Rattle.ob_manager.proofs.StepLaws.{step_next}
-use Rattle.ob_script.specs.Acts.{Act, Nothing, Bad, ListNames, Asks, Pin, Unpin, ShowCard}
-use Rattle.ob_script.specs.Grammar.{act_of}
+use Rattle.ob_script.specs.Commands.{Command, Nothing, Bad, ListNames, Asks, Pin, Unpin, ShowCard}
+use Rattle.ob_script.specs.Grammar.{command_of}
 use Rattle.ob_console.specs.declared.script.RunFault.{RunFault}
 use Rattle.ob_console.specs.Runs.{AnswersAll, IsEnded, Point, Prints, Run}
 use Rattle.ob_shared.specs.Journal.{replay}
@@ -24,7 +24,7 @@ more s t u (e ∷ es) fs is then_is = more (next s e.call e.reply) t u es fs is 
 stays : (p q : Point) → q.whole ≡ p.whole → Leads (λ es. es ≡ []) p.whole.state q.whole.state
 stays p q is = ([], refl, ap (λ w. w.state) is)
 
-line_leads : (p : Point) (n : ℕ) (act : Act) (output : List ℕ) (q : Point) → Prints p n act output q
+line_leads : (p : Point) (n : ℕ) (act : Command) (output : List ℕ) (q : Point) → Prints p n act output q
     → Leads (Enters act output) p.whole.state q.whole.state
 line_leads p n Nothing output q h = stays p q (ap (λ (x : Point). x.whole) h.1)
 line_leads p n Bad output q h = stays p q (ap (λ (x : Point). x.whole) h.1)
@@ -40,7 +40,7 @@ run_leads : (s : Point) (n : ℕ) (lines outputs : List (List ℕ)) (t : Point) 
     → Leads (AreEntered lines outputs) s.whole.state t.whole.state
 run_leads s n [] [] t is = stays s t (ap (λ (x : Point). x.whole) is)
 run_leads s n (line ∷ lines) (output ∷ outputs) t run =
-    let here = line_leads s n (act_of line) output run.0 run.1 in
+    let here = line_leads s n (command_of line) output run.0 run.1 in
     let rest = run_leads run.0 (n + 1) lines outputs t run.2 in (
       here.0 ++ rest.0,
       (here.0, rest.0, refl, here.1, rest.1),

@@ -30,8 +30,8 @@ use Rattle.ob_manager.specs.declared.reply.Reply.TheVariants.{Reaped, Refused}
 use Rattle.ob_manager.specs.Copying.{closes}
 use Rattle.ob_manager.specs.Savestates.{load, saved}
 use Rattle.ob_manager.specs.Steps.{Step, is_lack, next, outcome_of, reclaim_in, takes_memory}
-use Rattle.ob_script.specs.Acts.{Act, Asks}
-use Rattle.ob_script.specs.Grammar.{act_of}
+use Rattle.ob_script.specs.Commands.{Command, Asks}
+use Rattle.ob_script.specs.Grammar.{command_of}
 use Rattle.ob_script.specs.Printed.{printed}
 use Rattle.ob_script.specs.Recording.{Notes, Recording}
 use Rattle.ob_script.specs.Telling.{text_for}
@@ -103,7 +103,7 @@ pub record IsRecounted (from : State) (journal : List Entry) (w : Whole) : Type 
   pub rest : IsAtRest w
 
 -- the entries of one line: of a call the call with the reply that was printed, and of any other line none
-abbrev pub Enters : Act → List ℕ → List Entry → Type 0
+abbrev pub Enters : Command → List ℕ → List Entry → Type 0
 Enters (Asks call) output entries = (entry : Entry) × (entries ≡ entry ∷ []) × (entry.call ≡ call)
     × (output ≡ printed entry.reply)
 Enters act output entries = entries ≡ []
@@ -112,7 +112,7 @@ Enters act output entries = entries ≡ []
 abbrev pub AreEntered : List (List ℕ) → List (List ℕ) → List Entry → Type 0
 AreEntered [] [] entries = entries ≡ []
 AreEntered (line ∷ lines) (output ∷ outputs) entries = (here rest : List Entry) × (entries ≡ here ++ rest)
-    × Enters (act_of line) output here × AreEntered lines outputs rest
+    × Enters (command_of line) output here × AreEntered lines outputs rest
 AreEntered lines outputs entries = ⊥
 
 -- What a run of a script prints is what a run of the model answers, from a new manager with these limits: line by line

@@ -24,6 +24,6 @@ mod law;
 
 pub use law::{
     called, closed, law_of_choices, law_of_lanes, law_of_pins, law_of_records, law_of_recounts,
-    law_of_replay, law_of_runs, law_of_savestates, law_of_steps, law_of_total, made, parted, pinned,
-    ran, recounted, savestate, stored,
+    law_of_replay, law_of_runs, law_of_savestates, law_of_steps, law_of_total, made, parted,
+    pinned, ran, recounted, savestate, stored,
 };

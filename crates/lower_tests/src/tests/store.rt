@@ -74,7 +74,7 @@ fn has_lost_a_handle(objects: &mut Objects<LockedPins>, slot: u32) -> bool {
     let Some(found) = objects.look(slot) else {
         return false;
     };
-    if found.seat.handles == 0 {
+    if found.header.handles == 0 {
         return false;
     }
     objects.handle_left(slot);

@@ -1,8 +1,8 @@
 ghost use Rattle.std.specs.Prelude.{◌≡◌, IfOk};
-ghost use Rattle.ob_script.specs.Acts.{call_in};
+ghost use Rattle.ob_script.specs.Commands.{call_in};
 ghost use Rattle.ob_console.specs.Calls.{request_in};
 
-use crate::lanes::line::Request;
+use crate::lanes::line::LaneCommand;
 use ob_manager::{Call, HandleList};
 use ob_script::LineCall;
 use ob_shared::Act;
@@ -10,15 +10,15 @@ use std::alloc::{AllocError, Global};
 
 /// What a member is to do, with a name of its own, and with handles of its own where it is a wait for these. The
 /// refusal is want of memory.
-pub fn act_of(alloc: Global, request: Request<'_>, handles: &[u32]) -> Result<Act, AllocError>
+pub fn act_of(alloc: Global, request: LaneCommand<'_>, handles: &[u32]) -> Result<Act, AllocError>
     ensures { IfOk result (λ act. act ≡ request_in handles.now request.entry) }
 {
     match request {
-        Request::Ask(ask) => Ok(Act::Ask(call_of(alloc, ask, handles)?)),
-        Request::Pin(id) => Ok(Act::Pin(id)),
-        Request::Unpin(id) => Ok(Act::Unpin(id)),
-        Request::ShowCard(id) => Ok(Act::ShowCard(id)),
-        Request::Block => Ok(Act::Block),
+        LaneCommand::Ask(ask) => Ok(Act::Ask(call_of(alloc, ask, handles)?)),
+        LaneCommand::Pin(id) => Ok(Act::Pin(id)),
+        LaneCommand::Unpin(id) => Ok(Act::Unpin(id)),
+        LaneCommand::ShowCard(id) => Ok(Act::ShowCard(id)),
+        LaneCommand::Block => Ok(Act::Block),
     }
 }
 

@@ -1,18 +1,18 @@
 ghost use Rattle.std.specs.Prelude.{◌≡◌, ◌≤◌, IfSome, List, ℕ};
 ghost use Rattle.ob_console.specs.Lines.{IsOfLane, behind_prefix, in_lane, is_marked, lane_of, line_in};
 ghost use Rattle.ob_console.specs.Lines.{line_of, with_prefix, without_prefix};
-ghost use Rattle.ob_script.specs.Acts.{act_in, shortened};
-ghost use Rattle.ob_script.specs.Grammar.{act_of};
+ghost use Rattle.ob_script.specs.Commands.{command_in, shortened};
+ghost use Rattle.ob_script.specs.Grammar.{command_of};
 
 use ob_script::{
-    Act, Handles, LineCall, ScriptLine, act_of, cut_far, is_too_long, labelled, text_of,
+    Command, Handles, LineCall, ScriptLine, command_of, cut_far, is_too_long, labelled, text_of,
 };
 use pin_core::Id;
 
 /// What a line asks of the member of a lane, with names as they stand in the line. The handles of a wait stand beside
 /// it.
 #[derive(Clone, Copy)]
-pub enum Request<'a> {
+pub enum LaneCommand<'a> {
     /// A call.
     Ask(LineCall<'a>),
     /// The reader is to hold one copy more of an Id.
@@ -27,24 +27,29 @@ pub enum Request<'a> {
 
 /// What a line of a script with lanes is.
 #[derive(Clone, Copy)]
-pub enum Line<'a> {
+pub enum LaneLine<'a> {
     /// An empty line or a comment, which is in no lane.
     Nothing,
     /// A line outside the grammar, or one that may not stand where it does.
     Bad,
     /// What the member of the lane of this number is to do. The prologue is lane 0.
-    Acts(u32, Request<'a>),
+    Acts(u32, LaneCommand<'a>),
 }
 
 /// What a line is, without its line feed, in a script with so many lanes beside the prologue. Without a prefix it
 /// belongs to the prologue, as long as that goes on. The handles of a wait are read into `handles`, as by
-/// [`act_of`](ob_script::act_of).
-pub fn line_of<'a>(lanes: u32, is_prologue: bool, line: &'a [u8], handles: &mut Handles) -> Line<'a>
+/// [`act_of`](ob_script::command_of).
+pub fn line_of<'a>(
+    lanes: u32,
+    is_prologue: bool,
+    line: &'a [u8],
+    handles: &mut Handles,
+) -> LaneLine<'a>
     ensures value { line_in handles.new.items result ≡ line_of lanes is_prologue line.now }
     ensures lane { IsOfLane lanes result }
 {
     if is_too_long(text_of(line)) {
-        return Line::Bad;
+        return LaneLine::Bad;
     }
     if is_marked(line) {
         return with_prefix(lanes, line, handles);
@@ -53,10 +58,10 @@ pub fn line_of<'a>(lanes: u32, is_prologue: bool, line: &'a [u8], handles: &mut 
 }
 
 /// What a line is behind its prefix, or where it has none.
-fn read<'a>(line: &'a [u8], handles: &mut Handles) -> Act<'a>
-    ensures { act_in handles.new.items result ≡ shortened (act_of line.now) }
+fn read<'a>(line: &'a [u8], handles: &mut Handles) -> Command<'a>
+    ensures { command_in handles.new.items result ≡ shortened (command_of line.now) }
 {
-    act_of(&ScriptLine::of(line), handles)
+    command_of(&ScriptLine::of(line), handles)
 }
 
 /// Whether a line begins with an @.
@@ -67,47 +72,47 @@ pub fn is_marked(line: &[u8]) -> bool
 }
 
 /// What an act of a line is in a lane.
-fn in_lane(number: u32, act: Act<'_>) -> Line<'_>
-    ensures value { (handles : List ℕ) → line_in handles result ≡ in_lane number (act_in handles act.entry) }
+fn in_lane(number: u32, act: Command<'_>) -> LaneLine<'_>
+    ensures value { (handles : List ℕ) → line_in handles result ≡ in_lane number (command_in handles act.entry) }
     ensures lane { IsOfLane number result }
 {
     match act {
-        Act::Nothing => Line::Nothing,
-        Act::Bad | Act::ListNames => Line::Bad,
-        Act::Ask(ask) => Line::Acts(number, Request::Ask(ask)),
-        Act::Pin(id) => Line::Acts(number, Request::Pin(id)),
-        Act::Unpin(id) => Line::Acts(number, Request::Unpin(id)),
-        Act::ShowCard(id) => Line::Acts(number, Request::ShowCard(id)),
+        Command::Nothing => LaneLine::Nothing,
+        Command::Bad | Command::ListNames => LaneLine::Bad,
+        Command::Ask(ask) => LaneLine::Acts(number, LaneCommand::Ask(ask)),
+        Command::Pin(id) => LaneLine::Acts(number, LaneCommand::Pin(id)),
+        Command::Unpin(id) => LaneLine::Acts(number, LaneCommand::Unpin(id)),
+        Command::ShowCard(id) => LaneLine::Acts(number, LaneCommand::ShowCard(id)),
     }
 }
 
 /// What the act of a line without a prefix is.
-fn without_prefix(is_prologue: bool, act: Act<'_>) -> Line<'_>
+fn without_prefix(is_prologue: bool, act: Command<'_>) -> LaneLine<'_>
     ensures value { (handles : List ℕ) → line_in handles result
-        ≡ without_prefix is_prologue (act_in handles act.entry) }
+        ≡ without_prefix is_prologue (command_in handles act.entry) }
     ensures lane { IsOfLane 0 result }
 {
     if is_prologue {
         return in_lane(0, act);
     }
     match act {
-        Act::Nothing => Line::Nothing,
-        _ => Line::Bad,
+        Command::Nothing => LaneLine::Nothing,
+        _ => LaneLine::Bad,
     }
 }
 
 /// What a line is that begins with an @.
 #[tactic(auto, using(crate::proofs::Prefixes::nothing_behind))]
-fn with_prefix<'a>(lanes: u32, line: &'a [u8], handles: &mut Handles) -> Line<'a>
+fn with_prefix<'a>(lanes: u32, line: &'a [u8], handles: &mut Handles) -> LaneLine<'a>
     ensures value { line_in handles.new.items result ≡ with_prefix lanes line.now }
     ensures lane { IsOfLane lanes result }
 {
     let Some((word, rest)) = cut_far(b' ', line) else {
-        return Line::Bad;
+        return LaneLine::Bad;
     };
     match lane_of(lanes, word) {
         Some(number) => behind_prefix(number, rest, handles),
-        None => Line::Bad,
+        None => LaneLine::Bad,
     }
 }
 
@@ -124,15 +129,15 @@ fn lane_of(lanes: u32, word: &[u8]) -> Option<u32>
 }
 
 /// What a line behind its prefix is.
-fn behind_prefix<'a>(number: u32, line: &'a [u8], handles: &mut Handles) -> Line<'a>
+fn behind_prefix<'a>(number: u32, line: &'a [u8], handles: &mut Handles) -> LaneLine<'a>
     ensures value { line_in handles.new.items result ≡ behind_prefix number line.now }
     ensures lane { IsOfLane number result }
 {
     if text_of(line) == b"block".as_slice() {
-        return Line::Acts(number, Request::Block);
+        return LaneLine::Acts(number, LaneCommand::Block);
     }
     match read(line, handles) {
-        Act::Nothing => Line::Bad,
+        Command::Nothing => LaneLine::Bad,
         act => in_lane(number, act),
     }
 }

@@ -2,7 +2,7 @@ ghost use Rattle.std.specs.Prelude.{◌≡◌, ◌+◌, ◌<◌, ◌≤◌, All,
 ghost use Rattle.ob_store.specs.State.{shape_of};
 ghost use Rattle.ob_shared.specs.Members.{IsNew};
 
-use crate::lanes::scripts::Script;
+use crate::lanes::scripts::LaneScript;
 use ob_manager::{Limits, Manager};
 use ob_shared::{Lane, Member, OpenGate, Shared, drive};
 use pin_words::{Opening, Pins, Reader};
@@ -38,7 +38,7 @@ pub fn started(
 }
 
 /// A member of the next lane, which does what the script says.
-fn member(alloc: Global, shared: &mut Shared, reader: Reader, script: Script) -> Member
+fn member(alloc: Global, shared: &mut Shared, reader: Reader, script: LaneScript) -> Member
     requires { shared.old < 65536 }
     ensures new { IsNew result }
     ensures number { result.lane.number ≡ shared.old }
@@ -61,7 +61,7 @@ pub fn members_of(
     alloc: Global,
     shared: &mut Shared,
     mut readers: Vec<Reader>,
-    scripts: Vec<Script>,
+    scripts: Vec<LaneScript>,
 ) -> Result<Vec<Member>, AllocError>
     requires at_most { shared.old + vec_len scripts ≤ 65536 }
     requires readers { vec_len readers ≡ vec_len scripts }

@@ -5,22 +5,22 @@ ghost use Rattle.ob_console.specs.Faults.{WriteHasCause};
 
 use crate::lanes::fault::LanesFault;
 use crate::lanes::line::is_marked;
-use crate::lanes::scripts::Scripts;
-use ob_script::{Answer, HeldLine, Output, READ_MOST, Sink, Source, Trouble, cut_far};
+use crate::lanes::scripts::LaneScripts;
+use ob_script::{Answer, DeviceError, Output, PartialLine, READ_MOST, Sink, Source, cut_far};
 use std::alloc::{AllocError, Global};
 
-/// The beginning of a line whose end has not come. A line that is too long for any act is not kept, but whether it
+/// The beginning of a line whose end has not come. A line that is too long for any command is not kept, but whether it
 /// begins with an @.
 #[derive(Drop)]
-struct Beginning {
-    held: HeldLine,
+struct PartialLaneLine {
+    held: PartialLine,
     is_marked: bool,
 }
 
-impl Beginning {
-    fn new() -> Beginning {
-        Beginning {
-            held: HeldLine::new(),
+impl PartialLaneLine {
+    fn new() -> PartialLaneLine {
+        PartialLaneLine {
+            held: PartialLine::new(),
             is_marked: false,
         }
     }
@@ -37,7 +37,7 @@ impl Beginning {
 /// What is read of a script with lanes, and what was printed meanwhile.
 #[derive(Drop)]
 struct Intake {
-    scripts: Scripts,
+    scripts: LaneScripts,
     output: Output,
     lines: u128,
 }
@@ -60,7 +60,7 @@ impl Intake {
     }
 
     /// A line comes that is too long.
-    fn pass_over<W: Sink>(&mut self, sink: &mut W, is_marked: bool) -> Result<(), LanesFault>
+    fn take_too_long<W: Sink>(&mut self, sink: &mut W, is_marked: bool) -> Result<(), LanesFault>
         requires { self.old.lines < 2 ^ 127 }
         ensures lanes { self.new.scripts.lanes ≡ self.old.scripts.lanes }
         ensures lines { self.new.lines ≡ self.old.lines + 1 }
@@ -90,25 +90,25 @@ impl Intake {
 
 /// A script with lanes that is read block by block.
 #[derive(Drop)]
-pub struct Reading {
+pub struct LaneReader {
     intake: Intake,
-    beginning: Beginning,
+    partial: PartialLaneLine,
 }
 
-impl Reading {
+impl LaneReader {
     /// A script with so many lanes beside the prologue, of which nothing has been read.
-    pub fn new(alloc: Global, lanes: u32, writes: u64) -> Result<Reading, AllocError>
+    pub fn new(alloc: Global, lanes: u32, writes: u64) -> Result<LaneReader, AllocError>
         ensures lanes { IfOk result (λ reading. reading.intake.scripts.lanes ≡ lanes) }
         ensures lines { IfOk result (λ reading. reading.intake.lines ≡ 0) }
         ensures writes { IfOk result (λ reading. reading.intake.output.writes_left ≡ writes) }
     {
-        Ok(Reading {
+        Ok(LaneReader {
             intake: Intake {
-                scripts: Scripts::new(alloc, lanes)?,
+                scripts: LaneScripts::new(alloc, lanes)?,
                 output: Output::new(alloc, writes)?,
                 lines: 0,
             },
-            beginning: Beginning::new(),
+            partial: PartialLaneLine::new(),
         })
     }
 
@@ -121,11 +121,11 @@ impl Reading {
         ensures read { IsErrOf result LanesFault.Read → ⊥ }
         ensures write { WriteHasCause result W.faults sink.old sink.new self.new.intake.output.writes_left }
     {
-        let taken = match self.beginning.held.line() {
+        let taken = match self.partial.held.line() {
             Some(line) => self.intake.take(sink, line),
-            None => self.intake.pass_over(sink, self.beginning.is_marked),
+            None => self.intake.take_too_long(sink, self.partial.is_marked),
         };
-        self.beginning.held.clear();
+        self.partial.held.clear();
         taken
     }
 
@@ -139,10 +139,10 @@ impl Reading {
         ensures read { IsErrOf result LanesFault.Read → ⊥ }
         ensures write { WriteHasCause result W.faults sink.old sink.new self.new.intake.output.writes_left }
     {
-        if self.beginning.held.is_empty() {
+        if self.partial.held.is_empty() {
             return self.intake.take(sink, end);
         }
-        self.beginning.extend(end);
+        self.partial.extend(end);
         self.end_line(sink)
     }
 
@@ -162,7 +162,7 @@ impl Reading {
                 Err(fault) => return Err(fault),
             }
         }
-        self.beginning.extend(rest);
+        self.partial.extend(rest);
         Ok(())
     }
 
@@ -188,7 +188,7 @@ impl Reading {
         ensures read { IsErrOf result LanesFault.Read → ⊥ }
         ensures write { WriteHasCause result W.faults sink.old sink.new self.new.intake.output.writes_left }
     {
-        if !self.beginning.held.is_empty() {
+        if !self.partial.held.is_empty() {
             self.end_line(sink)?;
         }
         self.intake.output.flush(sink)?;
@@ -221,15 +221,15 @@ impl Reading {
                     Ok(()) => {}
                     Err(fault) => return Err(fault),
                 },
-                Err(Trouble::Interrupted) => {}
-                Err(Trouble::Failed) => return Err(LanesFault::Read),
+                Err(DeviceError::Interrupted) => {}
+                Err(DeviceError::Failed) => return Err(LanesFault::Read),
             }
         }
         Err(LanesFault::Read)
     }
 
     /// What the members are to do, and where answers are printed.
-    pub fn into_parts(self) -> (Scripts, Output)
+    pub fn into_parts(self) -> (LaneScripts, Output)
         ensures scripts { result.0 ≡ self.intake.scripts }
         ensures output { result.1 ≡ self.intake.output }
     {

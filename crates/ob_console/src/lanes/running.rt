@@ -6,8 +6,8 @@ ghost use Rattle.ob_console.specs.Faults.{WriteHasCause};
 use crate::lanes::fault::LanesFault;
 use crate::lanes::members::{drive_all, lanes_of, members_of, room_for, started};
 use crate::lanes::printing::print_members;
-use crate::lanes::reading::Reading;
-use crate::lanes::scripts::Script;
+use crate::lanes::reading::LaneReader;
+use crate::lanes::scripts::LaneScript;
 use ob_manager::Limits;
 use ob_script::{Answer, CALLS_MOST, Output, READ_MOST, Sink, Source, zeros};
 use ob_shared::{Lane, Shared};
@@ -38,7 +38,7 @@ pub fn run_lanes<R: Threads + Wait + Sync, I: Source, O: Sink>(
     ensures reads { I.calls reader.new ≤ I.calls reader.old + calls_most }
     ensures writes { O.calls writer.new ≤ O.calls writer.old + calls_most }
 {
-    let mut reading = Reading::new(alloc, lanes, CALLS_MOST)?;
+    let mut reading = LaneReader::new(alloc, lanes, CALLS_MOST)?;
     let mut block = zeros(alloc, READ_MOST)?;
     reading.read_all(&mut block, CALLS_MOST, reader, writer)?;
     drop(block);
@@ -59,7 +59,7 @@ fn run_scripts<R: Threads + Wait + Sync, O: Sink>(
     rt: &R,
     alloc: Global,
     limits: Limits,
-    scripts: Vec<Script>,
+    scripts: Vec<LaneScript>,
     output: &mut Output,
     writer: &mut O,
 ) -> Result<(), LanesFault>
@@ -92,7 +92,7 @@ fn answer_scripts<R: Threads + Wait + Sync, O: Sink>(
     alloc: Global,
     shared: &mut Shared,
     readers: Vec<Reader>,
-    scripts: Vec<Script>,
+    scripts: Vec<LaneScript>,
     output: &mut Output,
     writer: &mut O,
 ) -> Result<Vec<Lane>, LanesFault>

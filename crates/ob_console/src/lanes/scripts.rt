@@ -1,8 +1,8 @@
 ghost use Rattle.std.specs.Prelude.{◌≡◌, ◌+◌, ◌<◌, ◌∷◌, ◌++◌, [], IfOk, OnErr, OnOk, length, vec_len};
-ghost use Rattle.ob_console.specs.Scripts.{is_good, opening_scripts, with_act, with_line, without_prologue};
+ghost use Rattle.ob_console.specs.LaneScripts.{is_good, opening_scripts, with_act, with_line, without_prologue};
 
 use crate::lanes::calling::act_of;
-use crate::lanes::line::{Line, is_marked, line_of};
+use crate::lanes::line::{LaneLine, is_marked, line_of};
 use ob_script::Handles;
 use ob_shared::Act;
 use std::alloc::{AllocError, Global};
@@ -10,11 +10,11 @@ use std::marker::Model;
 
 /// What a member is to do. A contract sees the list of its acts.
 #[derive(Drop)]
-pub struct Script {
+pub struct LaneScript {
     acts: Vec<Act>,
 }
 
-impl Model for Script {
+impl Model for LaneScript {
     ghost use Rattle.std.specs.Prelude.{List};
     ghost use Rattle.ob_shared.specs.declared.act.Act.{Act};
 
@@ -23,11 +23,11 @@ impl Model for Script {
     ghost view = { λ script. script.acts.items };
 }
 
-impl Script {
-    fn new(alloc: Global) -> Script
+impl LaneScript {
+    fn new(alloc: Global) -> LaneScript
         ensures { result ≡ [] }
     {
-        Script {
+        LaneScript {
             acts: Vec::new(alloc),
         }
     }
@@ -51,17 +51,17 @@ impl Script {
 /// What the members of the prologue and of the lanes are to do, as far as lines have come. A contract sees the scripts
 /// by the number of their lane, and whether the prologue goes on.
 #[derive(Drop)]
-pub struct Scripts {
-    scripts: Vec<Script>,
+pub struct LaneScripts {
+    scripts: Vec<LaneScript>,
     lanes: u32,
     is_prologue: bool,
     handles: Handles,
     alloc: Global,
 }
 
-impl Model for Scripts {
+impl Model for LaneScripts {
     ghost use Rattle.std.specs.Prelude.{◌≡◌, ◌+◌, length, vec_len};
-    ghost use Rattle.ob_console.specs.Scripts.{ScriptsState};
+    ghost use Rattle.ob_console.specs.LaneScripts.{ScriptsState};
 
     ghost Value = { ScriptsState };
 
@@ -74,18 +74,18 @@ impl Model for Scripts {
     ghost invariant = { λ scripts. vec_len scripts.scripts ≡ scripts.lanes + 1 };
 }
 
-impl Scripts {
+impl LaneScripts {
     /// Empty scripts, for the prologue and so many lanes beside it.
-    pub fn new(alloc: Global, lanes: u32) -> Result<Scripts, AllocError>
+    pub fn new(alloc: Global, lanes: u32) -> Result<LaneScripts, AllocError>
         ensures { IfOk result (λ scripts. scripts ≡ opening_scripts lanes) }
     {
         let mut scripts = Vec::new(alloc);
-        scripts.push(Script::new(alloc))?;
+        scripts.push(LaneScript::new(alloc))?;
         for number in 0..lanes {
             let _number = number;
-            scripts.push(Script::new(alloc))?;
+            scripts.push(LaneScript::new(alloc))?;
         }
-        Ok(Scripts {
+        Ok(LaneScripts {
             scripts,
             lanes,
             is_prologue: true,
@@ -102,9 +102,9 @@ impl Scripts {
         ensures memory { OnErr result (self.new ≡ self.old) }
     {
         let is_good = match line_of(self.lanes, self.is_prologue, line, &mut self.handles) {
-            Line::Nothing => true,
-            Line::Bad => false,
-            Line::Acts(number, request) => {
+            LaneLine::Nothing => true,
+            LaneLine::Bad => false,
+            LaneLine::Acts(number, request) => {
                 let act = act_of(self.alloc, request, self.handles.as_slice())?;
                 add(self.scripts.as_mut_slice(), number as usize, act)?;
                 true
@@ -124,7 +124,7 @@ impl Scripts {
     }
 
     /// The scripts by the number of their lane, of which the prologue's is 0.
-    pub fn into_scripts(self) -> Vec<Script>
+    pub fn into_scripts(self) -> Vec<LaneScript>
         ensures scripts { result.items ≡ self.scripts }
         ensures len { vec_len result ≡ self.lanes + 1 }
     {
@@ -133,7 +133,7 @@ impl Scripts {
 }
 
 /// Puts an act behind the others of its script.
-fn add(scripts: &mut [Script], number: usize, act: Act) -> Result<(), AllocError>
+fn add(scripts: &mut [LaneScript], number: usize, act: Act) -> Result<(), AllocError>
     requires { number < length scripts.old }
     ensures ok { OnOk result (scripts.new ≡ with_act number act scripts.old) }
     ensures memory { OnErr result (scripts.new ≡ scripts.old) }

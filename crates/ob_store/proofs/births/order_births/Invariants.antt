@@ -3,5 +3,5 @@ use Rattle.ob_store.specs.SavedBirths.{births_from}
 use Rattle.ob_store.proofs.births.order_births.Given as goal
 
 abbrev pub invariant-loop-slot : goal.invariant-loop-slot
-invariant-loop-slot l = births_from l.births l.order.entries l.slot (drop l.slot l.seats.objects) ≡
-    births_from l.births [] 0 l.seats.objects
+invariant-loop-slot l = births_from l.births l.order.entries l.slot (drop l.slot l.headers.objects) ≡
+    births_from l.births [] 0 l.headers.objects

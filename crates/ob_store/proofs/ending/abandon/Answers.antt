@@ -3,7 +3,7 @@ use Rattle.std.proofs.lemmas.Bool.{cases_eq, cases_lt}
 use Rattle.std.proofs.lemmas.List.{get_or_past, length-map}
 use Rattle.ob_body.specs.Mutex.{is_owner}
 use Rattle.ob_waits.specs.Form.{slot_owner}
-use Rattle.ob_waits.specs.Objects.{Objects}
+use Rattle.ob_waits.specs.CountedBodies.{CountedBodies}
 use Rattle.ob_store.specs.Ends.{slot_left_by}
 use Rattle.ob_store.specs.Owners.{owns_at}
 use Rattle.ob_store.proofs.OneByOne.{all_done}
@@ -32,7 +32,7 @@ returns-clause-seen g c =
     let t = c.args.thread in
     let bodies = c.loop-slot.objects.seen.bodies in
     let f = slot_left_by t in
-    let same = ap (λ (o : Objects). length o.bodies) (c.loop-slot.invariant.seen ∙ sym c.abandon_listed.ensures.seen) in
+    let same = ap (λ (o : CountedBodies). length o.bodies) (c.loop-slot.invariant.seen ∙ sym c.abandon_listed.ensures.seen) in
     let long = length-map bodies f in
     let before = length-map c.abandon_listed.new.objects.seen.bodies f in
     let slots = c.kept.ensures.agreed.bodied in

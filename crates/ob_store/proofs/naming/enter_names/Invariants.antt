@@ -3,4 +3,4 @@ use Rattle.ob_store.specs.SavedNames.{named_from, names_in}
 use Rattle.ob_store.proofs.naming.enter_names.Given as goal
 
 abbrev pub invariant-loop-slot : goal.invariant-loop-slot
-invariant-loop-slot l = named_from l.seats l.names.rows l.slot-iterator ≡ names_in l.order.entries l.seats
+invariant-loop-slot l = named_from l.headers l.names.rows l.slot-iterator ≡ names_in l.order.entries l.headers

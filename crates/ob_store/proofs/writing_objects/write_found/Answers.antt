@@ -12,5 +12,5 @@ returns-in_ok-push-in-Some-clause-text c =
     rw c.in-Some.is (on_ok_weaker c.write_object.result
     (λ t. two_behind c.args.out.now.items (1 ∷ []) c.push.new.self.items c.write_object.new.out.items
     c.in_ok-push-in-Some.ensures.items
-    (object_text (saved_of (object_of f.seat.now (tag_of f.label.now f.name.now)) f.seat.now.body)) t)
+    (object_text (saved_of (object_of f.header.now (tag_of f.label.now f.name.now)) f.header.now.body)) t)
     c.write_object.ensures.text)

@@ -11,8 +11,8 @@ use Rattle.ob_store.proofs.writing_objects.write_object.Goals as goal
 
 pub returns-clause-text : goal.returns-clause-text
 returns-clause-text c = on_ok_weaker c.write_name.result (λ t. five_behind c.args.out.now.items
-    (to_le_bytes w64 c.args.label.now.birth) (descr_text c.args.label.now.descr) (rights_text c.args.seat.now.grant)
-    (option body_text c.args.seat.now.body)
+    (to_le_bytes w64 c.args.label.now.birth) (descr_text c.args.label.now.descr) (rights_text c.args.header.now.grant)
+    (option body_text c.args.header.now.body)
     (option name_text (cond c.args.label.now.is_named c.args.name.now None)) c.write.new.out.items
     c.write_descr.new.out.items c.write-2.new.out.items c.write-3.new.out.items c.write_name.new.out.items
     c.in_ok-write.ensures.text c.in_ok-write_descr.ensures c.in_ok-write-2.ensures.text c.in_ok-write-3.ensures.text t)

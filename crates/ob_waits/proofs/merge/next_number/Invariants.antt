@@ -1,7 +1,7 @@
 use Rattle.std.proofs.Common.{◌<◌, ℕ, get_or}
 use Rattle.std.specs.Prelude.{IfSome, ◌⊎◌}
 use Rattle.least.specs.From.{IsAtMost}
-use Rattle.ob_waits.specs.Numbers.{numbers_of}
+use Rattle.ob_waits.specs.RisingNumbers.{numbers_of}
 use Rattle.ob_waits.specs.Rules.{IsSpent, Within}
 use Rattle.ob_waits.specs.Waits.{nowhere}
 use Rattle.ob_waits.proofs.merge.next_number.Given as goal
@@ -9,6 +9,7 @@ use Rattle.ob_waits.proofs.merge.next_number.Given as goal
 abbrev pub invariant-loop-id : goal.invariant-loop-id
 invariant-loop-id g l = record {
   above : IfSome l.least (λ n. l.last < n);
-  least : (i k : ℕ) → i < l.id-index → Within k (numbers_of l.roster.index (get_or l.ids i nowhere).slot) → l.last < k
+  least : (i k : ℕ) → i < l.id-index → Within k (numbers_of l.pending_index.index (get_or l.ids i nowhere).slot)
+      → l.last < k
       → IsAtMost l.least k ⊎ IsSpent (g.B.Bodies.objects l.bodies).bodies l.live (get_or l.ids i nowhere).slot;
 }

@@ -1,5 +1,5 @@
 use Rattle.std.proofs.Common.{◌≡◌, drop}
-use Rattle.ob_waits.specs.Objects.{without_blocks}
+use Rattle.ob_waits.specs.CountedBodies.{without_blocks}
 use Rattle.ob_waits.proofs.pass.leave_all.Given as goal
 
 abbrev pub invariant-loop-id : goal.invariant-loop-id

@@ -1,5 +1,5 @@
 use Rattle.std.proofs.Common.{◌≡◌, ◌<◌, ◌∷◌, [], ◌∙◌, List, ℕ, ap, eqb, get_or, length, rules, subst, sym, arith}
-use Rattle.ob_waits.specs.Numbers.{numbers_of}
+use Rattle.ob_waits.specs.RisingNumbers.{numbers_of}
 use Rattle.ob_waits.specs.Rules.{IsReadyBy, IsSpent}
 use Rattle.ob_waits.specs.Waits.{Scene, passed, settled}
 use Rattle.ob_waits.proofs.Keeping.{Fade, fade_both, fits_passed, passed_fades}
@@ -12,7 +12,7 @@ loop-at-init g c = search (arith, covers_slot)
 
 pub loop-at-preserved : goal.loop-at-preserved
 loop-at-preserved g c =
-    let ns : List ℕ = numbers_of c.args.roster.now.index c.args.id.slot in
+    let ns : List ℕ = numbers_of c.args.pending_index.now.index c.args.id.slot in
     let scene : Scene = record { objects = g.B.Bodies.objects c.loop-at.bodies; waits = c.loop-at.live } in
     let after : Scene = record { objects = g.B.Bodies.objects c.take_effect.new.bodies; waits = c.take_effect.new.live }
     in

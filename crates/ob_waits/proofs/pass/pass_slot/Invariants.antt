@@ -1,5 +1,5 @@
 use Rattle.std.proofs.Common.{◌≡◌, drop, eqb}
-use Rattle.ob_waits.specs.Numbers.{numbers_of}
+use Rattle.ob_waits.specs.RisingNumbers.{numbers_of}
 use Rattle.ob_waits.specs.Waits.{Scene, settled}
 use Rattle.ob_waits.specs.Rules.{Covers, Fits, IsReadyBy}
 use Rattle.ob_waits.proofs.Keeping.{Fade}
@@ -10,7 +10,7 @@ invariant-loop-at g l = record {
   same : ◌≡◌ {A = Scene} (settled (record { objects = g.B.Bodies.objects l.bodies; waits = l.live }))
       (settled (record { objects = g.B.Bodies.objects l.fn.bodies; waits = l.fn.live }));
   rest : g.B.Bodies.rest l.bodies ≡ g.B.Bodies.rest l.fn.bodies;
-  covers : Covers (drop l.at (numbers_of l.roster.index l.id.slot)) (record {
+  covers : Covers (drop l.at (numbers_of l.pending_index.index l.id.slot)) (record {
     objects = g.B.Bodies.objects l.bodies;
     waits = l.live;
   });

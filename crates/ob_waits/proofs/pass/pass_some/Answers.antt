@@ -10,7 +10,7 @@ loop-init g c =
     grind arith
 
 pub next_number-requires : goal.next_number-requires
-next_number-requires g c = lists_faded c.args.live.now c.loop.live c.args.roster.now.order c.args.roster.now.index
+next_number-requires g c = lists_faded c.args.live.now c.loop.live c.args.pending_index.now.order c.args.pending_index.now.index
     c.loop.invariant.fade c.requires.right
 
 pub loop-preserved : goal.loop-preserved
@@ -20,7 +20,7 @@ loop-preserved g c =
     let after : Scene = record { objects = g.B.Bodies.objects c.take_effect.new.bodies; waits = c.take_effect.new.live }
     in
     let is : after ≡ passed (m ∷ []) scene = c.take_effect.ensures.scene in
-    let step = goes c.loop.last c.args.roster.now.index c.args.ids.now scene c.loop.invariant.remains m
+    let step = goes c.loop.last c.args.pending_index.now.index c.args.ids.now scene c.loop.invariant.remains m
     c.in-Some.ensures in
     record {
       same = ap settled is ∙ step.same ∙ c.loop.invariant.same;

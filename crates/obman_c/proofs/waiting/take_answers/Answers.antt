@@ -2,7 +2,7 @@ use Rattle.std.proofs.Common.{◌<◌, ◌∙◌, length, length-set, subst, ari
 use Rattle.ob_manager.specs.declared.call.CallOf.TheVariants as calls
 use Rattle.ob_manager.specs.declared.reply.Reply.{Reply}
 use Rattle.ob_manager.specs.Steps.{reply_of}
-use Rattle.obman_c.specs.declared.waiting.Answered.{Answered}
+use Rattle.obman_c.specs.declared.waiting.CAnswer.{CAnswer}
 use Rattle.obman_c.specs.Made.{Makes}
 use Rattle.obman_c.specs.Waiting.{TakesNext}
 use Rattle.obman_c.proofs.Chains.{chain_set, rest_set}
@@ -16,7 +16,7 @@ loop-place-preserved c =
     let old = c.loop-place.held in
     let new = c.call.new.self in
     let a = c.in-Some.field-0 in
-    let told : Answered = record { wait = a.wait; thread = a.thread; code = a.code } in
+    let told : CAnswer = record { wait = a.wait; thread = a.thread; code = a.code } in
     let is = answered old.manager new.manager a.wait a (reply_of c.call.result) c.in-Some.ensures.answer
     c.call.ensures.step in
     let next : TakesNext old told new = record {

@@ -1,11 +1,11 @@
 use Rattle.std.proofs.Common.{ℕ, List, ◌++◌, subst, arith}
-use Rattle.ob_script.specs.Grammar.{act_of}
-use Rattle.ob_script.specs.HeldLines.{act_of_held}
+use Rattle.ob_script.specs.Grammar.{command_of}
+use Rattle.ob_script.specs.PartialLines.{command_of_partial_line}
 use Rattle.ob_script.specs.Printed.{line_end}
 use Rattle.ob_console.specs.Sessions.{ConsoleState, Advances}
 use Rattle.ob_script.specs.Pending.{IsWritten}
 use Rattle.ob_console.proofs.Advancing.{line_advances}
-use Rattle.ob_script.proofs.Texts.{act_of_capped}
+use Rattle.ob_script.proofs.Texts.{command_of_capped}
 use Rattle.ob_console.proofs.console.Console.line.Goals as goal
 
 pub returns-then-is_empty-clause-advances : goal.returns-then-is_empty-clause-advances
@@ -29,8 +29,8 @@ returns-then-is_empty-clause-advances g c =
     ++ printed) c.answer.new.self.pending.bytes)
     c.self.view_is (
       prints.0,
-      line_advances old new (act_of c.args.end.now) c.args.end.now prints.0 c.requires.within
-          (search (arith, act_of_capped))
+      line_advances old new (command_of c.args.end.now) c.args.end.now prints.0 c.requires.within
+          (search (arith, command_of_capped))
           prints.1 c.answer.ensures.lines empty,
       prints.2,
     )
@@ -56,7 +56,7 @@ returns-clause-advances g c =
     ++ printed) c.answer_held-answered.new.self.pending.bytes)
     c.self.view_is (
       prints.0,
-      line_advances old new (act_of_held c.extend.new.self) c.args.end.now prints.0 c.requires.within
+      line_advances old new (command_of_partial_line c.extend.new.self) c.args.end.now prints.0 c.requires.within
           (search arith)
           prints.1 c.answer_held-answered.ensures.lines c.clear.ensures,
       prints.2,

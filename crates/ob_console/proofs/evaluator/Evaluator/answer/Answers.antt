@@ -1,6 +1,6 @@
 use Rattle.std.proofs.Common.{◌+◌, List, ℕ, subst, arith}
-use Rattle.ob_script.specs.Acts.{Act}
-use Rattle.ob_script.specs.Grammar.{act_of}
+use Rattle.ob_script.specs.Commands.{Command}
+use Rattle.ob_script.specs.Grammar.{command_of}
 use Rattle.ob_console.specs.Runs.{point}
 use Rattle.ob_console.specs.Sessions.{Enacts, Evaluation}
 use Rattle.ob_console.proofs.Waited.{enacts_whole}
@@ -16,7 +16,7 @@ returns-clause-prints g c =
     } in
     let before : List ℕ = g.W.Sink.taken c.args.sink.now in
     let after : List ℕ = g.W.Sink.taken c.enact.new.sink in
-    let act : Act = act_of c.args.line.now in
+    let act : Command = command_of c.args.line.now in
     subst (λ (first : Evaluation). Enacts first (first.lines + 1) act c.enact.result before after c.enact.new.self)
     c.self.view_is
     (enacts_whole old (inside.lines + 1) act c.enact.result before after c.enact.new.self

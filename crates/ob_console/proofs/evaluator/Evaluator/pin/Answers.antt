@@ -1,5 +1,5 @@
 use Rattle.std.proofs.Common.{List, ℕ, ◌++◌, refl, subst}
-use Rattle.ob_script.specs.Acts.{Pin}
+use Rattle.ob_script.specs.Commands.{Pin}
 use Rattle.ob_script.specs.Printed.{line_end, printed_pin}
 use Rattle.ob_script.proofs.Written.{put_written}
 use Rattle.ob_console.specs.Runs.{point}

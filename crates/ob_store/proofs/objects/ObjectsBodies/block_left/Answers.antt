@@ -3,29 +3,29 @@ use Rattle.std.proofs.lemmas.Bool.{and_parts}
 use Rattle.std.specs.Prelude.{is_some}
 use Rattle.pin_words.specs.Keepers.{KeeperState}
 use Rattle.ob_store.specs.Objects.{ObjectsState, with_keeper, kept_rest, opened}
-use Rattle.ob_store.specs.Agreement.{IsTied}
+use Rattle.ob_store.specs.Agreement.{ObjectsInvariant}
 use Rattle.ob_store.proofs.AgreeLaws.{body_at, opened_closed, live_at, body_within}
 use Rattle.ob_store.proofs.TiedLaws.{tied_block_ended, tied_block_left}
 use Rattle.ob_store.proofs.objects.ObjectsBodies.block_left.Goals as goal
 
 pub invariant_of-self : goal.invariant_of-self
 invariant_of-self g c =
-    let s : ObjectsState = with_keeper c.self.inside.seats c.self.inside.births
+    let s : ObjectsState = with_keeper c.self.inside.headers c.self.inside.births
     (g.K.PinKeeper.kept c.self.inside.keeper) in
-    subst (λ (k : KeeperState). IsTied (with_keeper c.block_left.new.self s.births k)) (sym c.close_slot.ensures)
+    subst (λ (k : KeeperState). ObjectsInvariant (with_keeper c.block_left.new.self s.births k)) (sym c.close_slot.ensures)
     (tied_block_ended s c.block_left.new.self c.args.id c.block_left.ensures.objects c.block_left.ensures.rest
     c.self.invariant (sym c.block_left.ensures.ended ∙ c.if-block_left.true))
 
 pub invariant_of-self-else-block_left : goal.invariant_of-self-else-block_left
 invariant_of-self-else-block_left g c =
-    let s : ObjectsState = with_keeper c.self.inside.seats c.self.inside.births
+    let s : ObjectsState = with_keeper c.self.inside.headers c.self.inside.births
     (g.K.PinKeeper.kept c.self.inside.keeper) in
     tied_block_left s c.block_left.new.self c.args.id c.block_left.ensures.objects c.block_left.ensures.rest
     c.self.invariant (sym c.block_left.ensures.ended ∙ c.if-block_left.false)
 
 pub returns-then-block_left-clause-rest : goal.returns-then-block_left-clause-rest
 returns-then-block_left-clause-rest g c =
-    let s : ObjectsState = with_keeper c.self.inside.seats c.self.inside.births
+    let s : ObjectsState = with_keeper c.self.inside.headers c.self.inside.births
     (g.K.PinKeeper.kept c.self.inside.keeper) in
     let there : is_some (body_at s c.args.id.slot) ≡ true =
     (and_parts _ _ (sym c.block_left.ensures.ended ∙ c.if-block_left.true)).0 in

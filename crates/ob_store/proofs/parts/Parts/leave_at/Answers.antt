@@ -3,7 +3,7 @@ use Rattle.ob_tables.specs.declared.entry.Entry.{Entry}
 use Rattle.ob_store.specs.Kept.{IsSound}
 use Rattle.ob_store.specs.Parts.{parts_of}
 use Rattle.ob_store.specs.UnderWay.{tables_left, with_left}
-use Rattle.ob_store.proofs.EmptiedLaws.{left_held, left_none, left_seated, next_ending, next_sound, same_ending}
+use Rattle.ob_store.proofs.EmptiedLaws.{left_held, left_none, left_has_object, next_ending, next_sound, same_ending}
 use Rattle.ob_store.proofs.parts.Parts.leave_at.Goals as goal
 
 pub returns-in_default-clause-carries : goal.returns-in_default-clause-carries
@@ -31,7 +31,7 @@ handle_left-was_last-requires g c =
 pub leave_directory-requires : goal.leave_directory-requires
 leave_directory-requires g c =
     let here : get_or c.args.places.now c.args.place None ≡ Some c.in-Some.entry = search rules in
-    left_seated (parts_of c.args.self.now) c.args.process c.args.places.now c.args.place c.in-Some.entry
+    left_has_object (parts_of c.args.self.now) c.args.process c.args.places.now c.args.place c.in-Some.entry
     c.requires.sound c.kept.ensures c.requires.table here c.handle_left-was_last.new.self
     c.handle_left-was_last.ensures.value
 

@@ -5,7 +5,7 @@ use Rattle.ob_name.specs.Listing.{find_name}
 use Rattle.ob_name.specs.Refs.{name_at}
 use Rattle.ob_store.specs.Directory.{directory_of}
 use Rattle.ob_store.specs.Kept.{IsLive}
-use Rattle.ob_store.specs.Objects.{Head}
+use Rattle.ob_store.specs.Objects.{ObjectAttributes}
 use Rattle.ob_store.specs.Parts.{parts_of, state_of}
 use Rattle.ob_store.specs.State.{State, Whole, settled, vacancy}
 use Rattle.ob_store.proofs.AddedLaws.{kept_name, added_state, with_added}
@@ -17,7 +17,7 @@ invariant_of-self-in-Ok g c =
     let s = c.self.inside.parts in
     let new = c.args.new in
     let name = name_at c.args.name.now in
-    let head : Head = record { descr = new.descr; grant = new.grant; name = Some name } in
+    let attributes : ObjectAttributes = record { descr = new.descr; grant = new.grant; name = Some name } in
     let absent : find_name name s.names.rows ≡ None = ap (find_name name) c.self.invariant.sound.listing.same
     ∙ ap (λ (w : Whole). find_name name (directory_of w.state)) c.self.view_is ∙ c.requires.absent in
     rw (
@@ -30,7 +30,7 @@ invariant_of-self-in-Ok g c =
       c.in_ok-entered.ensures.copy,
       c.in_ok-entered.ensures.rows,
     )
-    (kept_name (parts_of s) c.self.invariant c.kept.ensures c.args.process c.args.slot new.rights new.flags head
+    (kept_name (parts_of s) c.self.invariant c.kept.ensures c.args.process c.args.slot new.rights new.flags attributes
     new.body
     (subst (λ (w : Whole). IsLive w.state.processes c.args.process) (sym c.self.view_is) c.requires.live)
     (subst (λ (w : Whole). is_vacant_at (vacancy w.state) c.args.slot ≡ true) (sym c.self.view_is) c.requires.vacant)
@@ -43,8 +43,8 @@ pub returns-in-Ok-clause-state : goal.returns-in-Ok-clause-state
 returns-in-Ok-clause-state g c =
     let s = c.self.inside.parts in
     let new = c.args.new in
-    let head : Head = record { descr = new.descr; grant = new.grant; name = Some (name_at c.args.name.now) } in
-    let after : State → State = λ (z : State). with_added z c.args.process c.args.slot new.rights new.flags head
+    let attributes : ObjectAttributes = record { descr = new.descr; grant = new.grant; name = Some (name_at c.args.name.now) } in
+    let after : State → State = λ (z : State). with_added z c.args.process c.args.slot new.rights new.flags attributes
     new.body in
     let added : state_of (record (parts_of s) {
       tables = c.place.new.self;
@@ -56,7 +56,7 @@ returns-in-Ok-clause-state g c =
       c.in-Ok.ensures.ok,
       c.id_at.ensures,
       c.in_ok-kept.ensures.copy,
-    ) (added_state (parts_of s) c.args.process c.args.slot new.rights new.flags head
+    ) (added_state (parts_of s) c.args.process c.args.slot new.rights new.flags attributes
     new.body c.enter.new.self.rows) in
     sym (settled_kept (record (parts_of s) {
       tables = c.place.new.self;

@@ -2,8 +2,8 @@ use Rattle.std.proofs.Common.{◌≡◌, ◌<◌, ◌∙◌, ap, sym, subst, get
 use Rattle.ob_tables.specs.Counts.{handles_among}
 use Rattle.ob_waits.specs.Rules.{HasRoom}
 use Rattle.ob_waits.specs.Waits.{WaitList, list_ready, nowhere}
-use Rattle.ob_store.specs.Agreement.{IsTied}
-use Rattle.ob_store.specs.Kept.{IsKept, IsLive}
+use Rattle.ob_store.specs.Agreement.{ObjectsInvariant}
+use Rattle.ob_store.specs.Kept.{StoreInvariant, IsLive}
 use Rattle.ob_store.specs.Objects.{ObjectsState}
 use Rattle.ob_store.specs.Parts.{parts_of}
 use Rattle.ob_store.specs.State.{Whole, settled}
@@ -40,9 +40,9 @@ returns-in-Ok-clause-ok g c =
     let p = parts_of c.self.inside.parts in
     rw (c.in-Ok.ensures.added, c.blocks_came.ensures)
     (whole_waiting p c.args.thread c.args.mode c.args.ids.now c.args.deadline
-    (subst (λ (z : WaitList × ObjectsState). IsKept (record p { waits = z.0; objects = z.1 }))
+    (subst (λ (z : WaitList × ObjectsState). StoreInvariant (record p { waits = z.0; objects = z.1 }))
     (λ i. (c.in-Ok.ensures.added i, c.blocks_came.ensures i)) (invariant_of-self g c))
-    (subst IsTied c.blocks_came.ensures c.kept-in-Ok.ensures))
+    (subst ObjectsInvariant c.blocks_came.ensures c.kept-in-Ok.ensures))
     ∙ ap (λ (w : Whole). record w {
       state = settled
           (with_wait w.state c.args.thread c.args.mode c.args.ids.now c.args.deadline);

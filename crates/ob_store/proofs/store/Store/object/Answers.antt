@@ -8,13 +8,13 @@ use Rattle.ob_store.proofs.store.Store.object.Goals as goal
 
 pub returns-clause-handles : goal.returns-clause-handles
 returns-clause-handles g c = subst (λ (w : Whole). IfSome c.look.result
-    (λ (found : Found). found.seat.now.handles ≡ handles_of w.state found.seat.now.id)) c.self.view_is
+    (λ (found : Found). found.header.now.handles ≡ handles_of w.state found.header.now.id)) c.self.view_is
     (seen_handles (parts_of c.self.inside.parts) c.self.invariant.sound c.kept.ensures c.args.slot
     c.look.result c.look.ensures.object c.look.ensures.handles)
 
 pub returns-clause-blocks : goal.returns-clause-blocks
 returns-clause-blocks g c = subst (λ (w : Whole). IfSome c.look.result
-    (λ (found : Found). found.seat.now.blocks ≡ blocks_of w.state found.seat.now.id)) c.self.view_is
+    (λ (found : Found). found.header.now.blocks ≡ blocks_of w.state found.header.now.id)) c.self.view_is
     (seen_blocks (parts_of c.self.inside.parts) c.self.invariant.sound c.kept.ensures c.args.slot
     c.look.result c.look.ensures.object c.look.ensures.blocks)
 

@@ -6,7 +6,7 @@ use Rattle.ob_store.specs.Objects.{ObjectsState, opened}
 use Rattle.ob_store.specs.Parts.{parts_of}
 use Rattle.ob_store.specs.State.{Whole, settled, without_entry}
 use Rattle.ob_store.specs.UnderWay.{AreLeft}
-use Rattle.ob_store.proofs.LeavingLaws.{bodies_left, held, seated, sound_left, way_left}
+use Rattle.ob_store.proofs.LeavingLaws.{bodies_left, held, has_object, sound_left, way_left}
 use Rattle.ob_store.proofs.LeftLaws.{less_gone}
 use Rattle.ob_store.proofs.UnderWayLaws.{way_begins, way_still}
 use Rattle.ob_store.proofs.store.Store.remove_entry.Goals as goal
@@ -28,7 +28,7 @@ leave_directory-requires g c =
     let found : entry_at (table_of s.tables.tables c.args.process) c.args.handle ≡ Some c.args.entry =
     subst (λ (w : Whole). entry_at (table_of w.state.tables c.args.process) c.args.handle ≡ Some c.args.entry)
     (sym c.self.view_is) c.requires in
-    seated (parts_of s) c.args.process c.args.handle c.args.entry c.self.invariant.sound c.kept.ensures found
+    has_object (parts_of s) c.args.process c.args.handle c.args.entry c.self.invariant.sound c.kept.ensures found
     c.handle_left-was_last.new.self c.handle_left-was_last.ensures.value
 
 pub invariant_of-self : goal.invariant_of-self

@@ -1,6 +1,6 @@
 use Rattle.std.proofs.Common.{◌<◌, ℕ, get_or}
 use Rattle.ob_waits.specs.Rules.{Within}
-use Rattle.ob_waits.specs.Numbers.{numbers_of, AreOrdered, LosesNone}
+use Rattle.ob_waits.specs.RisingNumbers.{numbers_of, AreOrdered, LosesNone}
 use Rattle.ob_waits.specs.Waits.{nowhere}
 use Rattle.ob_waits.proofs.index.Index.enter_all.Given as goal
 

@@ -1,7 +1,7 @@
 use Rattle.std.proofs.Common.{◌≡◌, [], List, ℕ, ◌<◌, length, set, subst, rules, arith}
 use Rattle.std.proofs.lemmas.List.{get_or_read}
 use Rattle.ob_waits.specs.Rules.{Within}
-use Rattle.ob_waits.specs.Numbers.{AreOrdered, LosesNone, numbers_of}
+use Rattle.ob_waits.specs.RisingNumbers.{AreOrdered, LosesNone, numbers_of}
 use Rattle.ob_waits.proofs.IndexLaws.{lists_changed, keeps_changed}
 use Rattle.ob_waits.proofs.index.Index.enter_there.Goals as goal
 

@@ -1,4 +1,4 @@
-use Rattle.ob_waits.specs.Numbers.{ThinsEach}
+use Rattle.ob_waits.specs.RisingNumbers.{ThinsEach}
 use Rattle.ob_waits.proofs.index.Index.thin_each.Given as goal
 
 abbrev pub invariant-loop-id : goal.invariant-loop-id

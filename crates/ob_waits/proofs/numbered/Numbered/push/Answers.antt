@@ -1,9 +1,9 @@
 use Rattle.std.proofs.Common.{◌≡◌, ◌+◌, ℕ, List, None, Option, Some, arith, get_or, refl, set}
 use Rattle.ob_waits.specs.declared.numbered_wait.NumberedWait.{NumberedWait}
-use Rattle.ob_waits.specs.Seats.{thread_at}
+use Rattle.ob_waits.specs.ByThread.{thread_at}
 use Rattle.ob_waits.proofs.ListedLaws.{length_listed, listed_inserted}
 use Rattle.ob_waits.proofs.PlaceLaws.{set_read}
-use Rattle.ob_waits.proofs.SeatLaws.{free_seat, not_given, same_seated, took_found, took_seated}
+use Rattle.ob_waits.proofs.ByThreadLaws.{free_thread, not_given, same_by_thread, took_found, took_thread}
 use Rattle.ob_waits.proofs.numbered.Numbered.push.Goals as goal
 
 pub overflow_add-number : goal.overflow_add-number
@@ -11,38 +11,38 @@ overflow_add-number c = search (arith, length_listed)
 
 pub put-requires : goal.put-requires
 put-requires c = record {
-  finder = c.self.invariant.1;
+  number_map = c.self.invariant.1;
   free = let s = c.self.inside in
-      not_given s.given s.seats.items (thread_at s.finder) c.self.invariant.0 (s.given + 1) (omega arith);
+      not_given s.given s.by_thread.items (thread_at s.number_map) c.self.invariant.0 (s.given + 1) (omega arith);
 }
 
 pub invariant_of-self : goal.invariant_of-self
 invariant_of-self c =
-    let s = c.self.inside in search (arith, same_seated)
+    let s = c.self.inside in search (arith, same_by_thread)
 
 pub invariant_of-self-in_err-put : goal.invariant_of-self-in_err-put
 invariant_of-self-in_err-put c =
     let s = c.self.inside in (
-      same_seated s.given s.seats.items c.make_room.new.seats.items (thread_at s.finder)
+      same_by_thread s.given s.by_thread.items c.make_room.new.by_thread.items (thread_at s.number_map)
           (thread_at c.put.new.self) c.make_room.ensures.same c.in_err-put.ensures.err c.self.invariant.0,
-      c.in_err-put.ensures.finder,
+      c.in_err-put.ensures.number_map,
     )
 
 pub invariant_of-self-2 : goal.invariant_of-self-2
 invariant_of-self-2 c =
-    search (arith, free_seat, set_read, took_seated, c.args.wait, c.in_ok-make_room.ensures.room, c.in_ok-put.ensures.ok, c.make_room.ensures.same, c.self.view_is)
+    search (arith, free_thread, set_read, took_thread, c.args.wait, c.in_ok-make_room.ensures.room, c.in_ok-put.ensures.ok, c.make_room.ensures.same, c.self.view_is)
 
 pub returns-clause-ok : goal.returns-clause-ok
 returns-clause-ok c =
     let s = c.self.inside in
     let w = c.args.wait in
     let n : ℕ = s.given + 1 in
-    let more : List (Option NumberedWait) = c.make_room.new.seats.items in
+    let more : List (Option NumberedWait) = c.make_room.new.by_thread.items in
     let held : NumberedWait = record { number = n; wait = w } in
-    let old = same_seated s.given s.seats.items more (thread_at s.finder) (thread_at s.finder) c.make_room.ensures.same
+    let old = same_by_thread s.given s.by_thread.items more (thread_at s.number_map) (thread_at s.number_map) c.make_room.ensures.same
     (λ q. refl) c.self.invariant.0 in
-    let free : get_or more w.thread None ≡ None = search (arith, free_seat) in
-    let took = took_found s.given n w more (set more w.thread (Some held)) (thread_at s.finder)
+    let free : get_or more w.thread None ≡ None = search (arith, free_thread) in
+    let took = took_found s.given n w more (set more w.thread (Some held)) (thread_at s.number_map)
     (thread_at c.put.new.self) old refl free (set_read more w.thread (Some held) c.in_ok-make_room.ensures.room)
     c.in_ok-put.ensures.ok in
     search (arith, listed_inserted)

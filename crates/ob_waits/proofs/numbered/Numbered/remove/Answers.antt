@@ -1,32 +1,32 @@
 use Rattle.std.proofs.Common.{◌∙◌, List, None, Option, ap, get_or, set}
 use Rattle.ob_waits.specs.declared.wait.Wait.{Wait}
 use Rattle.ob_waits.specs.Rules.{thread_of}
-use Rattle.ob_waits.specs.Seats.{found, thread_at}
+use Rattle.ob_waits.specs.ByThread.{found, thread_at}
 use Rattle.ob_waits.proofs.ListedLaws.{listed_removed}
-use Rattle.ob_waits.proofs.SeatLaws.{known_held, left_found, left_seated}
+use Rattle.ob_waits.proofs.ByThreadLaws.{known_held, left_found, left_thread}
 use Rattle.ob_waits.proofs.numbered.Numbered.remove.Goals as goal
 
 pub invariant_of-self : goal.invariant_of-self
 invariant_of-self c =
     let s = c.self.inside in
     let n = c.args.number in
-    let at = known_held s.given c.args.thread n s.seats.items (thread_at s.finder) c.self.invariant.0
+    let at = known_held s.given c.args.thread n s.by_thread.items (thread_at s.number_map) c.self.invariant.0
     (ap (λ (ws : List (Option Wait)). thread_of (get_or ws n None)) c.self.view_is ∙ c.requires) in (
-      left_seated s.given n c.args.thread s.seats.items c.clear.new.seats.items
-          (thread_at s.finder) c.self.invariant.0 at.0
+      left_thread s.given n c.args.thread s.by_thread.items c.clear.new.by_thread.items
+          (thread_at s.number_map) c.self.invariant.0 at.0
           (thread_at c.remove.new.self) c.clear.ensures c.remove.ensures.removed,
-      c.remove.ensures.finder,
+      c.remove.ensures.number_map,
     )
 
 pub returns : goal.returns
 returns c =
     let s = c.self.inside in
     let n = c.args.number in
-    let at = known_held s.given c.args.thread n s.seats.items (thread_at s.finder) c.self.invariant.0
+    let at = known_held s.given c.args.thread n s.by_thread.items (thread_at s.number_map) c.self.invariant.0
     (ap (λ (ws : List (Option Wait)). thread_of (get_or ws n None)) c.self.view_is ∙ c.requires) in
-    listed_removed s.given (found s.seats.items (thread_at s.finder))
-    (found c.clear.new.seats.items (thread_at c.remove.new.self)) n
-    (left_found s.given n c.args.thread s.seats.items c.clear.new.seats.items
-    (thread_at s.finder) c.self.invariant.0 at.0
+    listed_removed s.given (found s.by_thread.items (thread_at s.number_map))
+    (found c.clear.new.by_thread.items (thread_at c.remove.new.self)) n
+    (left_found s.given n c.args.thread s.by_thread.items c.clear.new.by_thread.items
+    (thread_at s.number_map) c.self.invariant.0 at.0
     (thread_at c.remove.new.self) c.clear.ensures c.remove.ensures.removed)
     ∙ ap (λ ws. set ws n None) c.self.view_is

@@ -1,10 +1,10 @@
 use Rattle.std.proofs.Common.{◌≤◌, ◌∙◌, List, Option, ap, arith, length, suc}
 use Rattle.ob_waits.specs.declared.wait.Wait.{Wait}
-use Rattle.ob_waits.specs.Seats.{found, thread_at}
+use Rattle.ob_waits.specs.ByThread.{found, thread_at}
 use Rattle.ob_waits.specs.Waits.{skipped}
 use Rattle.ob_waits.proofs.ListedLaws.{length_listed}
-use Rattle.ob_waits.proofs.SeatLaws.{seated_sparse}
-use Rattle.ob_waits.proofs.SkipLaws.{listed_skipped, seated_skipped}
+use Rattle.ob_waits.proofs.ByThreadLaws.{by_thread_sparse}
+use Rattle.ob_waits.proofs.SkipLaws.{listed_skipped, by_thread_skipped}
 use Rattle.ob_waits.proofs.numbered.Numbered.skip_to.Goals as goal
 
 pub invariant_of-self : goal.invariant_of-self
@@ -15,9 +15,9 @@ invariant_of-self c =
       next,
       ap length c.self.view_is,
       length_listed (suc s.given)
-          (found s.seats.items (thread_at s.finder)),
+          (found s.by_thread.items (thread_at s.number_map)),
     ) in
-    (seated_skipped s.given c.args.last s.seats.items (thread_at s.finder) le c.self.invariant.0, c.self.invariant.1)
+    (by_thread_skipped s.given c.args.last s.by_thread.items (thread_at s.number_map) le c.self.invariant.0, c.self.invariant.1)
 
 pub returns : goal.returns
 returns c =
@@ -27,8 +27,8 @@ returns c =
       next,
       ap length c.self.view_is,
       length_listed (suc s.given)
-          (found s.seats.items (thread_at s.finder)),
+          (found s.by_thread.items (thread_at s.number_map)),
     ) in
-    listed_skipped s.given c.args.last (found s.seats.items (thread_at s.finder)) le
-    (seated_sparse s.given s.seats.items (thread_at s.finder) c.self.invariant.0)
+    listed_skipped s.given c.args.last (found s.by_thread.items (thread_at s.number_map)) le
+    (by_thread_sparse s.given s.by_thread.items (thread_at s.number_map) c.self.invariant.0)
     ∙ ap (λ (ws : List (Option Wait)). skipped c.args.last ws) c.self.view_is

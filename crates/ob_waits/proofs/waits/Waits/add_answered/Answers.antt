@@ -2,7 +2,7 @@ use Rattle.std.proofs.Common.{◌≡◌, ◌+◌, ◌≤◌, None, List, Option,
 use Rattle.std.proofs.lemmas.Bool.Decides.{nat_tests}
 use Rattle.ob_waits.specs.declared.wait.Wait.{Wait}
 use Rattle.ob_waits.specs.Deadlines.{AreTimely}
-use Rattle.ob_waits.specs.Roster.{IsTracked}
+use Rattle.ob_waits.specs.PendingIndex.{IsTracked}
 use Rattle.ob_waits.specs.Waits.{WaitList, is_full, number_of}
 use Rattle.ob_waits.proofs.AddedLaws.{tracked_answered}
 use Rattle.ob_waits.proofs.DeadlineLaws.{timely_answered}
@@ -18,9 +18,9 @@ invariant_of-self-2 c =
     let full : is_full (record { limit = s.limit; waits = s.live; clock = s.clock }) ≡ false = subst
     (λ (l : WaitList). is_full l ≡ false) (sym c.self.view_is) c.requires.below_limit in
     let below : length s.live ≤ s.limit = grind (arith, nat_tests, full) in
-    subst (λ (ws : List (Option Wait)). IsTracked s.limit ws s.roster × AreTimely s.clock ws s.deadlines)
+    subst (λ (ws : List (Option Wait)). IsTracked s.limit ws s.pending_index × AreTimely s.clock ws s.deadlines)
     (sym c.in_ok-push_answered.ensures.ok) (
-      tracked_answered s.limit s.live s.roster a.thread a.code a.deadline
+      tracked_answered s.limit s.live s.pending_index a.thread a.code a.deadline
           (omega (arith, len)) below c.requires.coded alone c.self.invariant.0,
       timely_answered s.clock s.live a.thread a.code a.deadline s.deadlines alone c.self.invariant.1,
     )

@@ -1,7 +1,7 @@
 use Rattle.std.proofs.Common.{◌≡◌, ◌≤◌, ◌+◌, ◌++◌, [], ◌∷◌, None, Some, List, Option, false, subst, sym, arith, length}
 use Rattle.ob_waits.specs.declared.wait.Wait.{Wait}
 use Rattle.ob_waits.specs.Waits.{new_wait, WaitList, number_of, is_full}
-use Rattle.ob_waits.specs.Roster.{IsTracked}
+use Rattle.ob_waits.specs.PendingIndex.{IsTracked}
 use Rattle.ob_waits.proofs.AddedLaws.{tracked_added}
 use Rattle.ob_waits.specs.Deadlines.{AreTimely}
 use Rattle.ob_waits.specs.Form.{IsAfter}
@@ -22,7 +22,7 @@ invariant_of-self-2 c =
     search arith in
     subst (λ (ws : List (Option Wait)). IsTracked c.self.inside.limit ws c.make_room.new.self
     × AreTimely c.self.inside.clock ws c.moved.new.self) (sym waits) (
-      tracked_added c.self.inside.limit c.self.inside.live c.self.inside.roster c.make_room.new.self number
+      tracked_added c.self.inside.limit c.self.inside.live c.self.inside.pending_index c.make_room.new.self number
           c.args.thread c.args.mode c.args.ids.now c.args.deadline
           len (omega arith) below c.requires.waitable alone c.self.invariant.0 c.in_ok-make_room.ensures.right
           c.in_ok-make_room.ensures.place,

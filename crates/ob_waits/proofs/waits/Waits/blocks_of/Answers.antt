@@ -1,6 +1,6 @@
 use Rattle.std.proofs.Common.{ℕ, None, refl, ap, ◌∙◌, arith, get_or, length}
 use Rattle.std.specs.Prelude.{sum_by}
-use Rattle.ob_waits.specs.Numbers.{numbers_of}
+use Rattle.ob_waits.specs.RisingNumbers.{numbers_of}
 use Rattle.ob_waits.specs.Waits.{WaitList, blocks_in, blocks_among}
 use Rattle.ob_waits.proofs.BlockLaws.{sum_numbers, length-ordered, blocks_named}
 use Rattle.ob_waits.proofs.waits.Waits.blocks_of.Goals as goal
@@ -18,7 +18,7 @@ returns c =
     let lists = c.self.invariant.0.right in
     c.blocks_of.ensures
     ∙ ap (sum_by (λ (n : ℕ). blocks_in c.args.id (get_or c.self.inside.live n None))) c.numbers.ensures
-    ∙ sum_numbers (blocks_in c.args.id) refl (numbers_of c.self.inside.roster.index c.args.id.slot) c.self.inside.live
+    ∙ sum_numbers (blocks_in c.args.id) refl (numbers_of c.self.inside.pending_index.index c.args.id.slot) c.self.inside.live
     (lists.index_rises.each c.args.id.slot).rising
     (search (arith, blocks_named))
     ∙ ap (λ (l : WaitList). blocks_among c.args.id l.waits) c.self.view_is

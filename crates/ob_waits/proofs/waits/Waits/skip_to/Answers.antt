@@ -1,7 +1,7 @@
 use Rattle.std.proofs.Common.{◌+◌, ◌≤◌, List, Option, length, subst, sym}
 use Rattle.ob_waits.specs.declared.wait.Wait.{Wait}
 use Rattle.ob_waits.specs.Deadlines.{AreTimely}
-use Rattle.ob_waits.specs.Roster.{IsTracked}
+use Rattle.ob_waits.specs.PendingIndex.{IsTracked}
 use Rattle.ob_waits.specs.Waits.{WaitList}
 use Rattle.ob_waits.proofs.SkipLaws.{timely_skipped, tracked_skipped}
 use Rattle.ob_waits.proofs.StandingLaws.{kept_can_be}
@@ -14,9 +14,9 @@ invariant_of-self c =
     (sym c.self.view_is) c.requires.next in
     let most : c.args.last ≤ s.limit = subst (λ (l : WaitList). c.args.last ≤ l.limit)
     (sym c.self.view_is) c.requires.most in
-    subst (λ (ws : List (Option Wait)). IsTracked s.limit ws s.roster × AreTimely s.clock ws s.deadlines)
+    subst (λ (ws : List (Option Wait)). IsTracked s.limit ws s.pending_index × AreTimely s.clock ws s.deadlines)
     (sym c.skip_to.ensures) (
-      tracked_skipped c.args.last s.live s.limit s.roster next most c.self.invariant.0,
+      tracked_skipped c.args.last s.live s.limit s.pending_index next most c.self.invariant.0,
       timely_skipped c.args.last s.live s.clock s.deadlines c.self.invariant.1,
     )
 
@@ -24,4 +24,4 @@ pub returns-clause-can_be : goal.returns-clause-can_be
 returns-clause-can_be c =
     let s = c.self.inside in
     let kept = invariant_of-self c in
-    kept_can_be s.limit s.clock c.skip_to.new.self s.roster s.deadlines kept.0 kept.1
+    kept_can_be s.limit s.clock c.skip_to.new.self s.pending_index s.deadlines kept.0 kept.1

@@ -13,7 +13,7 @@ invariant_of-self c =
     search arith in
     let over : is_pending (get_or c.remove.new.self c.args.wait None) ≡ false =
     search (arith, set_none) in (
-      tracked_left s.limit c.remove.new.self s.roster c.forget.new.self (c.forget.ensures c.remove.new.self over)
+      tracked_left s.limit c.remove.new.self s.pending_index c.forget.new.self (c.forget.ensures c.remove.new.self over)
           (search (arith, tracked_removed, c.remove.ensures)),
       search (arith, timely_removed, c.remove.ensures),
     )

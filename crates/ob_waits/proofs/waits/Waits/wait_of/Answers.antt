@@ -1,10 +1,10 @@
 use Rattle.std.proofs.Common.{◌≤◌, arith, length, subst}
-use Rattle.ob_waits.specs.Rules.{IsKept}
+use Rattle.ob_waits.specs.Rules.{WaitsInvariant}
 use Rattle.ob_waits.specs.Waits.{WaitList}
 use Rattle.ob_waits.proofs.waits.Waits.wait_of.Goals as goal
 
 pub returns-clause-kept : goal.returns-clause-kept
-returns-clause-kept c = subst (λ (l : WaitList). IsKept l.waits) c.self.view_is c.self.invariant.0.kept
+returns-clause-kept c = subst (λ (l : WaitList). WaitsInvariant l.waits) c.self.view_is c.self.invariant.0.kept
 
 pub returns-clause-at_most : goal.returns-clause-at_most
 returns-clause-at_most c = subst (λ (l : WaitList). length l.waits ≤ 4294967296) c.self.view_is (search arith)

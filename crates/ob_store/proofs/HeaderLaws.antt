@@ -1,0 +1,174 @@
+-- One header changed: what becomes of the lists that are read off the headers.
+use Rattle.std.proofs.Common.{◌≡◌, ℕ, ◌-◌, ◌+◌, ◌<◌, List, length, Option, Some, None, ap, ◌∙◌, sym, subst, arith, get_or, set, map, replicate, Bool, true, false, cond, eqb}
+use Rattle.std.specs.Prelude.{IfSome, IsSome}
+use Rattle.std.proofs.Math.Seq.{map-set_same}
+use Rattle.std.proofs.lemmas.List.{length-map, get_or-map, get_or_past, get_or-set_same, map-set, set-get_or}
+use Rattle.pin_core.specs.declared.id.Id.{Id}
+use Rattle.ob_body.specs.declared.body.Body.{Body}
+use Rattle.ob_arena.specs.Slots.{Slots, is_vacant_at, least_vacant}
+use Rattle.ob_arena.proofs.Phasing.{map-replicate}
+use Rattle.ob_arena.proofs.SlotLemmas.{vacant_least}
+use Rattle.ob_waits.specs.CountedBodies.{slot_acquired, without_block}
+use Rattle.ob_store.specs.declared.object_header.ObjectHeader.{ObjectHeader}
+use Rattle.ob_store.specs.SavedWaits.{with_blocks_at}
+use Rattle.ob_store.specs.Objects.{Object, Places, places_of, rest_of, seen_in, Tag, object_at, object_of, objects_in, header_body, header_handles, header_blocks, header_handle_left, header_block_left, vacancy, vacant_places, with_header_of, with_handle, without_handle, with_block, without_header, is_last_handle}
+use Rattle.ob_store.proofs.LabelLaws.{object_read, objects_kept, objects_length, objects_none, objects_out, objects_put, header_there}
+
+-- what a list that is read off another has at a place
+pub read : {A B : Type 0} (f : Option A → B) (xs : List (Option A)) (k : ℕ)
+    → get_or (map f xs) k (f None) ≡ f (get_or xs k None)
+read f xs k = search (arith, get_or-map, get_or_past, length-map)
+
+-- a list that is read off the headers, where one header changes
+module _ {B : Type 0} (f : Option ObjectHeader → B) (xs : List (Option ObjectHeader)) (ys : List B) (k : ℕ) where
+  pub mapped_set : (y : Option ObjectHeader) (b : B) → ys ≡ map f xs → b ≡ f y → set ys k b ≡ map f (set xs k y)
+  mapped_set y b is at = search (arith, map-set)
+
+  pub mapped_same : (y : Option ObjectHeader) → ys ≡ map f xs → f y ≡ f (get_or xs k None) → ys ≡ map f (set xs k y)
+  mapped_same y is same = search (arith, map-set_same)
+
+  pub mapped_stays : (x y : ObjectHeader) → ys ≡ map f xs → get_or xs k None ≡ Some x → f (Some y) ≡ f (Some x)
+      → ys ≡ map f (set xs k (Some y))
+  mapped_stays x y is there same = search (arith, mapped_same)
+
+-- a header in its place, and one that differs from it
+module _ (xs : List (Option ObjectHeader)) (k : ℕ) (x : ObjectHeader) (is : get_or xs k None ≡ Some x) where
+  pub handles_at : get_or (map header_handles xs) k 0 ≡ x.handles
+  handles_at = search (arith, read)
+
+  pub blocks_at : get_or (map header_blocks xs) k 0 ≡ x.blocks
+  blocks_at = search (arith, read)
+
+  -- where the object stays
+  pub objects_same : (ls : List Tag) (y : ObjectHeader) → ((l : Tag) → object_of y l ≡ object_of x l)
+      → objects_in (set xs k (Some y)) ls ≡ objects_in xs ls
+  objects_same ls y same = objects_kept xs ls k (Some y) (λ l. ap Some (same l) ∙ ap (λ z. object_at z l) (sym is))
+
+  pub handles_same : (y : ObjectHeader) → y.handles ≡ x.handles
+      → map header_handles (set xs k (Some y)) ≡ map header_handles xs
+  handles_same y same = search (arith, map-set_same)
+
+  pub blocks_same : (y : ObjectHeader) → y.blocks ≡ x.blocks
+      → map header_blocks (set xs k (Some y)) ≡ map header_blocks xs
+  blocks_same y same = search (arith, map-set_same)
+
+  pub bodies_same : (y : ObjectHeader) → y.body ≡ x.body → map header_body (set xs k (Some y)) ≡ map header_body xs
+  bodies_same y same = search (arith, map-set_same)
+
+  pub body_here : get_or (map header_body xs) k None ≡ x.body
+  body_here = read header_body xs k ∙ ap header_body is
+
+  -- a thread acquires it
+  pub seen_acquired : (thread : ℕ) → seen_in (set xs k (Some (record x { body = slot_acquired thread x.body })))
+      ≡ record (seen_in xs) {
+        bodies = set (map header_body xs) k
+            (slot_acquired thread (get_or (map header_body xs) k None));
+      }
+  seen_acquired thread =
+      search (arith, handles_same, blocks_same, body_here, map-set)
+
+  pub seen_put : (b : Body) → seen_in (set xs k (Some (record x { body = Some b }))) ≡ record (seen_in xs) {
+    bodies =
+        set (map header_body xs) k (Some b);
+  }
+  seen_put b = search (arith, handles_same, blocks_same, map-set)
+
+  pub seen_block_left : seen_in (set xs k (Some (header_block_left x)))
+      ≡ without_block (seen_in xs) (record { slot = k; generation = 0 })
+  seen_block_left =
+      search (arith, handles_at, blocks_at, handles_same, bodies_same, map-set)
+
+  -- all that is read off the headers
+  module _ (retired : List Bool) (ls : List Tag) where
+    abbrev before : Places
+    before = places_of (record { bodies = xs; retired = retired }) ls
+
+    abbrev after : ObjectHeader → Places
+    after y = places_of (record { bodies = set xs k (Some y); retired = retired }) ls
+
+    pub places_handle_came : after (record x { handles = x.handles + 1 }) ≡ with_handle before k
+    places_handle_came = search (arith, handles_at, objects_same, blocks_same, bodies_same, map-set)
+
+    pub places_block_came : after (record x { blocks = x.blocks + 1 }) ≡ with_block before k
+    places_block_came = search (arith, blocks_at, objects_same, handles_same, bodies_same, map-set)
+
+    pub places_blocks : (n : ℕ) → after (record x { blocks = n }) ≡ with_blocks_at before k n
+    places_blocks n = search (arith, objects_same, handles_same, bodies_same, map-set)
+
+    pub last_is : is_last_handle before k ≡ eqb ((x.handles - 1) + x.blocks) 0
+    last_is = search (arith, handles_at, blocks_at)
+
+    pub places_handle_left : after (header_handle_left x) ≡ without_handle before k
+    places_handle_left = search (arith, handles_at, objects_same, blocks_same, bodies_same, map-set, last_is)
+
+    pub places_handle_fewer : 1 < get_or (map header_handles xs) k 0 → after (record x { handles = x.handles - 1 })
+        ≡ without_handle before k
+    places_handle_fewer more =
+        search (arith, handles_at, places_handle_left)
+
+    -- what waits leave as it is
+    pub rest_same : (y z : ObjectHeader) → y ≡ z → ((l : Tag) → object_of z l ≡ object_of x l) → z.handles ≡ x.handles
+        → rest_of (after y) ≡ rest_of before
+    rest_same y z is object handles = ap (λ (s : ObjectHeader). rest_of (after s)) is ∙ (search (arith, objects_same, handles_same))
+
+-- a slot with an object has a header
+pub header_of : (s : Slots ObjectHeader) (ls : List Tag) (p : Places) (k : ℕ) → places_of s ls ≡ p
+    → IsSome (get_or p.objects k None) → IsSome (get_or s.bodies k None)
+header_of s ls p k view there = header_there s.bodies ls k
+    (subst (λ (q : Places). IsSome (get_or q.objects k None)) (sym view) there)
+
+-- vacancy is that of the arena
+pub vacant_same : (s : Slots ObjectHeader) (ls : List Tag) (k : ℕ)
+    → is_vacant_at (vacancy (places_of s ls)) k ≡ is_vacant_at s k
+vacant_same s ls k =
+    search (arith, object_read, objects_length)
+
+pub least_same : (s : Slots ObjectHeader) (ls : List Tag) → least_vacant s ≡ least_vacant (vacancy (places_of s ls))
+least_same s ls =
+    search (arith, vacant_same, objects_length)
+
+pub least_is : (s : Slots Object) (r : Option ℕ) → r ≡ least_vacant s → IfSome r (λ slot. is_vacant_at s slot ≡ true)
+least_is s None is = tt
+least_is s (Some slot) is = vacant_least s slot (sym is)
+
+-- an object that comes to a vacant slot
+pub places_added : (s : Slots ObjectHeader) (ls : List Tag) (k : ℕ) (y : ObjectHeader) (m : Tag) (body : Option Body)
+    (handles : ℕ)
+    → k < length ls → y.body ≡ body → y.handles ≡ handles → y.blocks ≡ 0
+    → places_of (record s { bodies = set s.bodies k (Some y) }) (set ls k m)
+    ≡ with_header_of (places_of s ls) k (object_of y m) body handles
+places_added s ls k y m body handles within has counts none = search (arith, map-set, objects_put)
+
+-- and its handles
+pub added_handle : (xs : List (Option ObjectHeader)) (k : ℕ) (y : ObjectHeader) → k < length xs
+    → get_or (map header_handles (set xs k (Some y))) k 0 ≡ y.handles
+added_handle xs k y within = search (arith, read, get_or-set_same)
+
+-- an object that leaves
+pub places_removed : (s : Slots ObjectHeader) (ls : List Tag) (k : ℕ)
+    → places_of (record s { bodies = set s.bodies k None }) ls ≡ without_header (places_of s ls) k
+places_removed s ls k = search (arith, map-set, objects_out)
+
+-- a slot without a header has nothing to lose
+pub seen_absent : (xs : List (Option ObjectHeader)) (id : Id) → get_or xs id.slot None ≡ None
+    → seen_in xs ≡ without_block (seen_in xs) id
+seen_absent xs id none =
+    let handles : get_or (map header_handles xs) id.slot 0 ≡ 0 = search (arith, read) in
+    let blocks : get_or (map header_blocks xs) id.slot 0 ≡ 0 = search (arith, read) in
+    let less : get_or (map header_blocks xs) id.slot 0 ≡ get_or (map header_blocks xs) id.slot 0 - 1 =
+    omega arith in
+    let counts : get_or (map header_handles xs) id.slot 0 + (get_or (map header_blocks xs) id.slot 0 - 1) ≡ 0 =
+    omega arith in
+    λ i. record {
+      bodies = (sym (set-get_or (map header_body xs) id.slot None)
+          ∙ ap (set (map header_body xs) id.slot) (read header_body xs id.slot ∙ ap header_body none)
+          ∙ ap (λ n. cond (eqb n 0) (set (map header_body xs) id.slot None) (map header_body xs)) (sym counts)) i;
+      handles = map header_handles xs;
+      blocks = (sym (set-get_or (map header_blocks xs) id.slot 0) ∙ ap (set (map header_blocks xs) id.slot) less) i;
+    }
+
+pub places_vacant : (n : ℕ) (ls : List Tag) → places_of (record {
+  bodies = replicate n None;
+  retired = replicate n false;
+}) ls ≡ vacant_places n
+places_vacant n ls = search (arith, map-replicate, objects_none)

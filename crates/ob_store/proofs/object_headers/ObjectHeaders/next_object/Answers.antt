@@ -1,0 +1,12 @@
+use Rattle.std.proofs.Common.{get_or, ℕ, None, is_some}
+use Rattle.least.proofs.NextLemmas.{same_test}
+use Rattle.ob_store.specs.Objects.{tags_in}
+use Rattle.ob_store.proofs.WalkingLaws.{object_there}
+use Rattle.ob_store.proofs.object_headers.ObjectHeaders.next_object.Goals as goal
+
+pub returns : goal.returns
+returns c =
+    let i = c.self.inside in
+    rw (← c.self.view_is) (same_test (λ (k : ℕ). is_some (get_or i.arena.bodies k None))
+    (λ (k : ℕ). is_some (get_or _ k None)) c.args.from c.next_occupied.result
+    (object_there i.arena.bodies (tags_in i.labels.items i.names.items)) c.next_occupied.ensures)

@@ -1,0 +1,10 @@
+use Rattle.std.proofs.Common.{◌∙◌, ap, sym}
+use Rattle.ob_arena.specs.Slots.{is_vacant_at}
+use Rattle.ob_store.specs.Objects.{tags_in, Places, vacancy}
+use Rattle.ob_store.proofs.HeaderLaws.{vacant_same}
+use Rattle.ob_store.proofs.object_headers.ObjectHeaders.retire.Goals as goal
+
+pub retire-requires : goal.retire-requires
+retire-requires c = sym (vacant_same c.self.inside.arena
+    (tags_in c.self.inside.labels.items c.self.inside.names.items) c.args.slot)
+    ∙ ap (λ (p : Places). is_vacant_at (vacancy p) c.args.slot) c.self.view_is ∙ c.requires

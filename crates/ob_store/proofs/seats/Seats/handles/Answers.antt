@@ -1,7 +1,0 @@
-use Rattle.ob_store.specs.Objects.{tags_in}
-use Rattle.ob_store.proofs.SeatLaws.{seat_of}
-use Rattle.ob_store.proofs.seats.Seats.handles.Goals as goal
-
-pub get-requires : goal.get-requires
-get-requires c = seat_of c.self.inside.arena (tags_in c.self.inside.labels.items c.self.inside.names.items) _
-    c.args.slot c.self.view_is c.requires
