@@ -337,7 +337,7 @@ static uint32_t process_by(const call *c, uint64_t guest) {
 static uint32_t rights_to(uint32_t source, uint32_t handle, uint32_t access) {
     static const uint32_t all[] = {OM_EVENT_ALL_ACCESS, OM_MUTEX_ALL_ACCESS, OM_SEMAPHORE_ALL_ACCESS, OM_TIMER_ALL_ACCESS};
     om_object object;
-    om_description as;
+    om_description as = {0};
     if (om_resolve(&om, source, handle, &object) != OM_SUCCESS || om_card(&om, object.slot, object.generation, &as) != OM_SUCCESS) {
         return access;
     }

@@ -281,7 +281,7 @@ static void tell_wait(const thread *t) {
     static const char *const kinds[] = {"event", "mutex", "semaphore", "timer"};
     om_object objects[OM_MAXIMUM_WAIT_OBJECTS];
     om_object_state state;
-    om_pending pending;
+    om_pending pending = {0};
     size_t count;
     uint32_t number = om_wait_of(&om, t->number), process = machine.processes[t->process].number;
     if (om_objects_waited_for(&om, number, &pending, objects, OM_MAXIMUM_WAIT_OBJECTS, &count) != OM_SUCCESS) {
