@@ -1,5 +1,5 @@
 -- What is told of a reader's calls, by what a function knows of them.
-use Rattle.std.proofs.Common.{◌≡◌, ℕ, ◌<◌, true, List, [], ◌∷◌, length, get_or, Option, Some, refl, ap, inl, inr, arith}
+use Rattle.std.proofs.Common.{◌≡◌, ℕ, ◌<◌, true, List, [], ◌∷◌, length, get_or, Option, Some, refl, absurd, ap, inl, inr, arith}
 use Rattle.std.specs.Prelude.{Ok, Err}
 use Rattle.pin_core.specs.declared.id.Id.{Id}
 use Rattle.pin_core.specs.declared.descr.Descr.{Descr}
@@ -7,6 +7,7 @@ use Rattle.pin_core.specs.Holds.{drop_last, same_id, tally, weight}
 use Rattle.pin_core.proofs.Counts.{count-drop_last}
 use Rattle.pin_core.proofs.Moves.{same_id-same}
 use Rattle.pin_words.specs.declared.fault.PinFault.{PinFault}
+use Rattle.pin_words.specs.declared.fault.PinFault.TheVariants.{NoSuchSlot, Unborn, Stale, Busy, PinsFull, HeldFull}
 use Rattle.pin_words.specs.Plays.{Show}
 use Rattle.pin_words.specs.Seats.{ReaderState}
 use Rattle.pin_words.specs.Tries.{Tries}
@@ -30,6 +31,15 @@ pinned tries told = record { answer = Ok tt; tries = tries; told = told }
 pub refused : {id : Id} {old new : ReaderState} {status : ℕ} {fault : PinFault} → Tries old.view id (Err fault) new.view
     → status ≡ pin_status fault → PinTold id old status new
 refused {fault = fault} tries told = record { answer = Err fault; tries = tries; told = told }
+
+-- no refusal of a pin is told as 0
+pub not_told : {A : Type 0} (fault : PinFault) {status : ℕ} → status ≡ pin_status fault → status ≡ 0 → A
+not_told NoSuchSlot is none = absurd (omega (arith, is, none))
+not_told Unborn is none = absurd (omega (arith, is, none))
+not_told Stale is none = absurd (omega (arith, is, none))
+not_told (Busy seen) is none = absurd (omega (arith, is, none))
+not_told PinsFull is none = absurd (omega (arith, is, none))
+not_told HeldFull is none = absurd (omega (arith, is, none))
 
 pub opened : {old new : Whole} {r : ReaderState} {status : ℕ} {before after : Option OwnedReader} → status ≡ 0
     → after ≡ Some (record { reader = r }) → r.view ≡ given_by old.keeper → AreOfOne old r

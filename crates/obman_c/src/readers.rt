@@ -91,7 +91,7 @@ fn one_of(held: &[Id]) -> Option<Id>
 
 /// [`Reader::try_pin`], one try: 0, 87, 1816, 1168, 6, 1450, or 170 where another reader or the manager changed the
 /// slot's word in between.
-#[tactic(auto, using(crate::proofs::Read::pinned, crate::proofs::Read::refused))]
+#[tactic(auto, using(crate::proofs::Read::pinned, crate::proofs::Read::refused, crate::proofs::Read::not_told))]
 #[unsafe(no_mangle)]
 pub extern "C" fn om_reader_pin(owner: &mut ReaderOwner, slot: u32, generation: u32) -> u32
     ensures told { PinTold (id_at slot generation) owner.old.value.reader result owner.new.value.reader }
