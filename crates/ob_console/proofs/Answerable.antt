@@ -27,7 +27,7 @@ use Rattle.ob_manager.specs.Copying.{duplicate}
 use Rattle.ob_manager.specs.Waiting as waiting
 use Rattle.ob_manager.specs.Waiting.{wait, wait_result}
 use Rattle.ob_manager.specs.Ending.{end_thread, exit}
-use Rattle.ob_manager.specs.Signaling.{modify_state, set_event, reset_event, release_semaphore, release_mutex}
+use Rattle.ob_manager.specs.Signaling.{modified, modify_state, set_event, reset_event, release_semaphore, release_mutex}
 use Rattle.ob_manager.specs.Timing.{set_timer, cancel_timer, tick}
 use Rattle.ob_manager.specs.Counting.{counts}
 use Rattle.ob_manager.specs.Reaping.{IfReap, if_ended, reap}
@@ -187,14 +187,10 @@ can_answer w (calls.SetFlags thread handle mask flags) pins =
     (search arith)
 can_answer w (calls.SetEvent thread handle) pins =
     answered w (calls.SetEvent thread handle) (set_event w.state thread handle) (λ P. tt) (λ reply. refl)
-    (rests_behind w.keeper (caller w.state thread) _
-    (λ process. rests_behind w.keeper (found w.state process handle) _ (λ entry.
-    search arith)))
+    (rests_behind w.keeper (modified w.state thread handle kind.Event) _ (λ object. refl))
 can_answer w (calls.ResetEvent thread handle) pins =
     answered w (calls.ResetEvent thread handle) (reset_event w.state thread handle) (λ P. tt) (λ reply. refl)
-    (rests_behind w.keeper (caller w.state thread) _
-    (λ process. rests_behind w.keeper (found w.state process handle) _ (λ entry.
-    search arith)))
+    (rests_behind w.keeper (modified w.state thread handle kind.Event) _ (λ object. refl))
 can_answer w (calls.ReleaseSemaphore thread handle count) pins =
     answered w (calls.ReleaseSemaphore thread handle count) (release_semaphore w.state thread handle count)
     (λ P. tt) (λ reply. refl)
@@ -211,16 +207,11 @@ can_answer w (calls.ReleaseMutex thread handle) pins =
     (λ process. rests_behind w.keeper (found w.state process handle) _ (λ entry.
     search arith)))
 can_answer w (calls.SetTimer thread handle due) pins =
-    answered w (calls.SetTimer thread handle due) (set_timer w.state thread handle due) (λ P. tt)
-    (λ reply. refl)
-    (rests_behind w.keeper (caller w.state thread) _
-    (λ process. rests_behind w.keeper (found w.state process handle) _ (λ entry.
-    search arith)))
+    answered w (calls.SetTimer thread handle due) (set_timer w.state thread handle due) (λ P. tt) (λ reply. refl)
+    (rests_behind w.keeper (modified w.state thread handle kind.Timer) _ (λ object. refl))
 can_answer w (calls.CancelTimer thread handle) pins =
     answered w (calls.CancelTimer thread handle) (cancel_timer w.state thread handle) (λ P. tt) (λ reply. refl)
-    (rests_behind w.keeper (caller w.state thread) _
-    (λ process. rests_behind w.keeper (found w.state process handle) _ (λ entry.
-    search arith)))
+    (rests_behind w.keeper (modified w.state thread handle kind.Timer) _ (λ object. refl))
 can_answer w (calls.Tick now) pins = answered w (calls.Tick now) (tick w.state now) (λ P. tt) (λ reply. refl)
     (search arith)
 can_answer w (calls.WaitFor thread mode timeout handles) pins =

@@ -47,7 +47,7 @@ comment_is_nothing text = by (slice_index (comment text) (length (comment text) 
     by : (b : Bool) → command_of_text (if b then take (length (comment text) - 1) (comment text) else comment text)
         ≡ Nothing
     by true =
-        ap (λ n. act_of_text (take n (comment text))) shorter
+        ap (λ n. command_of_text (take n (comment text))) shorter
         ∙ marked (take (length (take 4094 text)) (32 ∷ take 4094 text))
         (omega (arith, length-take (length (take 4094 text)) (32 ∷ take 4094 text), length-take 4094 text))
     by false = marked (32 ∷ take 4094 text) (omega (arith, length-take 4094 text))
@@ -203,7 +203,7 @@ module _ (w u : Whole) (p q : Point) (number : ℕ) (entry : Entry) (output : Li
           (subst (λ (act : Command). Prints p number act output q) (comment_is_nothing line) prints)
       by (Some line) true some is prints =
           let read : command_of line ≡ Asks (as_said entry.call) =
-          subst (λ l. IfSome l (λ text. act_of text ≡ Asks (as_said entry.call))) some
+          subst (λ l. IfSome l (λ text. command_of text ≡ Asks (as_said entry.call))) some
           (line_is_read entry.call fits) in
           let asks : Prints p number (Asks (as_said entry.call)) output q =
           subst (λ (act : Command). Prints p number act output q) read prints in

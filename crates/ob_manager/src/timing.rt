@@ -2,9 +2,9 @@ ghost use Rattle.std.specs.Prelude.{◌≡◌, ◌≤◌};
 ghost use Rattle.ob_manager.specs.Steps.{Gives};
 ghost use Rattle.ob_manager.specs.Timing.{cancel_timer, moment_of, set_timer, tick};
 
+use crate::checks::{body_of, caller, found, granted};
 use crate::reply::Reply;
-use crate::signaling::modified;
-use ob_rights::{Fault, Kind};
+use ob_rights::{Fault, Kind, Rights};
 use ob_store::{LAST_MOMENT, Store};
 use pin_words::PinKeeper;
 
@@ -29,9 +29,12 @@ pub fn set_timer<K: PinKeeper>(
 ) -> Result<Reply, Fault>
     ensures { Gives result store.old store.new (set_timer store.old.state thread handle due) }
 {
-    let (id, timer) = modified(store, thread, handle, Kind::Timer)?;
+    let process = caller(store, thread)?;
+    let entry = found(store, process, handle)?;
+    let timer = body_of(store, entry.id, Kind::Timer)?;
+    granted(Rights::MODIFY_STATE, entry)?;
     let moment = moment_of(store.now(), due);
-    store.arm(id, timer, moment);
+    store.arm(entry.id, timer, moment);
     Ok(Reply::Done)
 }
 
@@ -43,8 +46,11 @@ pub fn cancel_timer<K: PinKeeper>(
 ) -> Result<Reply, Fault>
     ensures { Gives result store.old store.new (cancel_timer store.old.state thread handle) }
 {
-    let (id, timer) = modified(store, thread, handle, Kind::Timer)?;
-    store.disarm(id, timer);
+    let process = caller(store, thread)?;
+    let entry = found(store, process, handle)?;
+    let timer = body_of(store, entry.id, Kind::Timer)?;
+    granted(Rights::MODIFY_STATE, entry)?;
+    store.disarm(entry.id, timer);
     Ok(Reply::Done)
 }
 

@@ -1,5 +1,5 @@
 -- What is told of a reader's calls, by what a function knows of them.
-use Rattle.std.proofs.Common.{◌≡◌, ℕ, ◌<◌, true, List, [], ◌∷◌, length, get_or, Option, Some, refl, absurd, ap, inl, inr, arith}
+use Rattle.std.proofs.Common.{◌≡◌, ℕ, ◌<◌, true, List, [], ◌∷◌, length, get_or, Option, Some, refl, ap, inl, inr, arith}
 use Rattle.std.specs.Prelude.{Ok, Err}
 use Rattle.pin_core.specs.declared.id.Id.{Id}
 use Rattle.pin_core.specs.declared.descr.Descr.{Descr}
@@ -17,7 +17,7 @@ use Rattle.ob_store.specs.Meetings.{IsMet}
 use Rattle.ob_store.specs.State.{Whole}
 use Rattle.ob_manager.specs.declared.card.Card.{Card}
 use Rattle.ob_manager.specs.Counting.{card}
-use Rattle.obman_c.specs.declared.owned.OwnedReader.{OwnedReader}
+use Rattle.obman_c_base.specs.declared.owned.OwnedReader.{OwnedReader}
 use Rattle.obman_c.specs.declared.pinning.Description.{Description}
 use Rattle.obman_c.specs.declared.readers.Descriptor.{Descriptor}
 use Rattle.obman_c.specs.Finding.{description_of}

@@ -6,8 +6,8 @@ use Rattle.ob_manager.specs.Calls.{Call}
 use Rattle.ob_manager.specs.declared.call.CallOf.TheVariants as calls
 use Rattle.ob_manager.specs.declared.reply.Reply.{Reply}
 use Rattle.ob_manager.specs.Steps.{Step}
-use Rattle.obman_c.specs.Made.{Makes}
-use Rattle.obman_c.specs.declared.owned.OwnedManager.{OwnedManager}
+use Rattle.obman_c_base.specs.Made.{Makes}
+use Rattle.obman_c_base.specs.declared.owned.OwnedManager.{OwnedManager}
 use Rattle.obman_c.specs.Telling.{TellsStatus, TellsValue, status_of}
 
 pub tells : {old new : OwnedManager} {call : Call} {reply : Reply} {status : ℕ} → Makes old call reply new

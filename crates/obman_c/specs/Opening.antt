@@ -6,10 +6,10 @@ use Rattle.pin_words.specs.Seats.{KeeperSeat, TableState}
 use Rattle.pin_words.specs.Views.{keeper_gave, opening_keeper}
 use Rattle.ob_store.specs.declared.limits.Limits.{Limits}
 use Rattle.ob_store.specs.State.{Whole, opening, shape_of}
-use Rattle.obman_c.specs.Owned.{unrecorded}
-use Rattle.obman_c.specs.declared.owned.OwnedManager.{OwnedManager}
-use Rattle.obman_c.specs.declared.limits.CLimits.{CLimits}
-use Rattle.obman_c.specs.Allowed.{AreAllowed, AreAs}
+use Rattle.obman_c_base.specs.Owned.{unrecorded}
+use Rattle.obman_c_base.specs.declared.owned.OwnedManager.{OwnedManager}
+use Rattle.obman_c_base.specs.declared.limits.CLimits.{CLimits}
+use Rattle.obman_c_base.specs.Allowed.{AreAllowed, AreAs}
 
 -- a keeper of words, of which nothing was published, and one reader was given
 abbrev pub new_keeper : Shape → TableState → KeeperSeat

@@ -13,7 +13,7 @@ use Rattle.ob_store.specs.Meetings.{IsMet}
 use Rattle.ob_store.specs.State.{Whole}
 use Rattle.ob_manager.specs.declared.card.Card.{Card}
 use Rattle.ob_manager.specs.Counting.{card}
-use Rattle.obman_c.specs.declared.owned.OwnedReader.{OwnedReader}
+use Rattle.obman_c_base.specs.declared.owned.OwnedReader.{OwnedReader}
 use Rattle.obman_c.specs.declared.pinning.Description.{Description}
 use Rattle.obman_c.specs.declared.readers.Descriptor.{Descriptor}
 use Rattle.obman_c.specs.Finding.{description_of, kind_number}

@@ -6,11 +6,11 @@ use Rattle.pin_words.specs.declared.pin_keeper.Reclaim.{Reclaim}
 use Rattle.ob_store.specs.Closing.{is_closing_at}
 use Rattle.ob_manager.specs.declared.call.CallOf.TheVariants as calls
 use Rattle.ob_manager.specs.declared.reply.Reply.TheVariants.{Reaped}
-use Rattle.obman_c.specs.declared.owned.OwnedManager.{OwnedManager}
+use Rattle.obman_c_base.specs.declared.owned.OwnedManager.{OwnedManager}
 use Rattle.obman_c.specs.declared.values.Reaping.{Reaping}
 use Rattle.obman_c.specs.Chains.{Chain}
 use Rattle.obman_c.specs.Telling.{reaping_in}
-use Rattle.obman_c.specs.Made.{Makes}
+use Rattle.obman_c_base.specs.Made.{Makes}
 
 -- the least slot, from one on, whose object has ended is reaped; the next is looked for behind it
 pub record ReapsNext (old : ℕ × OwnedManager) (told : Reaping) (new : ℕ × OwnedManager) : Type 0 where

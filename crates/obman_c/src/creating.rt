@@ -5,10 +5,10 @@ ghost use Rattle.ob_manager.specs.declared.call.CallOf.TheVariants as Call;
 ghost use Rattle.obman_c.specs.Asking.{asked_for, mask_of, rights_in};
 ghost use Rattle.obman_c.specs.Telling.{TellsValue, opening_in};
 
-use crate::owner::ManagerOwner;
 use crate::values::{Opening, tell_opening};
 use ob_manager::{Ask, Make};
 use ob_rights::{Kind, Rights};
+use obman_c_base::ManagerOwner;
 
 /// What a create asks for (`om_making`), beside the name's bytes and the object's own state. All zeros ask for no name,
 /// no inheritance and all rights.

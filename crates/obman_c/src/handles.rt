@@ -6,12 +6,11 @@ ghost use Rattle.obman_c.specs.Asking.{mask_of, number_at};
 ghost use Rattle.obman_c.specs.Finding.{Finds};
 ghost use Rattle.obman_c.specs.Telling.{TellsStatus, TellsValue, flags_in, opening_in};
 
-use crate::codes::SUCCESS;
-use crate::owner::ManagerOwner;
 use crate::status::told;
 use crate::values::{Object, Opening, object_of, tell_flags, tell_opening};
 use ob_manager::Ask;
 use ob_rights::{Rights, code_of};
+use obman_c_base::{ManagerOwner, SUCCESS};
 
 /// [`Manager::duplicate`](ob_manager::Manager::duplicate), where the target 0 is none: 0, 87, 170, 6, 5, 1450 or 8.
 #[unsafe(no_mangle)]

@@ -2,7 +2,7 @@
 //! top of the repository declares them.
 //!
 //! C holds a pointer that tells it nothing. To a contract it is a
-//! [`ManagerOwner`](crate::owner::ManagerOwner) with the manager's
+//! [`ManagerOwner`](obman_c_base::ManagerOwner) with the manager's
 //! state as its value, so each function's contract is that of the manager's call: the same step from the state before
 //! to the state after, and the same answer, told by a number (0, or a Win32 error code) and by what is written where C
 //! asks for it.
@@ -17,24 +17,16 @@
 //! ```
 #![tactic(auto)]
 
-mod codes;
 mod creating;
 mod handles;
-mod limits;
 mod looking;
 mod opening;
-mod owned;
-mod owner;
-mod parts;
 mod pinning;
 mod processes;
-mod reader_owner;
 mod readers;
 mod reading;
 mod reaping;
 mod recording;
-mod savestates;
-mod script;
 mod signaling;
 mod status;
 mod timing;

@@ -12,14 +12,13 @@ ghost use Rattle.obman_c.specs.Looking.{WaitTells, handle_entry, or_zero, pendin
 ghost use Rattle.obman_c.specs.Pinning.{id_at};
 ghost use Rattle.obman_c.specs.Telling.{object_of};
 
-use crate::codes::{SUCCESS, TOO_SMALL};
-use crate::owner::ManagerOwner;
 use crate::pinning::id_at;
 use crate::status::NO_MORE;
 use crate::values::{Object, object_of};
 use ob_manager::{Mode, ObjectState};
 use ob_rights::{Fault, code_of};
 use ob_tables::Entry;
+use obman_c_base::{ManagerOwner, SUCCESS, TOO_SMALL};
 use pin_core::Id;
 
 /// What state an object is in (`om_object_state`). What its kind hasn't is 0.

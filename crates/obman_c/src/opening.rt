@@ -2,16 +2,15 @@
 ghost use Rattle.std.specs.Prelude.{◌≡◌, IfErr, IfOk};
 ghost use Rattle.pin_core.specs.Shapes.{IsWithinLimits};
 ghost use Rattle.pin_words.specs.Seats.{TableState};
-ghost use Rattle.obman_c.specs.Allowed.{AreAs};
-ghost use Rattle.obman_c.specs.declared.owned.OwnedManager.{OwnedManager};
+ghost use Rattle.obman_c_base.specs.Allowed.{AreAs};
+ghost use Rattle.obman_c_base.specs.declared.owned.OwnedManager.{OwnedManager};
 ghost use Rattle.obman_c.specs.Opening.{Opens, new_keeper, new_owned};
 
-use crate::codes::SUCCESS;
-use crate::limits::{CLimits, limits_of};
-use crate::owned::OwnedManager;
-use crate::owner::{ManagerOut, ManagerOwner, ManagerTaken};
 use ob_manager::{Limits, Manager};
 use ob_rights::{Fault, code_of};
+use obman_c_base::{
+    CLimits, ManagerOut, ManagerOwner, ManagerTaken, OwnedManager, SUCCESS, limits_of,
+};
 use pin_core::Shape;
 use pin_words::{Keeper, Pins};
 use std::alloc::Global;

@@ -5,10 +5,9 @@ ghost use Rattle.ob_manager.specs.Counting.{card};
 ghost use Rattle.obman_c.specs.Finding.{Describes, description_of, kind_number};
 ghost use Rattle.obman_c.specs.Pinning.{id_at, pin_status};
 
-use crate::codes::SUCCESS;
-use crate::owner::ManagerOwner;
 use ob_manager::Card;
 use ob_rights::{Fault, Kind, code_of};
+use obman_c_base::{ManagerOwner, SUCCESS};
 use pin_core::Id;
 use pin_words::PinFault;
 

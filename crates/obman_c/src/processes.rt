@@ -2,10 +2,10 @@
 ghost use Rattle.ob_manager.specs.declared.call.CallOf.TheVariants as Call;
 ghost use Rattle.obman_c.specs.Telling.{TellsStatus, TellsValue, member_in, thread_in};
 
-use crate::owner::ManagerOwner;
 use crate::status::told;
 use crate::values::{Member, tell_member, tell_thread};
 use ob_manager::Ask;
+use obman_c_base::ManagerOwner;
 
 /// [`Manager::spawn`](ob_manager::Manager::spawn): 0, 1450 or 8.
 #[tactic(auto, using(crate::proofs::Told::tells_as))]

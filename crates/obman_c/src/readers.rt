@@ -12,12 +12,9 @@ ghost use Rattle.obman_c.specs.Pinning.{id_at};
 ghost use Rattle.obman_c.specs.Reading.{AreOfOne, DescribeTold, InspectTold, IsHeld, PinTold, ReaderOpens, UnpinTold};
 ghost use Rattle.obman_c.specs.Reading.{descriptor_of};
 
-use crate::codes::SUCCESS;
-use crate::owned::OwnedReader;
-use crate::owner::ManagerOwner;
 use crate::pinning::{Description, description_of, id_at, number_of, number_of_kind};
-use crate::reader_owner::{ReaderOut, ReaderOwner, ReaderTaken};
 use ob_rights::{Fault, code_of};
+use obman_c_base::{ManagerOwner, OwnedReader, ReaderOut, ReaderOwner, ReaderTaken, SUCCESS};
 use pin_core::{Descr, Id};
 use pin_words::Reader;
 use std::alloc::Global;

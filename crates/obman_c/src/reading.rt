@@ -5,11 +5,10 @@ ghost use Rattle.ob_name.specs.Refs.{namespace_of, row_at};
 ghost use Rattle.ob_store.specs.Directory.{directory_of};
 ghost use Rattle.obman_c.specs.Listing.{RowTold, RowTells};
 
-use crate::codes::{SUCCESS, TOO_SMALL};
-use crate::owner::ManagerOwner;
 use crate::status::NO_MORE;
 use crate::values::{Object, object_of};
 use ob_name::{NameRef, Space};
+use obman_c_base::{ManagerOwner, SUCCESS, TOO_SMALL};
 use pin_core::Id;
 
 /// A row of the directory, but for its name (`om_row`).

@@ -5,11 +5,9 @@ ghost use Rattle.obman_c.specs.Pinning.{id_at};
 ghost use Rattle.obman_c.specs.Reaping.{ReapsAll};
 ghost use Rattle.obman_c.specs.Telling.{TellsValue, reaping_in, references_in};
 
-use crate::codes::SUCCESS;
-use crate::owned::OwnedManager;
-use crate::owner::ManagerOwner;
 use crate::values::{Reaping, References, tell_reaping, tell_references};
 use ob_manager::Ask;
+use obman_c_base::{ManagerOwner, OwnedManager, SUCCESS};
 use pin_core::Id;
 
 /// [`Manager::reap`](ob_manager::Manager::reap): 0, 87 or 6.

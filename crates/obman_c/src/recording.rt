@@ -3,9 +3,8 @@ ghost use Rattle.std.specs.Prelude.{◌≡◌};
 ghost use Rattle.ob_script.specs.Recording.{TakesLines};
 ghost use Rattle.obman_c.specs.Noting.{RecordTold, TakeTold};
 
-use crate::codes::{SUCCESS, TOO_SMALL};
-use crate::owner::ManagerOwner;
 use ob_rights::{Fault, code_of};
+use obman_c_base::{ManagerOwner, SUCCESS, TOO_SMALL};
 
 /// [`Recorder::start`](ob_script::Recorder::start), or [`Recorder::stop`](ob_script::Recorder::stop): 0 or 8.
 #[unsafe(no_mangle)]

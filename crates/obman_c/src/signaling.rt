@@ -2,10 +2,10 @@
 ghost use Rattle.ob_manager.specs.declared.call.CallOf.TheVariants as Call;
 ghost use Rattle.obman_c.specs.Telling.{TellsStatus, TellsValue, count_in};
 
-use crate::owner::ManagerOwner;
 use crate::status::told;
 use crate::values::tell_count;
 use ob_manager::Ask;
+use obman_c_base::ManagerOwner;
 
 /// [`Manager::set_event`](ob_manager::Manager::set_event): 0, 87, 170, 6 or 5.
 #[tactic(auto, using(crate::proofs::Told::tells))]

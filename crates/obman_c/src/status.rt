@@ -3,9 +3,9 @@ ghost use Rattle.std.specs.Prelude.{◌≡◌};
 ghost use Rattle.ob_manager.specs.Steps.{reply_of};
 ghost use Rattle.obman_c.specs.Telling.{status_of};
 
-use crate::codes::SUCCESS;
 use ob_manager::Reply;
 use ob_rights::{Fault, code_of};
+use obman_c_base::SUCCESS;
 
 /// `ERROR_NO_MORE_ITEMS`.
 pub(crate) const NO_MORE: u32 = 259;

@@ -4,10 +4,9 @@ ghost use Rattle.ob_manager.specs.declared.call.CallOf.TheVariants as Call;
 ghost use Rattle.obman_c.specs.Looking.{NextDue};
 ghost use Rattle.obman_c.specs.Telling.{TellsStatus};
 
-use crate::codes::SUCCESS;
-use crate::owner::ManagerOwner;
 use crate::status::{NO_MORE, told};
 use ob_manager::Ask;
+use obman_c_base::{ManagerOwner, SUCCESS};
 
 /// [`Manager::set_timer`](ob_manager::Manager::set_timer): 0, 87, 170, 6 or 5.
 #[unsafe(no_mangle)]

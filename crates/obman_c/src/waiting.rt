@@ -6,12 +6,10 @@ ghost use Rattle.obman_c.specs.Telling.{TellsStatus, TellsValue, answer_in};
 ghost use Rattle.ob_manager.specs.declared.waiting.Timeout.TheVariants as Timeout;
 ghost use Rattle.obman_c.specs.Waiting.{TakesAll, mode_of};
 
-use crate::codes::SUCCESS;
-use crate::owned::OwnedManager;
-use crate::owner::ManagerOwner;
 use crate::status::told;
 use crate::values::tell_answer;
 use ob_manager::{Answer, Ask, Mode, Timeout};
+use obman_c_base::{ManagerOwner, OwnedManager, SUCCESS};
 
 /// The answer of a wait (`om_answer`).
 #[repr(C)]

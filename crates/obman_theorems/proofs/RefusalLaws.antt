@@ -29,6 +29,7 @@ use Rattle.ob_manager.specs.declared.reply.Reply.{Reply}
 use Rattle.ob_manager.specs.declared.reply.Reply.TheVariants as reply
 use Rattle.ob_manager.specs.Outcomes.{Outcome, ◌>>=◌, or_refuse, refuse_if}
 use Rattle.ob_manager.specs.Checks.{caller, found, if_kind, same_kind}
+use Rattle.ob_manager.specs.Signaling.{modified}
 use Rattle.ob_manager.specs.Creating.{create, created, name_in, named_object, new_event, new_handle, new_mutex, new_object, new_semaphore, new_timer, own_name, room_for, semaphore_of}
 use Rattle.ob_manager.specs.Copying.{admitted, asked_rights, copied_to, copy_rights, is_stuck, is_wrong, keeps_rights, leaves, with_source, without_source}
 use Rattle.ob_manager.specs.Reaping.{if_ended}
@@ -87,6 +88,10 @@ kind_within fs k (Some b) h = by (same_kind (kind_of b) k)
     by : (c : Bool) → Within fs (cond c (Ok b) (Err fault.Handle))
     by true = tt
     by false = h
+
+modified_within : (fs : List Fault) (s : State) (t h : ℕ) (k : Kind) → IsAmong fs fault.Parameter
+    → IsAmong fs fault.Busy → IsAmong fs fault.Handle → IsAmong fs fault.Access → Within fs (modified s t h k)
+modified_within fs s t h k p b there may = search (then_within, caller_within, found_within, kind_within, refuse_within)
 
 post_within : (fs : List Fault) (n : ℕ) (b : Body) → IsAmong fs fault.Handle → IsAmong fs fault.Posts
     → Within fs (post_answer n b)
@@ -297,6 +302,7 @@ outcome_says s (calls.ReleaseSemaphore t h count) r =
 outcome_says s call r =
     search (
       andThen,
+      modified_within,
       caller_within,
       found_within,
       kind_within,

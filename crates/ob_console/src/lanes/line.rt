@@ -38,7 +38,7 @@ pub enum LaneLine<'a> {
 
 /// What a line is, without its line feed, in a script with so many lanes beside the prologue. Without a prefix it
 /// belongs to the prologue, as long as that goes on. The handles of a wait are read into `handles`, as by
-/// [`act_of`](ob_script::command_of).
+/// [`command_of`](ob_script::command_of).
 pub fn line_of<'a>(
     lanes: u32,
     is_prologue: bool,

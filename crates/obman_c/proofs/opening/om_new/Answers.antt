@@ -1,5 +1,5 @@
 use Rattle.std.proofs.Common.{refl, ap, ◌∙◌, Some}
-use Rattle.obman_c.specs.declared.owned.OwnedManager.{OwnedManager}
+use Rattle.obman_c_base.specs.declared.owned.OwnedManager.{OwnedManager}
 use Rattle.obman_c.specs.Opening.{opens}
 use Rattle.obman_c.proofs.opening.om_new.Goals as goal
 

@@ -1,8 +1,8 @@
 use Rattle.std.proofs.Common.{refl, sym, ap, ◌∙◌, Some}
 use Rattle.ob_store.specs.Giving.{given_by, with_next}
 use Rattle.ob_store.specs.State.{Whole}
-use Rattle.obman_c.specs.declared.owned.OwnedReader.{OwnedReader}
-use Rattle.obman_c.specs.declared.owned.OwnedManager.{OwnedManager}
+use Rattle.obman_c_base.specs.declared.owned.OwnedReader.{OwnedReader}
+use Rattle.obman_c_base.specs.declared.owned.OwnedManager.{OwnedManager}
 use Rattle.obman_c.specs.Reading.{opens}
 use Rattle.obman_c.proofs.readers.om_reader_new.Goals as goal
 

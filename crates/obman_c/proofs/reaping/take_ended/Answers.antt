@@ -2,7 +2,7 @@ use Rattle.std.proofs.Common.{◌+◌, ◌<◌, ◌∙◌, length, length-set, r
 use Rattle.ob_manager.specs.declared.call.CallOf.TheVariants as calls
 use Rattle.ob_manager.specs.declared.reply.Reply.{Reply}
 use Rattle.ob_manager.specs.Steps.{reclaim_in, reply_of}
-use Rattle.obman_c.specs.Made.{Makes}
+use Rattle.obman_c_base.specs.Made.{Makes}
 use Rattle.obman_c.specs.Reaping.{ReapsNext}
 use Rattle.obman_c.proofs.Chains.{chain_set, rest_set}
 use Rattle.obman_c.proofs.Taking.{reaped, told_as}

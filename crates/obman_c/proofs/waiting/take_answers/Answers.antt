@@ -3,7 +3,7 @@ use Rattle.ob_manager.specs.declared.call.CallOf.TheVariants as calls
 use Rattle.ob_manager.specs.declared.reply.Reply.{Reply}
 use Rattle.ob_manager.specs.Steps.{reply_of}
 use Rattle.obman_c.specs.declared.waiting.CAnswer.{CAnswer}
-use Rattle.obman_c.specs.Made.{Makes}
+use Rattle.obman_c_base.specs.Made.{Makes}
 use Rattle.obman_c.specs.Waiting.{TakesNext}
 use Rattle.obman_c.proofs.Chains.{chain_set, rest_set}
 use Rattle.obman_c.proofs.Taking.{answered}

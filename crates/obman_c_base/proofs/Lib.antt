@@ -1,0 +1,5 @@
+pub mod Walks
+pub mod Sending
+pub mod Lent
+pub mod Endings
+pub mod Made

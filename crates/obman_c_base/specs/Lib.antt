@@ -1,0 +1,5 @@
+pub mod Allowed
+pub mod Made
+pub mod Owned
+pub mod Owning
+pub mod Lending

@@ -1,0 +1,63 @@
+//! Savestates.
+ghost use Rattle.std.specs.Prelude.{◌≡◌, IfErr, IfOk};
+ghost use Rattle.pin_words.specs.Seats.{TableState};
+ghost use Rattle.obman_c_savestates.specs.Savestates.{Loads, Saves, loaded_owned};
+
+use ob_codec::ReadFault;
+use ob_manager::Manager;
+use ob_rights::{Fault, code_of};
+use obman_c_base::{INVALID_DATA, ManagerOut, ManagerOwner, OwnedManager, SUCCESS, TOO_SMALL};
+use pin_words::LockedPins;
+use std::alloc::Global;
+
+/// [`Manager::save`](ob_manager::Manager::save): 0 with how many bytes were written, 122 with how many it takes where
+/// they don't fit, or 8.
+#[unsafe(no_mangle)]
+pub extern "C" fn om_save(
+    alloc: Global,
+    owner: &mut ManagerOwner,
+    bytes: &mut [u8],
+    written: &mut usize,
+) -> u32
+    ensures saved { Saves owner.old.value.manager result bytes.old bytes.new written.old written.new }
+    ensures same { owner.new.value ≡ owner.old.value }
+{
+    let Ok(saved) = owner.lend().manager.save(alloc) else {
+        return code_of(Fault::Memory);
+    };
+    let text = saved.as_slice();
+    *written = saved.len();
+    if saved.len() > bytes.len() {
+        return TOO_SMALL;
+    }
+    bytes[..saved.len()].copy_from_slice(text);
+    SUCCESS
+}
+
+/// [`Manager::load`](ob_manager::Manager::load), over words of its own, at a place of C's: 0, 13 where the bytes are no
+/// savestate, or 8. What stood at the place isn't read.
+#[unsafe(no_mangle)]
+pub extern "C" fn om_load(alloc: Global, bytes: &[u8], place: &mut ManagerOut) -> u32
+    ensures { Loads bytes.now result place.old.value place.new.value }
+{
+    match Manager::load(alloc, bytes) {
+        Ok(manager) => match held(alloc, manager) {
+            Ok(held) => {
+                *place = ManagerOut::of(held);
+                SUCCESS
+            }
+            Err(fault) => code_of(fault),
+        },
+        Err(ReadFault::Memory) => code_of(Fault::Memory),
+        Err(ReadFault::Text(_)) => INVALID_DATA,
+    }
+}
+
+/// A manager that was loaded in a box of its own, over words that begin with its slots.
+fn held(alloc: Global, manager: Manager<LockedPins>) -> Result<Box<OwnedManager>, Fault>
+    ensures loaded { IfOk result (λ held. (t : TableState) × (held.value ≡ loaded_owned manager t)) }
+    ensures memory { IfErr result (λ fault. fault ≡ Fault.Memory) }
+{
+    let (keeper, _) = manager.words(alloc)?;
+    Ok(OwnedManager::boxed(alloc, manager.over(keeper))?)
+}
