@@ -16,14 +16,12 @@ extern long atol(const char *text);
 long requests, refused_at, blocks;
 static void *mark;
 
-static void say(const char *words, size_t length) { write(2, words, length); }
-
 static int is_refused(void) {
     const char *number = getenv("REFUSE");
     if (number) refused_at = atol(number);
-    if (mark) say("asked\n", 6);
+    if (mark) write(2, "asked\n", 6);
     if (++requests != refused_at) return 0;
-    if (number) say("refused\n", 8);
+    if (number) write(2, "refused\n", 8);
     return 1;
 }
 
@@ -33,7 +31,7 @@ void *malloc(size_t size) {
     blocks += block != 0;
     if (block && is_mark) {
         mark = block;
-        say("marked\n", 7);
+        write(2, "marked\n", 7);
     }
     return block;
 }

@@ -1,7 +1,9 @@
 """What the sources have by which name, for the checks of pages: the functions of crates/*/src with their clauses, what each type has, and
 the definitions of crates/*/specs with what they stand on."""
 
+import collections
 import re
+import types
 
 from trials import ROOT
 
@@ -9,22 +11,6 @@ BLOCK = re.compile(r"^(?:pub(?:\(\w+\))? )?(?:unsafe )?(impl|trait|struct|enum|u
 HEAD = re.compile(r"^( *)(?:pub(?:\(\w+\))? )?(?:const |unsafe )*(extern \"C\" )?fn (\w+)", re.M)
 CLAUSE = re.compile(r"\b(?:ensures|requires)\*? (?:(\w+) )?\{")
 PATH = re.compile(r"\b\w+(?:::\w+)+")
-
-
-class Function:
-    """A function of a crate, of a type, a trait or a module, with its clauses."""
-
-    def __init__(self, crate, module, owner, trait, name, is_export, text):
-        self.crate, self.module, self.owner, self.trait, self.name, self.is_export = crate, module, owner, trait, name, is_export
-        # (from the first clause on, without the parameters)
-        first = CLAUSE.search(text)
-        self.contract = text[first.start() :] if first else ""
-
-    def clauses(self):
-        return {it for it in CLAUSE.findall(self.contract) if it}
-
-    def words(self):
-        return set(re.findall(r"\w+", self.contract))
 
 
 def type_of(words):
@@ -35,40 +21,42 @@ def type_of(words):
     return re.findall(r"\w+", owner if trait else owner.split(":")[0])[-1], (re.findall(r"\w+", trait) or [None])[-1]
 
 
-def head_of(text, indent):
-    """The head of a function with its clauses, to where its body begins."""
+def contract_of(text, indent):
+    """The clauses of the function that a text begins with, to where its body begins."""
     end = re.search(rf"(?:^{indent}(?:\S.*)?\{{\}}?|\}};|^{indent}\S.*[;}}])$", text, re.M)
-    return text[: end.end()] if end else text
+    head = text[: end.end()] if end else text
+    first = CLAUSE.search(head)
+    return head[first.start() :] if first else ""
 
 
 class Sources:
-    """All functions, and by the name of each crate, module and type what stands in it."""
+    """All functions, with the crate, the module, the type or trait where each stands, and its clauses; and by the name of each of these what stands in it."""
 
-    def __init__(self, root=ROOT):
-        self.functions, self.members, aliases = [], {}, []
-        for file in sorted(root.glob("crates/*/src/**/*.rt")):
-            text, crate = file.read_text(), file.relative_to(root / "crates").parts[0]
+    def __init__(self):
+        self.functions, self.members, aliases = [], collections.defaultdict(set), []
+        for file in sorted(ROOT.glob("crates/*/src/**/*.rt")):
+            text, crate = file.read_text(), file.relative_to(ROOT / "crates").parts[0]
             blocks = [(it, *(type_of(it[2]) if it[2].strip() else ("", None))) for it in BLOCK.finditer(text)]
-            self.put(crate, file.stem, *re.findall(r"\w+", " ".join(re.findall(r"^pub use (.*?);", text, re.M | re.S))))
-            self.put(crate, *re.findall(r"^(?:pub(?:\(\w+\))? )?(?:const|type|static) (\w+)", text, re.M))
+            used = " ".join(re.findall(r"^pub use (.*?);", text, re.M | re.S))
+            values = re.findall(r"^(?:pub(?:\(\w+\))? )?(?:const|type|static) (\w+)", text, re.M)
+            self.members[crate] |= {file.stem, *re.findall(r"\w+", used), *values}
             aliases += re.findall(r"^pub type (\w+)\b.*? = (\w+)", text, re.M)
             for block, owner, _ in blocks:
-                self.put(crate, owner)
-                self.put(file.stem, owner)
-                self.put(owner, *re.findall(r"^ +(?:pub(?:\(\w+\))? )?(?:const |ghost )?(\w+)", block[3] or "", re.M))
+                self.members[crate].add(owner)
+                self.members[file.stem].add(owner)
+                self.members[owner] |= set(re.findall(r"^ +(?:pub(?:\(\w+\))? )?(?:const |ghost )?(\w+)", block[3] or "", re.M))
             for head in HEAD.finditer(text):
                 _, owner, trait = next((it for it in blocks if it[0].start() <= head.start() < it[0].end()), (None, None, None))
-                self.functions.append(Function(crate, file.stem, owner, trait, head[3], head[2], head_of(text[head.start() :], head[1])))
+                where = {"crate": crate, "module": file.stem, "owner": owner, "trait": trait}
+                contract = contract_of(text[head.start() :], head[1])
+                self.functions.append(types.SimpleNamespace(**where, name=head[3], is_export=head[2], contract=contract))
         for it in self.functions:
             for scope in [it.crate, it.module, it.owner]:
-                self.put(scope, it.name)
+                self.members[scope].add(it.name)
             if it.trait and not it.contract:
                 it.contract = next((of.contract for of in self.functions if of.owner == it.trait and of.name == it.name), "")
         for alias, owner in aliases:
-            self.put(alias, *self.members.get(owner, []))
-
-    def put(self, scope, *names):
-        self.members.setdefault(scope, set()).update(names)
+            self.members[alias] |= self.members.get(owner, set())
 
     def named(self, crate, *owner, name):
         """The functions of a crate of this name: of a type or a module, or of neither."""
@@ -117,7 +105,6 @@ class Definitions:
         return key if key in self.lines else None
 
     def closure(self, *keys):
-        """What these stand on, with themselves."""
         left, all = list(keys), set()
         while left:
             if (key := left.pop()) and key not in all:

@@ -1,6 +1,7 @@
 /* Stands between the host that it is linked with, by --wrap of om_new and om_free, and the library. Where RECORD names a file, all calls
  * of a manager are recorded to it. Else a manager begins with objects that have ended and that readers pin, to the host's end: more of
  * them than a short list has places. */
+#include <err.h>
 #include <obman.h>
 #include <stdio.h>
 #include <stdlib.h>
@@ -13,10 +14,7 @@ void __real_om_free(om_manager m);
 static om_reader readers[READERS];
 
 static void must(bool holds, const char *what) {
-    if (!holds) {
-        fprintf(stderr, "wrapped: %s\n", what);
-        exit(1);
-    }
+    if (!holds) errx(1, "%s", what);
 }
 
 static void pin(om_manager *m) {
@@ -38,9 +36,7 @@ static void unpin(om_manager *m) {
     size_t count;
     must(om_take_ended(m, ended, READERS * PINS, &count) == OM_SUCCESS && count == READERS * PINS, "what is pinned isn't told");
     __real_om_free(*m);
-    for (int i = 0; i < READERS; i++) {
-        om_reader_free(readers[i]);
-    }
+    for (int i = 0; i < READERS; i++) om_reader_free(readers[i]);
 }
 
 static void write_to(FILE *record, om_manager *m) {
@@ -60,18 +56,12 @@ static void write_to(FILE *record, om_manager *m) {
 
 uint32_t __wrap_om_new(const om_limits *limits, om_manager *m) {
     must(__real_om_new(limits, m) == OM_SUCCESS, "no manager");
-    if (getenv("RECORD")) {
-        must(om_record(m, true) == OM_SUCCESS, "no record");
-    } else {
-        pin(m);
-    }
+    if (getenv("RECORD")) must(om_record(m, true) == OM_SUCCESS, "no record");
+    else pin(m);
     return OM_SUCCESS;
 }
 
 void __wrap_om_free(om_manager m) {
-    if (getenv("RECORD")) {
-        write_to(fopen(getenv("RECORD"), "wb"), &m);
-    } else {
-        unpin(&m);
-    }
+    if (getenv("RECORD")) write_to(fopen(getenv("RECORD"), "wb"), &m);
+    else unpin(&m);
 }
