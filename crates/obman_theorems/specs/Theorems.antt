@@ -118,9 +118,9 @@ AreEntered lines outputs entries = ⊥
 -- What a run of a script prints is what a run of the model answers, from a new manager with these limits: line by line
 -- the reply of its call's step, or what the reader of the pins is answered (`Prints`). The state at the end is what
 -- the script's calls, with the replies that were printed for them, recount. Three answers are left open: 8 of a call
--- that takes memory, that a slot which is reaped is held, and that a pin is refused as busy or full, each by a word of
--- the slot that was found, and which nobody but the one reader need have changed. The premise is that the run ended
--- with its input; what a run that was cut short had answered, `IsCut` says.
+-- that takes memory; that a slot which is reaped is held; and that a pin is refused as busy or full. The last two are
+-- told by a word that the slot may have, though nobody but the one reader made its pins. The premise is that the run
+-- ended with its input; what a run that was cut short had answered, `IsCut` says.
 pub record IsRun (limits : Limits) (input output : List ℕ) : Type 0 where
   pub first : Point
   pub last : Point
@@ -134,9 +134,9 @@ pub record IsRun (limits : Limits) (input output : List ℕ) : Type 0 where
 
 -- In a world of pins a slot that somebody has pinned is neither stored to, published nor taken back, so nobody else is
 -- given it; a slot is published only while nobody has it pinned; no Id is published twice; a descriptor that is read
--- under a pin is the one that was published with the Id; and no event takes a slot back in its life. The premise is
--- that each event was possible where it stood (`refusal`), whatever the order of all of them. No answer is bounded: a
--- pin may be refused as busy or full, and a reap answered as held, though none had to be.
+-- under a pin is the one that was published with the Id; and no event lowers a slot's generation, or its phase within
+-- one. The premise is that each event was possible where it stood (`refusal`), whatever the order of all of them. No
+-- answer is bounded: a pin may be refused as busy or full, and a reap answered as held, though none had to be.
 pub record IsPinned (w : WorldState) : Type 0 where
   pub stays : (h : Hold) → 0 < times w h → StaysGiven w h.id.slot
   pub alone : (s : ℕ) → refusal w (Publish s) ≡ None → pins w s ≡ 0
@@ -164,8 +164,8 @@ pub record IsHeld (r : ReaderView) (id : Id) (r' : ReaderView) : Type 0 where
 
 -- All lanes stand in one legal history: the list of each is its part of the history, in order and whole, and each call
 -- of the history is of just one of them. The premise is that the lanes are those that were given (`AreWhole`), which
--- is looked at; that one lock stood before all their calls is what the types say. A call that was answered 8 before
--- the manager was asked is in no list (`Lists`).
+-- is looked at; that one lock stood before all their calls is what the types say. A call that is answered 8 may be in
+-- no list (`Lists`), since memory may be wanting before the manager is asked.
 pub record AreOneHistory (given : ℕ) (lanes : List LaneState) (journal : List Entry) (w : Whole) : Type 0 where
   pub history : IsHistory journal w
   pub recounts : IsRecounted (opening w.state.limits) journal w
@@ -182,7 +182,7 @@ AreAskedAlike (x ∷ xs) (y ∷ ys) = (x.call ≡ y.call) × (is_lack x.reply �
 AreAskedAlike xs ys = ⊥
 
 -- Two managers of one state answer every list of calls alike, and come to one state again: unless memory is wanting,
--- or a slot that is reaped is held in one of the two alone.
+-- or a slot that is reaped isn't found alike, free, retired or held by as many pins.
 pub record AreAlike (a b : Whole) : Type 0 where
   pub state : a.state ≡ b.state
   pub answers : (xs ys : List Entry) (v w : Whole) → Replays a xs v → Replays b ys w → AreAskedAlike xs ys
@@ -196,8 +196,9 @@ pub record IsSaved (w : Whole) (bytes : List ℕ) : Type 0 where
 
 -- 7. REPLAY, from 2 and 3
 
--- A run of a journal's script prints what its entries were answered, in their order, up to the first line that is
--- answered otherwise: since memory was wanting, or another thing became of a slot that is reaped (`AnswersOtherwise`).
+-- A run of a journal's script prints what its entries were answered, of each that a line can ask for again, in their
+-- order, up to the first that is answered otherwise: since memory was wanting, or another thing became of a slot that
+-- is reaped (`AnswersOtherwise`).
 -- Where there is no such line the run ends in the state of the journal's manager. The premises are that the journal
 -- has every call since a state, that the run begins in that state, and that the numbers of its calls fit their types.
 pub record IsReplayed (journal : List Entry) (w : Whole) (output : List ℕ) (last : Point) : Type 0 where

@@ -40,7 +40,7 @@ pub fn law_of_total()
 {}
 
 /// The second statement, of every step between managers that are kept. And two managers of one state answer a call
-/// alike and come to one state, unless memory is wanting, or the slot that the call reaps is held in one of them alone.
+/// alike and come to one state, unless memory is wanting, or the slot that the call reaps isn't found alike.
 pub fn law_of_steps()
     ensures made { (w v : Whole) (call : Call) (reply : Reply) → Step w call reply v → IsConsistent w
         → IsConsistent v → IsMade w call reply v }
