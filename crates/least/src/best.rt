@@ -118,8 +118,7 @@ fn lower(best: &Vec<Option<u64>>, place: usize, least: Option<u64>) -> usize
     }
 }
 
-/// A place whose moment is the least. It is seldom looked for, so this stays apart.
-#[inline(never)]
+/// A place whose moment is the least.
 pub(crate) fn place_of_least(dues: &Vec<Option<u64>>, best: &Vec<Option<u64>>) -> usize
     requires is_due { IsSome (due_at best.now.items 0) }
     requires at_most { length best.now.items ≤ PLACES_MAX }

@@ -89,7 +89,6 @@ impl Dues {
     }
 
     /// A place whose moment is the least, where that isn't after `now`. Where none is, that is known at once.
-    #[inline]
     pub fn due_by(&self, now: u64) -> Option<u32>
         ensures found { IfSome result (λ place. is_by now (due_at self.now place) ≡ true) }
         ensures least { IfSome result (λ place. IsLeast self.now (due_at self.now place)) }

@@ -95,7 +95,6 @@ impl<K: PinKeeper> Store<K> {
     /// Releases a mutex once.
     ///
     /// Refused with 288 where the thread doesn't own it.
-    #[inline(always)]
     #[tactic(auto, using(crate::proofs::Yielding::unlock_yields))]
     pub fn unlock(&mut self, id: Id, mutex: Body, thread: u32) -> Result<(), Fault>
         requires bodied { slice_index_or self.old.state.bodies id.slot None ≡ Some mutex }
