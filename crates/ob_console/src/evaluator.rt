@@ -85,8 +85,8 @@ impl Evaluator {
         handles: &mut Handles,
     ) -> Result<(), NotWritten>
         requires { self.old.lines < 2 ^ 127 }
-        ensures prints { Enacts self.old (self.old.lines + 1) (command_of_partial_line held.now) result (W.taken sink.old)
-            (W.taken sink.new) self.new }
+        ensures prints { Enacts self.old (self.old.lines + 1) (command_of_partial_line held.now) result
+            (W.taken sink.old) (W.taken sink.new) self.new }
         ensures lines { self.new.lines ≡ self.old.lines + 1 }
         ensures sink { UsesSink W.calls W.faults result sink.old sink.new self.old.pending self.new.pending }
     {
@@ -101,8 +101,8 @@ impl Evaluator {
 
     /// Does the act of the last line, where `handles` are those of a wait, and prints its answer.
     //
-    // It is called in one place, so it stands there when it runs, and the command is nowhere else. What seldom comes has
-    // functions of its own that don't: room for what they print would be made on each line.
+    // It is called in one place, so it stands there when it runs, and the command is nowhere else. What seldom comes
+    // has functions of its own that don't: room for what they print would be made on each line.
     fn enact<W: Sink>(
         &mut self,
         sink: &mut W,

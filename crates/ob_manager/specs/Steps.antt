@@ -60,8 +60,8 @@ outcome_of s (calls.Exit process) reply = exit s process
 outcome_of s (calls.Reap slot) reply = reap s slot (reclaim_in reply)
 outcome_of s (calls.Counts id) reply = counts s id
 
--- whether a call takes memory, which may be wanting: a wait only where it becomes pending, and a handle to an object
--- that is there only where no value was given back; no other call takes any
+-- whether a call takes memory, which may be wanting: a wait only where it becomes pending, an open or a duplicate only
+-- where no value was given back; a call that isn't named takes none
 abbrev pub takes_memory : State → Call → Bool
 takes_memory s (calls.Spawn session) = true
 takes_memory s (calls.Child thread inherit) = true

@@ -41,8 +41,8 @@ impl<K: PinKeeper> Manager<K> {
         object_state::state_of(&self.store, id)
     }
 
-    /// The object in the least slot with one, from slot `from` on, whether it ended or not. It passes 64
-    /// slots at a time, from there to the one that it finds.
+    /// The object in the least slot with one, from slot `from` on, whether it ended or not. It passes 64 slots at
+    /// a time, from there to the one that it finds.
     pub fn next_object(&self, from: u32) -> Option<Id>
         ensures least { IsLeastFrom from (is_object_at self.now.state) (option_map (λ id. id.slot) result) }
         ensures object { IfSome result (λ id. IsThere self.now.state.objects id) }

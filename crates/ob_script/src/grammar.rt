@@ -2,8 +2,8 @@ ghost use Rattle.std.specs.Prelude.{◌≡◌, ◌≤◌, IfSome, length, nat_lt
 ghost use Rattle.ob_manager.specs.declared.call.CallOf.TheVariants as calls;
 ghost use Rattle.ob_script.specs.Words.{are_handles, handles_in, id_of, labelled, moment_of, number_of};
 ghost use Rattle.ob_script.specs.Commands.{IsRead, Pin, ShowCard, Unpin, command_in, shortened};
-ghost use Rattle.ob_script.specs.Grammar.{access_of, command_of, asked, child_of, closing_of, dup_of, event_of, handle_of};
-ghost use Rattle.ob_script.specs.Grammar.{handled, lone_of, mode_of, mutex_of, object_of, on_object, open_of};
+ghost use Rattle.ob_script.specs.Grammar.{access_of, asked, child_of, closing_of, command_of, dup_of, event_of};
+ghost use Rattle.ob_script.specs.Grammar.{handle_of, handled, lone_of, mode_of, mutex_of, object_of, on_object, open_of};
 ghost use Rattle.ob_script.specs.Grammar.{release_of, semaphore_of, setflags_of, settimer_of, target_of, text_of};
 ghost use Rattle.ob_script.specs.Grammar.{timeout_of, timer_of, wait_of};
 
@@ -40,9 +40,9 @@ pub fn is_too_long(text: &[u8]) -> bool
 /// What a line is. The handles of a wait are read into `handles`, in place of those that stood there.
 //
 // What a line of each verb is stands in this one function when it runs: a function of its own would have a copy of the
-// words that are left, and each of these would be cleared for every line. Each verb makes its command in one step, with no
-// option between: that would be taken apart and put together for every line. It stands where it is called, so that no
-// act is made where its parts are enough: who reads lines calls it in one place.
+// words that are left, and each of these would be cleared for every line. Each verb makes its command in one step, with
+// no option between: that would be taken apart and put together for every line. It stands where it is called, so that
+// no command is made where its parts are enough: who reads lines calls it in one place.
 #[inline(always)]
 #[tactic(auto, using(crate::proofs::Verbs::lone_is_bad))]
 pub fn command_of<'a>(line: &ScriptLine<'a>, handles: &mut Handles) -> Command<'a>
