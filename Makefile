@@ -26,7 +26,7 @@ PYTHON ?= python3
 MINGW ?= x86_64-w64-mingw32-gcc
 
 KIT = $(dir $(shell rt doc))
-PROVED = $(foreach part,obman_c obman_c_savestates obman_c_script,crates/$(part)/out/lib$(part).a)
+PROVED = $(foreach part,obman_c obman_c_whole,crates/$(part)/out/lib$(part).a)
 PROGRAM = crates/obman/out/obman
 # A program that was linked with a shared library runs with each later one of the same first number.
 NUMBER := $(shell sed -n 's/^\#define OM_VERSION \([0-9]*\)u$$/\1/p' include/obman.h)
@@ -44,7 +44,7 @@ all: build/libobman.a build/libobman.so
 
 # What has changed since it was proved is known by contents (checks/prove); where nothing has, no file is touched.
 proved:
-	checks/prove obman_c obman_c_savestates obman_c_script >&2
+	checks/prove obman_c obman_c_whole >&2
 
 $(PROVED): proved ;
 

@@ -115,13 +115,16 @@ class Definitions:
         return all
 
     def parts(self):
-        """What the theorems and the clauses of their laws stand on: first all that has nothing to do with savestates, then the rest."""
+        """What the theorems and the clauses of their laws stand on: first what the five statements themselves say, then all else that has nothing to do with savestates, then the rest."""
+        theorems, laws = ((ROOT / "crates/obman_theorems" / it).read_text() for it in ["specs/Theorems.antt", "src/law.rt"])
         seeds = [it for it in self.lines if it[0] == "obman_theorems/Theorems"]
-        for of, words in re.findall(r"^ghost use Rattle\.([\w.]+)\.\{(.*)\};$", (ROOT / "crates/obman_theorems/src/law.rt").read_text(), re.M):
+        five = {*re.findall(r"^(?:abbrev )?pub (?:record )?(\w+)", theorems.split("\n-- 6. ")[0], re.M)}
+        for of, words in re.findall(r"^ghost use Rattle\.([\w.]+)\.\{(.*)\};$", laws, re.M):
             seeds += [it for word in words.split(", ") if (it := (of.replace(".specs.", "/"), word)) in self.lines]
         saves = {it for it in self.lines if it[0] == "ob_manager/Savestates"}
-        first = self.closure(*(it for it in seeds if not self.closure(it) & saves))
-        return [first, self.closure(*seeds) - first]
+        first = self.closure(*(it for it in seeds if it[1] in five))
+        second = self.closure(*(it for it in seeds if not self.closure(it) & saves)) - first
+        return [first, second, self.closure(*seeds) - first - second]
 
     def in_order(self, keys):
         """The files of these, each behind those that it uses, and lower crates first."""

@@ -93,11 +93,7 @@ with_process s session = record s {
 
 -- a new process of a session with its first thread, and with what it inherits of another
 abbrev pub with_child : State → ℕ → ℕ → State
-with_child s parent session = record s {
-  processes = s.processes ++ Some session ∷ [];
-  threads = s.threads ++ Some (length s.processes) ∷ [];
-  tables = tables.with_child s.tables parent;
-}
+with_child s parent session = record (with_process s session) { tables = tables.with_child s.tables parent }
 
 -- a new thread of a process
 abbrev pub with_thread : State → ℕ → State

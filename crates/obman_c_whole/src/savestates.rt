@@ -1,7 +1,7 @@
 //! Savestates.
 ghost use Rattle.std.specs.Prelude.{◌≡◌, IfErr, IfOk};
 ghost use Rattle.pin_words.specs.Seats.{TableState};
-ghost use Rattle.obman_c_savestates.specs.Savestates.{Loads, Saves, loaded_owned};
+ghost use Rattle.obman_c_whole.specs.Savestates.{Loads, Saves, loaded_owned};
 
 use ob_codec::ReadFault;
 use ob_manager::Manager;

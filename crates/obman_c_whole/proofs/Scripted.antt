@@ -2,7 +2,7 @@
 use Rattle.std.proofs.Common.{◌≡◌, ℕ, List}
 use Rattle.obman_c_base.specs.declared.limits.CLimits.{CLimits}
 use Rattle.obman_c_base.specs.Allowed.{AreAllowed}
-use Rattle.obman_c_script.specs.Scripts as scripts
+use Rattle.obman_c_whole.specs.Scripts as scripts
 
 pub outside : {b : CLimits} {script : List ℕ} {status : ℕ} {room room' : List ℕ} {length length' : ℕ}
     → (AreAllowed b → ⊥) → status ≡ 87 → room' ≡ room → length' ≡ length

@@ -1,6 +1,6 @@
 use Rattle.std.proofs.Common.{ℕ, List, ◌++◌, ◌∙◌, ap, subst, inl, inr}
-use Rattle.obman_c_script.specs.Scripts.{HandsOver, answers, lacks}
-use Rattle.obman_c_script.proofs.script.om_script.Goals as goal
+use Rattle.obman_c_whole.specs.Scripts.{HandsOver, answers, lacks}
+use Rattle.obman_c_whole.proofs.script.om_script.Goals as goal
 
 -- what is handed over is what was written to nothing
 pub returns-in-Ok-run_whole : goal.returns-in-Ok-run_whole

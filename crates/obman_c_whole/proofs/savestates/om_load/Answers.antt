@@ -6,9 +6,9 @@ use Rattle.ob_codec.specs.Sealing.{unsealed}
 use Rattle.ob_rights.specs.Fault.{code_of}
 use Rattle.ob_manager.specs.Savestates.{load}
 use Rattle.obman_c_base.specs.declared.owned.OwnedManager.{OwnedManager}
-use Rattle.obman_c_savestates.specs.Savestates.{lacks, loads, wrong}
-use Rattle.obman_c_savestates.proofs.Loading.{known, of_loaded}
-use Rattle.obman_c_savestates.proofs.savestates.om_load.Goals as goal
+use Rattle.obman_c_whole.specs.Savestates.{lacks, loads, wrong}
+use Rattle.obman_c_whole.proofs.Loading.{known, of_loaded}
+use Rattle.obman_c_whole.proofs.savestates.om_load.Goals as goal
 
 -- the manager of the box is at the place
 pub returns-in-Ok-held : goal.returns-in-Ok-held

@@ -1,1 +1,2 @@
 pub mod Savestates
+pub mod Scripts

@@ -1,8 +1,8 @@
 use Rattle.std.proofs.Common.{◌++◌, ◌∙◌, ℕ, List, ap, arith, drop, length, refl, sym}
 use Rattle.ob_manager.specs.Savestates.{saved}
 use Rattle.obman_c_base.specs.declared.owned.OwnedManager.{OwnedManager}
-use Rattle.obman_c_savestates.specs.Savestates.{saves, small}
-use Rattle.obman_c_savestates.proofs.savestates.om_save.Goals as goal
+use Rattle.obman_c_whole.specs.Savestates.{saves, small}
+use Rattle.obman_c_whole.proofs.savestates.om_save.Goals as goal
 
 -- what was saved is the state of the owner's manager
 pub returns-then-len-bytes-clause-saved : goal.returns-then-len-bytes-clause-saved

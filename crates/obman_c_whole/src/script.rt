@@ -1,6 +1,6 @@
 //! A batch of calls, as the program reads and prints them.
 ghost use Rattle.std.specs.Prelude.{◌≡◌, ◌⊎◌};
-ghost use Rattle.obman_c_script.specs.Scripts.{ScriptAnswered, HandsOver};
+ghost use Rattle.obman_c_whole.specs.Scripts.{ScriptAnswered, HandsOver};
 
 use ob_console::run_whole;
 use ob_rights::{Fault, code_of};
