@@ -1,7 +1,7 @@
 -- What is kept as a thread takes what it waits for, and as waits come, are answered and go.
 use Rattle.ob_codec.proofs.AtPlace.{at_place}
 use Rattle.std.proofs.Common.{◌≡◌, ℕ, suc, ◌+◌, ◌<◌, ◌≤◌, List, [], ◌∷◌, ◌++◌, length, Option, Some, None, refl, ap, ◌∙◌, sym, subst, arith, get_or, set, Bool, true, false, inl, inr}
-use Rattle.std.specs.Prelude.{count_by}
+use Rattle.std.specs.Prelude.{count_by, if◌then◌else◌}
 use Rattle.std.specs.Option.{IfNone, OnSome}
 use Rattle.std.proofs.lemmas.List.{length-set, get_or_past, get_or-set_same, get_or-set_other}
 use Rattle.std.proofs.lemmas.Bool.{cases_lt}
@@ -12,11 +12,13 @@ use Rattle.ob_tables.specs.Counts.{handles_among}
 use Rattle.ob_tables.proofs.Counting.{one_id}
 use Rattle.ob_waits.specs.declared.wait.Mode.{Mode}
 use Rattle.ob_waits.specs.declared.wait.Wait.{Wait}
+use Rattle.ob_waits.specs.declared.wait.WaitState.{WaitState}
+use Rattle.ob_waits.specs.declared.wait.WaitState.TheVariants as shown
 use Rattle.ob_waits.specs.Form.{HasWait}
 use Rattle.ob_waits.specs.CountedBodies.{CountedBodies, without_blocks}
 use Rattle.ob_waits.specs.Rules.{HasRoom, IsSettled, thread_of}
 use Rattle.ob_waits.specs.Rules as rules
-use Rattle.ob_waits.specs.Waits.{nowhere, WaitList, answered, bodies_after, code_at, code_now, ids_of, list_ready, new_wait, number_of, objects_now, slot_blocks, slot_places}
+use Rattle.ob_waits.specs.Waits.{nowhere, WaitList, answered, bodies_after, code_now, ids_of, is_answer, list_ready, new_wait, number_of, objects_now, slot_blocks, slot_places, state_at}
 use Rattle.ob_waits.specs.Waits as waits
 use Rattle.ob_waits.proofs.Counted.{blocks_added, blocks_answered, blocks_removed, slot_added, slot_answered, slot_removed, slot_blocks-few}
 use Rattle.ob_waits.proofs.Ends.{sizes_left}
@@ -30,12 +32,12 @@ use Rattle.ob_store.specs.Objects.{Object, ObjectsState, KeptRest, kept_rest, wi
 use Rattle.ob_store.specs.Parts.{PartsState, state_of, whole_of}
 use Rattle.ob_store.specs.State.{settled}
 use Rattle.ob_store.specs.UnderWay.{AreLeft, IsUnderWay}
-use Rattle.ob_store.specs.Waiting.{with_answer, with_taken, with_wait}
+use Rattle.ob_store.specs.Waiting.{with_answer, with_taken, with_wait, without_wait}
 use Rattle.ob_store.proofs.BodyLaws.{formed_by}
 use Rattle.ob_store.proofs.BySlot.{recounted, count_few}
 use Rattle.ob_store.proofs.CameLaws.{came_counts, came_long, came_stays}
 use Rattle.ob_store.proofs.CountedLaws.{blocks_at, blocks_long}
-use Rattle.ob_store.proofs.KeptLaws.{settled_kept, sound_rested, state_rested}
+use Rattle.ob_store.proofs.KeptLaws.{settled_kept, sound_rested, state_rested, whole_kept}
 use Rattle.ob_store.proofs.NamedLaws.{named_fewer}
 use Rattle.ob_store.proofs.LeftLaws.{left_blocks}
 
@@ -256,11 +258,11 @@ module _ (p : PartsState) (q : ObjectsState) (n code : ℕ) (ids : List Id)
       (search (arith, fewer)) kept.settled)
 
 -- a wait that was answered is over
-abbrev pub over : PartsState → ℕ → PartsState
+abbrev over : PartsState → ℕ → PartsState
 over p n = record p { waits = waits.without_wait p.waits n }
 
-pub kept_over : (p : PartsState) (n code : ℕ) → StoreInvariant p → code_at (get_or p.waits.waits n None) ≡ Some code
-    → StoreInvariant (over p n)
+kept_over : (p : PartsState) (n code : ℕ) → StoreInvariant p
+    → Some (shown.Answered code) ≡ state_at (get_or p.waits.waits n None) → StoreInvariant (over p n)
 kept_over p n code kept is =
     let gone = waits.without_wait p.waits n in
     record {
@@ -289,3 +291,20 @@ kept_over p n code kept is =
       populated = kept.populated;
       settled = settled_removed p.objects.seen.bodies p.waits.waits n kept.settled;
     }
+
+-- where a wait stands is told, and it is over where it is answered
+abbrev pub told : PartsState → ℕ → Option WaitState → PartsState
+told p n state = record p { waits = if is_answer state then waits.without_wait p.waits n else p.waits }
+
+pub kept_told : (p : PartsState) (n : ℕ) (state : Option WaitState) → StoreInvariant p
+    → state ≡ state_at (get_or p.waits.waits n None) → StoreInvariant (told p n state)
+kept_told p n None kept is = kept
+kept_told p n (Some shown.Pending) kept is = kept
+kept_told p n (Some (shown.Answered code)) kept is = kept_over p n code kept is
+
+pub whole_told : (p : PartsState) (n : ℕ) (state : Option WaitState) → StoreInvariant p → ObjectsInvariant p.objects
+    → state ≡ state_at (get_or p.waits.waits n None) → whole_of (told p n state)
+    ≡ (if is_answer state then record (whole_of p) { state = settled (without_wait (state_of p) n) } else whole_of p)
+whole_told p n None kept tied is = refl
+whole_told p n (Some shown.Pending) kept tied is = refl
+whole_told p n (Some (shown.Answered code)) kept tied is = whole_kept (over p n) (kept_over p n code kept is) tied

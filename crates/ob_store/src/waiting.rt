@@ -1,10 +1,10 @@
 ghost use Rattle.std.specs.Prelude.{ℕ, ◌≡◌, ◌<◌, ◌↔◌, true, false, Err, IfErr, IfOk, IsSome, None, OnErr, OnOk, Some};
-ghost use Rattle.std.specs.Prelude.{length, slice_index_or};
+ghost use Rattle.std.specs.Prelude.{if◌then◌else◌, length, slice_index_or};
 ghost use Rattle.std.specs.Option.{IfNone, OnSome};
 ghost use Rattle.ob_rights.specs.declared.fault.Fault.TheVariants.{Limit, Memory};
 ghost use Rattle.ob_waits.specs.Form.{IsAfter};
 ghost use Rattle.ob_waits.specs.Rules.{HasRoom, IsWaitable};
-ghost use Rattle.ob_waits.specs.Waits.{code_at, code_now, is_pending, list_ready, nowhere, number_of, state_at};
+ghost use Rattle.ob_waits.specs.Waits.{code_now, is_answer, is_pending, list_ready, nowhere, number_of, state_at};
 ghost use Rattle.ob_store.specs.State.{handles_of, settled};
 ghost use Rattle.ob_store.specs.Waiting.{are_waits_given, with_answer, with_taken, with_wait, without_wait};
 ghost use Rattle.ob_store.specs.Moves.{OnlyCloses};
@@ -95,11 +95,12 @@ impl<K: PinKeeper> Store<K> {
         self.parts.waits.expire(wait);
     }
 
-    /// Takes the code of an answered wait. The wait is then over, and its thread may wait again.
-    pub fn take_result(&mut self, wait: u32) -> u32
-        requires { IsSome (code_at (slice_index_or self.old.state.waits wait None)) }
-        ensures code { code_at (slice_index_or self.old.state.waits wait None) ≡ Some result }
-        ensures over { self.new ≡ record self.old { state = settled (without_wait self.old.state wait) } }
+    /// Where the wait of a number stands: none where no wait has it. One that is answered is then over, and its thread
+    /// may wait again.
+    pub fn take_result(&mut self, wait: u32) -> Option<WaitState>
+        ensures state { result ≡ state_at (slice_index_or self.old.state.waits wait None) }
+        ensures over { self.new ≡ (if is_answer result
+            then record self.old { state = settled (without_wait self.old.state wait) } else self.old) }
     {
         self.parts.objects.kept();
         self.parts.waits.take_result(wait)

@@ -11,10 +11,8 @@ use Rattle.pin_core.specs.Holds.{same_id}
 use Rattle.pin_core.specs.declared.id.Id.{Id}
 use Rattle.ob_waits.specs.declared.wait.Mode.{Mode}
 use Rattle.ob_waits.specs.declared.wait.Wait.{Wait}
-use Rattle.ob_waits.specs.declared.wait.State.{State}
-use Rattle.ob_waits.specs.declared.wait.State.TheVariants.{Pending, Answered}
 use Rattle.ob_waits.specs.Rules.{thread_of, WaitsInvariant}
-use Rattle.ob_waits.specs.Waits.{nowhere, new_wait, answered, ids_of, state_ids, names_slot, slot_places, slot_blocks, blocks_in, blocks_among, code_at, state_code, Scene, is_ready, effect, settled, answered_wait, number_of, numbered_ids, thread_ids, is_waits_of, unless_of}
+use Rattle.ob_waits.specs.Waits.{nowhere, new_wait, answered, ids_of, names_slot, slot_places, slot_blocks, blocks_in, blocks_among, Scene, is_ready, effect, settled, answered_wait, number_of, numbered_ids, thread_ids, is_waits_of, unless_of}
 use Rattle.ob_waits.proofs.BlockLaws.{sum_cleared}
 use Rattle.ob_waits.proofs.Settling.{answers, settled_by_effects}
 use Rattle.ob_waits.proofs.TrackedLaws.{thread_waits, waits_thread, no_number}
@@ -46,15 +44,6 @@ slot_removed k ws n = search (arith, sum_cleared)
 pub blocks_removed : (id : Id) (ws : List (Option Wait)) (n : ℕ)
     → blocks_among id (set ws n None) + blocks_in id (get_or ws n None) ≡ blocks_among id ws
 blocks_removed id ws n = search (arith, sum_cleared)
-
-code_ids : (st : State) (code : ℕ) → state_code st ≡ Some code → state_ids st ≡ []
-code_ids (Pending mode ids) code h = absurd (cc)
-code_ids (Answered x) code h = refl
-
--- an answered wait is for nothing
-pub answered_ids : (w : Option Wait) (code : ℕ) → code_at w ≡ Some code → ids_of w ≡ []
-answered_ids None code h = absurd (cc)
-answered_ids (Some w) code h = code_ids w.state code h
 
 -- the wait of a thread goes, and it is the only one
 unless_other : (t : ℕ) (w : Option Wait) → is_waits_of t w ≡ false → unless_of t w ≡ w

@@ -257,3 +257,9 @@ state_shown (Answered code) = shown.Answered code
 abbrev pub state_at : Option Wait → Option WaitState
 state_at None = None
 state_at (Some wait) = Some (state_shown wait.state)
+
+-- whether that is an answer
+abbrev pub is_answer : Option WaitState → Bool
+is_answer None = false
+is_answer (Some shown.Pending) = false
+is_answer (Some (shown.Answered code)) = true

@@ -192,6 +192,7 @@ impl NumberMap {
     }
 
     /// Takes a number away.
+    #[inline(always)]
     pub(crate) fn remove(&mut self, number: u32)
         requires { IsNumberMap self.old }
         ensures number_map { IsNumberMap self.new }

@@ -162,6 +162,7 @@ impl Numbered {
     }
 
     /// Takes a thread's wait away, of this number.
+    #[inline(always)]
     pub(crate) fn remove(&mut self, thread: u32, number: u32)
         requires { thread_of (slice_index_or self.old number None) ≡ Some thread }
         ensures { self.new ≡ slice_set self.old number None }

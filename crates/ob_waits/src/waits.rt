@@ -1,9 +1,9 @@
 ghost use Rattle.std.specs.Prelude.{[], ◌∷◌, ◌++◌, ◌≡◌, false, Err, IfNone, ◌+◌, ◌<◌, ◌≤◌, ◌↔◌, ℕ, true, None};
-ghost use Rattle.std.specs.Prelude.{Some, length, map, slice_index_or, OnOk, OnErr, IfOk, IfErr, IfSome, IsSome};
-ghost use Rattle.std.specs.Prelude.{is_some};
+ghost use Rattle.std.specs.Prelude.{Some, length, map, slice_index_or, OnOk, OnErr, IfOk, IfErr, IfSome};
+ghost use Rattle.std.specs.Prelude.{if◌then◌else◌, is_some};
 ghost use Rattle.std.specs.Option.{option_map};
 ghost use Rattle.ob_waits.specs.Waits.{settled, blocks_among, number_of, with_wait, with_answer};
-ghost use Rattle.ob_waits.specs.Waits.{without_wait, without_thread, is_pending, code_at, state_at, ids_of, is_full};
+ghost use Rattle.ob_waits.specs.Waits.{without_wait, without_thread, is_answer, is_pending, state_at, ids_of, is_full};
 ghost use Rattle.ob_codec.specs.Reading.{Gives};
 ghost use Rattle.ob_waits.specs.Spelling.{WaitsFit, are_within, can_be, waits_at, waits_text};
 ghost use Rattle.ob_waits.specs.Waits.{is_code, new_wait, skipped, with_answered};
@@ -437,25 +437,20 @@ impl Waits {
         self.live.remove(thread, number);
     }
 
-    /// Takes the code of an answered wait. The wait is then over, and its thread may wait again.
-    pub fn take_result(&mut self, wait: u32) -> u32
-        requires { IsSome (code_at (slice_index_or self.old.waits wait None)) }
-        ensures code { code_at (slice_index_or self.old.waits wait None) ≡ Some result }
-        ensures over { self.new ≡ without_wait self.old wait }
+    /// Where the wait of a number stands. One that is answered is then over, and its thread may wait again.
+    pub fn take_result(&mut self, wait: u32) -> Option<WaitState>
+        ensures state { result ≡ state_at (slice_index_or self.old.waits wait None) }
+        ensures over { self.new ≡ (if is_answer result then without_wait self.old wait else self.old) }
     {
-        let Some(
-            Wait {
-                thread,
-                deadline: _,
-                state: State::Answered(code),
-            },
-        ) = self.live.get(wait)
-        else {
-            unreachable!()
+        let Some(Wait { thread, state, .. }) = self.live.get(wait) else {
+            return None;
+        };
+        let State::Answered(code) = state else {
+            return Some(WaitState::Pending);
         };
         let (thread, code) = (*thread, *code);
         self.live.remove(thread, wait);
         self.pending_index.forget(wait);
-        code
+        Some(WaitState::Answered(code))
     }
 }

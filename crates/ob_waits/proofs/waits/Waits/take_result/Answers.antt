@@ -9,7 +9,7 @@ use Rattle.ob_waits.proofs.waits.Waits.take_result.Goals as goal
 pub invariant_of-self : goal.invariant_of-self
 invariant_of-self c =
     let s = c.self.inside in
-    let own : thread_of (get_or s.live c.args.wait None) ≡ Some c.in-Some-Answered.field-0.now.thread =
+    let own : thread_of (get_or s.live c.args.wait None) ≡ Some c.in-Some.field-0.now.thread =
     search arith in
     let over : is_pending (get_or c.remove.new.self c.args.wait None) ≡ false =
     search (arith, set_none) in (
