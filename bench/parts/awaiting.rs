@@ -1,47 +1,44 @@
 //! A thread waits for a list of handles.
 
 use super::answers::{Fault, Mode, Reply, SYNCHRONIZE, Timeout, WAIT_TIMEOUT, within};
-use super::id::Id;
 use super::manager::Manager;
-use super::waiting::try_now;
 
 const MAXIMUM_WAIT_OBJECTS: usize = 64;
 
-const NOWHERE: Id = Id { slot: 0, generation: 0 };
+/// Whether a number stands twice in a list, of which most rise.
+fn has_twice(numbers: &[u32]) -> bool {
+    let rises = numbers.windows(2).fold(true, |rises, pair| rises & (pair[0] < pair[1]));
+    !rises && stands_twice(numbers)
+}
 
-/// Whether a number stands twice in a list that doesn't rise.
 #[cold]
-fn stands_twice(mut numbers: Vec<u32>) -> bool {
-    numbers.sort_unstable();
-    numbers.windows(2).any(|pair| pair[0] == pair[1])
-}
-
-fn has_handle_twice(handles: &[u32]) -> bool {
-    let do_rise = handles.windows(2).all(|pair| pair[0] / 4 < pair[1] / 4);
-    !do_rise && stands_twice(handles.iter().map(|handle| handle / 4).collect())
-}
-
-fn has_object_twice(ids: &[Id]) -> bool {
-    let do_rise = ids.windows(2).all(|pair| pair[0].slot < pair[1].slot);
-    !do_rise && stands_twice(ids.iter().map(|id| id.slot).collect())
-}
-
-fn is_misshapen(handles: &[u32]) -> bool {
-    handles.is_empty() || handles.len() > MAXIMUM_WAIT_OBJECTS || has_handle_twice(handles)
+fn stands_twice(numbers: &[u32]) -> bool {
+    let mut sorted = [0; MAXIMUM_WAIT_OBJECTS];
+    let sorted = &mut sorted[..numbers.len()];
+    sorted.copy_from_slice(numbers);
+    sorted.sort_unstable();
+    sorted.windows(2).any(|pair| pair[0] == pair[1])
 }
 
 impl Manager {
     #[inline(always)]
     pub(crate) fn waited(&mut self, thread: u32, mode: Mode, timeout: Timeout, handles: &[u32]) -> Result<Reply, Fault> {
         let process = self.caller(thread)?;
-        if let [handle] = handles {
-            let entry = self.found(process, *handle)?;
-            if !within(SYNCHRONIZE, entry.rights) {
-                return Err(Fault::Access);
-            }
-            return self.wait_on(thread, mode, timeout, &[entry.id]);
+        let [handle] = handles else {
+            return self.waited_for_some(process, thread, mode, timeout, handles);
+        };
+        let entry = self.found(process, *handle)?;
+        if !within(SYNCHRONIZE, entry.rights) {
+            return Err(Fault::Access);
         }
-        self.waited_for_some(process, thread, mode, timeout, handles)
+        let slot = entry.id.slot;
+        if !self.objects.has_room(thread, slot, self.limits.max_recursion) {
+            return Err(Fault::Limit);
+        }
+        if self.objects.is_signaled(thread, slot) {
+            return Ok(Reply::Code { code: self.objects.acquire(thread, slot) });
+        }
+        self.wait_on(thread, mode, timeout, &[slot])
     }
 
     #[inline(never)]
@@ -53,63 +50,65 @@ impl Manager {
         timeout: Timeout,
         handles: &[u32],
     ) -> Result<Reply, Fault> {
-        if is_misshapen(handles) {
+        if handles.is_empty() || handles.len() > MAXIMUM_WAIT_OBJECTS {
             return Err(Fault::Parameter);
         }
-        let mut ids = [NOWHERE; MAXIMUM_WAIT_OBJECTS];
-        let mut lacks = false;
-        let table = &self.processes[process as usize].as_ref().ok_or(Fault::Parameter)?.table;
-        for (id, handle) in ids.iter_mut().zip(handles) {
-            let entry = table.entry(*handle).ok_or(Fault::Handle)?;
-            *id = entry.id;
-            lacks |= !within(SYNCHRONIZE, entry.rights);
+        let mut numbers = [0; MAXIMUM_WAIT_OBJECTS];
+        let numbers = &mut numbers[..handles.len()];
+        numbers.iter_mut().zip(handles).for_each(|(number, handle)| *number = handle / 4);
+        if has_twice(numbers) {
+            return Err(Fault::Parameter);
         }
-        if lacks {
+        let table = &self.process(process)?.table;
+        let mut rights = SYNCHRONIZE;
+        for (number, handle) in numbers.iter_mut().zip(handles) {
+            let entry = table.entry(*handle).ok_or(Fault::Handle)?;
+            *number = entry.id.slot;
+            rights &= entry.rights;
+        }
+        if rights == 0 {
             return Err(Fault::Access);
         }
-        self.wait_on(thread, mode, timeout, &ids[..handles.len()])
-    }
-
-    #[inline(always)]
-    fn wait_on(&mut self, thread: u32, mode: Mode, timeout: Timeout, ids: &[Id]) -> Result<Reply, Fault> {
-        if mode == Mode::All && has_object_twice(ids) {
+        let slots = &*numbers;
+        if mode == Mode::All && has_twice(slots) {
             return Err(Fault::Parameter);
         }
-        let limit = self.limits.max_recursion;
-        if !ids.iter().all(|id| self.objects.body(id.slot).is_none_or(|body| body.has_room(thread, limit))) {
+        let (mut has_room, mut signaled, mut first) = (true, 0, None);
+        for (index, slot) in slots.iter().enumerate() {
+            has_room &= self.objects.has_room(thread, *slot, self.limits.max_recursion);
+            if self.objects.is_signaled(thread, *slot) {
+                signaled += 1;
+                first = first.or(Some(index));
+            }
+        }
+        if !has_room {
             return Err(Fault::Limit);
         }
-        if let Some(code) = try_now(&mut self.objects, thread, mode, ids) {
-            return Ok(Reply::Code { code });
+        match (mode, first) {
+            (Mode::Any, Some(index)) => Ok(Reply::Code { code: index as u32 + self.objects.acquire(thread, slots[index]) }),
+            (Mode::All, _) if signaled == slots.len() => {
+                Ok(Reply::Code { code: self.objects.acquire_all(thread, slots.iter().copied()) })
+            }
+            _ => self.wait_on(thread, mode, timeout, slots),
         }
+    }
+
+    /// A wait that isn't ready.
+    #[inline(always)]
+    fn wait_on(&mut self, thread: u32, mode: Mode, timeout: Timeout, slots: &[u32]) -> Result<Reply, Fault> {
         if timeout == Timeout::Zero {
             return Ok(Reply::Code { code: WAIT_TIMEOUT });
         }
-        let wait = self.waits.add(&mut self.objects, thread, mode, ids)?;
-        if let Some(thread) = &mut self.threads[thread as usize] {
-            thread.wait = Some(wait);
-        }
+        let wait = self.waits.add(&mut self.objects, thread, mode, slots)?;
         Ok(Reply::Pending { wait })
     }
 
-    /// The thread of a wait that is answered, and the code; the wait is over then.
-    fn take(&mut self, wait: u32) -> Result<Option<(u32, u32)>, Fault> {
-        let taken = self.waits.take_result(wait)?;
-        if let Some((thread, _)) = taken {
-            if let Some(thread) = &mut self.threads[thread as usize] {
-                thread.wait = None;
-            }
-        }
-        Ok(taken)
-    }
-
     pub(crate) fn result(&mut self, wait: u32) -> Result<Reply, Fault> {
-        Ok(self.take(wait)?.map_or(Reply::Pending { wait }, |(_, code)| Reply::Code { code }))
+        Ok(self.waits.take_result(wait)?.map_or(Reply::Pending { wait }, |code| Reply::Code { code }))
     }
 
     /// The least wait that is answered: its thread and the code. It is over then.
     pub fn take_answered(&mut self) -> Option<(u32, u32)> {
-        let wait = self.waits.next_answered()?;
-        self.take(wait).ok()?
+        self.waits.take_answered()
     }
 }

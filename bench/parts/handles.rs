@@ -1,11 +1,10 @@
 //! Handles are duplicated and closed, and what they name is set, reset, released and counted.
 
-use super::answers::{Fault, MODIFY_STATE, Reclaim, Reply, within};
-use super::body::Body;
+use super::answers::{Fault, Kind, MODIFY_STATE, Reclaim, Reply, within};
 use super::creating::flags_of;
 use super::id::Id;
 use super::manager::Manager;
-use super::objects::Phase;
+use super::objects::{Object, Phase};
 use super::table::{Entry, Free};
 
 const CLOSE_SOURCE: u32 = 1;
@@ -77,15 +76,14 @@ impl Manager {
     pub(crate) fn changed(&mut self, thread: u32, handle: u32, is_set: bool) -> Result<Reply, Fault> {
         let process = self.caller(thread)?;
         let entry = self.found(process, handle)?;
-        let object = self.objects.object(entry.id.slot).ok_or(Fault::Handle)?;
-        let Some(Body::Event { set, .. }) = &mut object.body else {
+        let Some(Object { kind: Kind::Event, body, blocks, .. }) = self.objects.object(entry.id.slot) else {
             return Err(Fault::Handle);
         };
         if !within(MODIFY_STATE, entry.rights) {
             return Err(Fault::Access);
         }
-        *set = is_set;
-        if is_set && object.blocks > 0 {
+        body.signals = u32::from(is_set);
+        if is_set && *blocks > 0 {
             self.waits.settle_after(&mut self.objects, entry.id.slot);
         }
         Ok(Reply::Done)
@@ -97,22 +95,21 @@ impl Manager {
             return Err(Fault::Parameter);
         }
         let entry = self.found(process, handle)?;
-        let object = self.objects.object(entry.id.slot).ok_or(Fault::Handle)?;
-        let Some(Body::Semaphore { count, maximum }) = &mut object.body else {
+        let Some(Object { kind: Kind::Semaphore, max, body, blocks, .. }) = self.objects.object(entry.id.slot) else {
             return Err(Fault::Handle);
         };
         if !within(MODIFY_STATE, entry.rights) {
             return Err(Fault::Access);
         }
-        let before = *count;
-        if *maximum - before < more as u32 {
+        let count = body.signals;
+        if *max - count < more as u32 {
             return Err(Fault::TooManyPosts);
         }
-        *count += more as u32;
-        if object.blocks > 0 {
+        body.signals += more as u32;
+        if *blocks > 0 {
             self.waits.settle_after(&mut self.objects, entry.id.slot);
         }
-        Ok(Reply::Previous { count: before })
+        Ok(Reply::Previous { count })
     }
 
     pub(crate) fn unlocked(&mut self, thread: u32, handle: u32) -> Result<Reply, Fault> {
@@ -129,8 +126,7 @@ impl Manager {
             return Err(Fault::Parameter);
         }
         let place = &mut self.objects.slots[slot as usize];
-        let object = place.object.as_ref().ok_or(Fault::Handle)?;
-        if object.body.is_some() || place.phase != Phase::Closing {
+        if place.phase != Phase::Closing {
             return Err(Fault::Handle);
         }
         let id = Id { slot, generation: place.generation };
@@ -157,6 +153,6 @@ impl Manager {
             return Err(Fault::Handle);
         }
         let hold = u32::from(object.handles == 0 && object.blocks == 0);
-        Ok(Reply::CountsAre { handles: object.handles, waits: object.blocks, hold })
+        Ok(Reply::CountsAre { handles: object.handles, waits: u64::from(object.blocks), hold })
     }
 }

@@ -7,12 +7,7 @@ use super::directory::Directory;
 use super::id::Id;
 use super::objects::{Object, Objects};
 use super::table::{Entry, Free, Table};
-use super::waiting::Waits;
-
-pub struct Thread {
-    pub process: u32,
-    pub wait: Option<u32>,
-}
+use super::waiting::{Thread, Waits};
 
 pub struct Process {
     pub session: u32,
@@ -25,7 +20,6 @@ pub struct Process {
 pub struct Manager {
     pub(crate) limits: Limits,
     pub(crate) processes: Vec<Option<Process>>,
-    pub(crate) threads: Vec<Option<Thread>>,
     pub(crate) objects: Objects,
     pub(crate) vacant: Bits,
     pub(crate) births: u64,
@@ -42,13 +36,12 @@ impl Manager {
         Manager {
             limits,
             processes: vec![None],
-            threads: vec![None],
             objects: Objects::new(limits.slots),
             vacant,
             births: 0,
             held: Vec::new(),
             names: Directory::new(),
-            waits: Waits::new(limits.waits),
+            waits: Waits::new(limits.waits, limits.threads),
         }
     }
 
@@ -151,9 +144,13 @@ impl Manager {
         Ok(process.table.entry(handle).ok_or(Fault::Handle)?.id)
     }
 
+    pub(crate) fn thread_at(&self, thread: u32) -> Result<&Thread, Fault> {
+        self.waits.threads.get(thread as usize).filter(|thread| thread.process != 0).ok_or(Fault::Parameter)
+    }
+
     pub(crate) fn caller(&self, thread: u32) -> Result<u32, Fault> {
-        let thread = self.threads.get(thread as usize).and_then(Option::as_ref).ok_or(Fault::Parameter)?;
-        if thread.wait.is_some() {
+        let thread = self.thread_at(thread)?;
+        if thread.waits() {
             return Err(Fault::Busy);
         }
         Ok(thread.process)

@@ -4,7 +4,6 @@
 
 use super::answers::{Fault, Kind};
 use super::body::Body;
-use super::id::Id;
 use std::sync::atomic::{AtomicU64, Ordering::SeqCst};
 
 pub struct Object {
@@ -14,8 +13,10 @@ pub struct Object {
     pub max: u32,
     pub grant: u32,
     pub handles: u32,
-    pub blocks: u64,
-    pub body: Option<Body>,
+    /// How many blocks of waits there are for it, and the place of the first one.
+    pub blocks: u32,
+    pub first: u32,
+    pub body: Body,
     pub is_named: bool,
     /// The hash of its name, if it has one.
     pub hash: u64,
@@ -43,6 +44,9 @@ const LIVE: u64 = 1 << 30;
 const CLOSING: u64 = 3 << 30;
 
 const PINS: u64 = LIVE - 1;
+
+/// What an abandoned mutex adds to the code of a wait.
+const ABANDONED: u32 = 128;
 
 pub struct Objects {
     pub slots: Vec<Slot>,
@@ -107,31 +111,49 @@ impl Objects {
         self.slots.get_mut(slot as usize)?.object.as_mut()
     }
 
-    pub fn body(&self, slot: u32) -> Option<&Body> {
-        self.look(slot)?.body.as_ref()
-    }
-
     /// Whether some thread that waits could take it.
     pub fn is_free(&self, slot: u32) -> bool {
-        self.body(slot).is_some_and(Body::is_free)
+        self.look(slot).is_some_and(|object| object.body.signals > 0)
     }
 
     pub fn is_signaled(&self, thread: u32, slot: u32) -> bool {
-        self.body(slot).is_some_and(|body| body.signaled_for(thread))
+        self.look(slot).is_some_and(|object| object.body.signaled_for(thread))
     }
 
-    /// Whether it was abandoned.
-    pub fn acquire(&mut self, thread: u32, slot: u32) -> bool {
-        let Some(Object { body: Some(body), .. }) = self.object(slot) else {
-            return false;
+    /// Whether a thread may own it once more, if it is a mutex.
+    pub fn has_room(&self, thread: u32, slot: u32, limit: u32) -> bool {
+        self.look(slot).is_none_or(|object| object.body.has_room(thread, limit))
+    }
+
+    /// What it adds to the code.
+    pub fn acquire(&mut self, thread: u32, slot: u32) -> u32 {
+        let Some(object) = self.object(slot) else {
+            return 0;
         };
-        let was_abandoned = body.is_abandoned();
-        let is_new = matches!(body, Body::Mutex(mutex) if mutex.owner.is_none());
-        body.acquire(thread);
-        if is_new {
+        let body = &mut object.body;
+        match object.kind {
+            Kind::Event => body.signals &= u32::from(object.manual),
+            Kind::Semaphore => body.signals -= 1,
+            Kind::Mutex => return self.own(thread, slot),
+        }
+        0
+    }
+
+    fn own(&mut self, thread: u32, slot: u32) -> u32 {
+        let Some(Object { body, .. }) = self.object(slot) else {
+            return 0;
+        };
+        let Body { owner, recursion, abandoned, .. } = *body;
+        *body = Body { signals: 0, owner: thread, recursion: recursion + 1, abandoned: false };
+        if owner == 0 {
             self.owned[thread as usize].push(slot);
         }
-        was_abandoned
+        if abandoned { ABANDONED } else { 0 }
+    }
+
+    /// The code of a wait for all.
+    pub fn acquire_all(&mut self, thread: u32, slots: impl Iterator<Item = u32>) -> u32 {
+        slots.fold(0, |code, slot| code | self.acquire(thread, slot))
     }
 
     fn disown(&mut self, thread: u32, slot: u32) {
@@ -143,17 +165,17 @@ impl Objects {
 
     /// A mutex is owned once less. Whether nobody owns it now.
     pub fn unlock(&mut self, thread: u32, slot: u32) -> Result<bool, Fault> {
-        let Some(Object { body: Some(Body::Mutex(mutex)), .. }) = self.object(slot) else {
+        let Some(Object { kind: Kind::Mutex, body, .. }) = self.object(slot) else {
             return Err(Fault::Handle);
         };
-        if mutex.owner != Some(thread) {
+        if body.owner != thread {
             return Err(Fault::NotOwner);
         }
-        mutex.recursion -= 1;
-        if mutex.recursion > 0 {
+        body.recursion -= 1;
+        if body.recursion > 0 {
             return Ok(false);
         }
-        mutex.owner = None;
+        (body.signals, body.owner) = (1, 0);
         self.disown(thread, slot);
         Ok(true)
     }
@@ -162,10 +184,8 @@ impl Objects {
     pub fn abandon(&mut self, thread: u32) -> Vec<u32> {
         let slots = std::mem::take(&mut self.owned[thread as usize]);
         for slot in &slots {
-            if let Some(Object { body: Some(Body::Mutex(mutex)), .. }) = self.object(*slot) {
-                mutex.owner = None;
-                mutex.recursion = 0;
-                mutex.abandoned = true;
+            if let Some(object) = self.object(*slot) {
+                object.body = Body::of_mutex(None, 0, true);
             }
         }
         slots
@@ -176,11 +196,9 @@ impl Objects {
         self.words[slot as usize].fetch_or(CLOSING, SeqCst);
         let place = &mut self.slots[slot as usize];
         place.phase = Phase::Closing;
-        let body = place.object.as_mut().and_then(|object| object.body.take());
-        if let Some(Body::Mutex(mutex)) = body {
-            if let Some(owner) = mutex.owner {
-                self.disown(owner, slot);
-            }
+        let body = place.object.as_mut().map(|object| std::mem::take(&mut object.body));
+        if let Some(Body { owner: owner @ 1.., .. }) = body {
+            self.disown(owner, slot);
         }
     }
 
@@ -199,21 +217,47 @@ impl Objects {
         hash
     }
 
-    pub fn blocks_came(&mut self, ids: &[Id]) {
-        for id in ids {
-            if let Some(object) = self.object(id.slot) {
-                object.blocks += 1;
-            }
-        }
+    pub fn blocks(&self, slot: u32) -> u32 {
+        self.look(slot).map_or(0, |object| object.blocks)
     }
 
-    pub fn block_left(&mut self, slot: u32) {
+    pub fn first(&self, slot: u32) -> u32 {
+        self.look(slot).map_or(0, |object| object.first)
+    }
+
+    /// Whether it is the only one.
+    pub fn block_came(&mut self, slot: u32, place: u32) -> bool {
         let Some(object) = self.object(slot) else {
-            return;
+            return true;
+        };
+        object.blocks += 1;
+        if object.blocks == 1 {
+            object.first = place;
+        }
+        object.blocks == 1
+    }
+
+    /// Whether it was the last one.
+    pub fn block_left(&mut self, slot: u32) -> bool {
+        let Some(object) = self.object(slot) else {
+            return true;
         };
         object.blocks -= 1;
-        if object.blocks == 0 && object.handles == 0 {
+        if object.blocks > 0 {
+            return false;
+        }
+        if object.handles == 0 {
             self.end(slot);
+        }
+        true
+    }
+
+    /// Where this block is the first one, another is from now on.
+    pub fn first_left(&mut self, slot: u32, place: u32, behind: u32) {
+        if let Some(object) = self.object(slot) {
+            if object.first == place {
+                object.first = behind;
+            }
         }
     }
 }
