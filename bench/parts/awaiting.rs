@@ -5,92 +5,89 @@ use super::manager::Manager;
 
 const MAXIMUM_WAIT_OBJECTS: usize = 64;
 
-/// Whether a number stands twice in a list, of which most rise.
-fn has_twice(numbers: &[u32]) -> bool {
-    let rises = numbers.windows(2).fold(true, |rises, pair| rises & (pair[0] < pair[1]));
-    !rises && stands_twice(numbers)
+/// Whether a list, in which numbers mostly rise, has one twice but for these bits.
+fn has_twice(numbers: &[u32], but: u32) -> bool {
+    let rises = numbers.windows(2).fold(true, |rises, pair| rises & (pair[0] | but < pair[1]));
+    !rises && stands_twice(numbers, but)
 }
 
 #[cold]
-fn stands_twice(numbers: &[u32]) -> bool {
+fn stands_twice(numbers: &[u32], but: u32) -> bool {
     let mut sorted = [0; MAXIMUM_WAIT_OBJECTS];
     let sorted = &mut sorted[..numbers.len()];
     sorted.copy_from_slice(numbers);
     sorted.sort_unstable();
-    sorted.windows(2).any(|pair| pair[0] == pair[1])
+    sorted.windows(2).any(|pair| pair[0] | but >= pair[1])
 }
 
 impl Manager {
     #[inline(always)]
-    pub(crate) fn waited(&mut self, thread: u32, mode: Mode, timeout: Timeout, handles: &[u32]) -> Result<Reply, Fault> {
+    pub(crate) fn waited_for_one(
+        &mut self,
+        thread: u32,
+        mode: Mode,
+        timeout: Timeout,
+        handle: u32,
+    ) -> Result<Reply, Fault> {
         let process = self.caller(thread)?;
-        let [handle] = handles else {
-            return self.waited_for_some(process, thread, mode, timeout, handles);
-        };
-        let entry = self.found(process, *handle)?;
+        let entry = self.found(process, handle)?;
         if !within(SYNCHRONIZE, entry.rights) {
             return Err(Fault::Access);
         }
         let slot = entry.id.slot;
-        if !self.objects.has_room(thread, slot, self.limits.max_recursion) {
-            return Err(Fault::Limit);
-        }
-        if self.objects.is_signaled(thread, slot) {
+        let body = &self.objects.look(slot).body;
+        if body.signaled_for(thread) {
+            if !body.has_room(thread, self.limits.max_recursion) {
+                return Err(Fault::Limit);
+            }
             return Ok(Reply::Code { code: self.objects.acquire(thread, slot) });
         }
         self.wait_on(thread, mode, timeout, &[slot])
     }
 
-    #[inline(never)]
-    fn waited_for_some(
+    #[inline(always)]
+    pub(crate) fn waited_for_some(
         &mut self,
-        process: u32,
         thread: u32,
         mode: Mode,
         timeout: Timeout,
         handles: &[u32],
     ) -> Result<Reply, Fault> {
-        if handles.is_empty() || handles.len() > MAXIMUM_WAIT_OBJECTS {
+        let process = self.caller(thread)?;
+        if handles.is_empty() || handles.len() > MAXIMUM_WAIT_OBJECTS || has_twice(handles, 3) {
             return Err(Fault::Parameter);
         }
-        let mut numbers = [0; MAXIMUM_WAIT_OBJECTS];
-        let numbers = &mut numbers[..handles.len()];
-        numbers.iter_mut().zip(handles).for_each(|(number, handle)| *number = handle / 4);
-        if has_twice(numbers) {
-            return Err(Fault::Parameter);
-        }
-        let table = &self.process(process)?.table;
-        let mut rights = SYNCHRONIZE;
-        for (number, handle) in numbers.iter_mut().zip(handles) {
+        let mut slots = [0; MAXIMUM_WAIT_OBJECTS];
+        let slots = &mut slots[..handles.len()];
+        let table = &self.processes[process as usize].as_ref().ok_or(Fault::Parameter)?.table;
+        let (mut rights, mut has_room) = (SYNCHRONIZE, true);
+        let (mut signaled, mut first) = (0, usize::MAX);
+        for (index, (slot, handle)) in slots.iter_mut().zip(handles).enumerate() {
             let entry = table.entry(*handle).ok_or(Fault::Handle)?;
-            *number = entry.id.slot;
+            *slot = entry.id.slot;
             rights &= entry.rights;
+            let body = &self.objects.look(entry.id.slot).body;
+            if body.signaled_for(thread) {
+                has_room &= body.has_room(thread, self.limits.max_recursion);
+                signaled += 1;
+                first = first.min(index);
+            }
         }
         if rights == 0 {
             return Err(Fault::Access);
         }
-        let slots = &*numbers;
-        if mode == Mode::All && has_twice(slots) {
+        if mode == Mode::All && has_twice(slots, 0) {
             return Err(Fault::Parameter);
-        }
-        let (mut has_room, mut signaled, mut first) = (true, 0, None);
-        for (index, slot) in slots.iter().enumerate() {
-            has_room &= self.objects.has_room(thread, *slot, self.limits.max_recursion);
-            if self.objects.is_signaled(thread, *slot) {
-                signaled += 1;
-                first = first.or(Some(index));
-            }
         }
         if !has_room {
             return Err(Fault::Limit);
         }
-        match (mode, first) {
-            (Mode::Any, Some(index)) => Ok(Reply::Code { code: index as u32 + self.objects.acquire(thread, slots[index]) }),
-            (Mode::All, _) if signaled == slots.len() => {
-                Ok(Reply::Code { code: self.objects.acquire_all(thread, slots.iter().copied()) })
-            }
-            _ => self.wait_on(thread, mode, timeout, slots),
-        }
+        let code = match mode {
+            Mode::Any if signaled > 0 => first as u32 + self.objects.acquire(thread, slots[first]),
+            Mode::All if signaled == slots.len() => self.objects.acquire_all(thread, slots.iter().copied()),
+            _ => return self.wait_on(thread, mode, timeout, slots),
+        };
+        Ok(Reply::Code { code })
     }
 
     /// A wait that isn't ready.

@@ -114,7 +114,7 @@ impl Manager {
         let handle = table.place(entry, limit).ok_or(Fault::Limit)?;
         self.vacant.take(id.slot);
         self.objects.publish(place, new.kind, new.manual, new.max);
-        self.objects.slots[place].object = Some(Object {
+        self.objects.slots[place].object = Object {
             birth: self.births,
             kind: new.kind,
             manual: new.manual,
@@ -126,7 +126,7 @@ impl Manager {
             body: new.body,
             is_named: name.is_some(),
             hash: name.map_or(0, |name| name.hash),
-        });
+        };
         self.births += 1;
         if let Some(name) = name {
             self.names.enter(name.hash, name.space, name.base, id);
@@ -135,7 +135,7 @@ impl Manager {
     }
 
     fn another_handle(&mut self, process: u32, id: Id, kind: Kind, rights: u32, inherit: bool) -> Result<u32, Fault> {
-        let object = self.object(id.slot).ok_or(Fault::Handle)?;
+        let object = self.objects.look(id.slot);
         if object.kind != kind {
             return Err(Fault::Handle);
         }
@@ -150,9 +150,7 @@ impl Manager {
     pub(crate) fn placed(&mut self, process: u32, entry: Entry) -> Result<u32, Fault> {
         let limit = self.limits.handles;
         let handle = self.process(process)?.table.place(entry, limit).ok_or(Fault::Limit)?;
-        if let Some(object) = self.objects.object(entry.id.slot) {
-            object.handles += 1;
-        }
+        self.objects.object(entry.id.slot).handles += 1;
         Ok(handle)
     }
 

@@ -44,8 +44,7 @@ impl Manager {
         let id = entry.id;
         let mut rights = entry.rights;
         if options & SAME_ACCESS == 0 {
-            let grant = self.object(id.slot).ok_or(Fault::Handle)?.grant;
-            if !within(mask, entry.rights | grant) {
+            if !within(mask, entry.rights | self.objects.look(id.slot).grant) {
                 return Err(Fault::Access);
             }
             rights = mask;
@@ -73,10 +72,11 @@ impl Manager {
         }
     }
 
+    #[inline(always)]
     pub(crate) fn changed(&mut self, thread: u32, handle: u32, is_set: bool) -> Result<Reply, Fault> {
         let process = self.caller(thread)?;
         let entry = self.found(process, handle)?;
-        let Some(Object { kind: Kind::Event, body, blocks, .. }) = self.objects.object(entry.id.slot) else {
+        let Object { kind: Kind::Event, body, blocks, .. } = self.objects.object(entry.id.slot) else {
             return Err(Fault::Handle);
         };
         if !within(MODIFY_STATE, entry.rights) {
@@ -95,7 +95,7 @@ impl Manager {
             return Err(Fault::Parameter);
         }
         let entry = self.found(process, handle)?;
-        let Some(Object { kind: Kind::Semaphore, max, body, blocks, .. }) = self.objects.object(entry.id.slot) else {
+        let Object { kind: Kind::Semaphore, max, body, blocks, .. } = self.objects.object(entry.id.slot) else {
             return Err(Fault::Handle);
         };
         if !within(MODIFY_STATE, entry.rights) {
@@ -139,7 +139,6 @@ impl Manager {
             Ok(_) => Reclaim::Retired,
             Err(pins) => return Ok(Reply::Reaped { id, outcome: Reclaim::Held { pins } }),
         };
-        self.objects.slots[slot as usize].object = None;
         if outcome == Reclaim::Freed {
             self.vacant.give_back(slot);
         }
@@ -148,11 +147,10 @@ impl Manager {
 
     pub(crate) fn counted(&self, id: Id) -> Result<Reply, Fault> {
         let slot = self.objects.slots.get(id.slot as usize).ok_or(Fault::Parameter)?;
-        let object = slot.object.as_ref().ok_or(Fault::Handle)?;
-        if slot.generation != id.generation {
+        if !slot.has_object() || slot.generation != id.generation {
             return Err(Fault::Handle);
         }
-        let hold = u32::from(object.handles == 0 && object.blocks == 0);
-        Ok(Reply::CountsAre { handles: object.handles, waits: u64::from(object.blocks), hold })
+        let Object { handles, blocks, .. } = slot.object;
+        Ok(Reply::CountsAre { handles, waits: u64::from(blocks), hold: u32::from(handles == 0 && blocks == 0) })
     }
 }

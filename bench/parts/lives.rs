@@ -37,9 +37,7 @@ impl Manager {
         let session = parent.session;
         let table = if inherit { parent.table.with(INHERIT) } else { Table::default() };
         for entry in table.places.iter().flatten() {
-            if let Some(object) = self.objects.object(entry.id.slot) {
-                object.handles += 1;
-            }
+            self.objects.object(entry.id.slot).handles += 1;
         }
         self.added(session, table)
     }

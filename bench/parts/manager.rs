@@ -5,7 +5,7 @@ use super::answers::{Fault, Kind, Limits, Make, Mode, Reply, Timeout};
 use super::bits::Bits;
 use super::directory::Directory;
 use super::id::Id;
-use super::objects::{Object, Objects};
+use super::objects::Objects;
 use super::table::{Entry, Free, Table};
 use super::waiting::{Thread, Waits};
 
@@ -108,7 +108,15 @@ impl Manager {
     }
 
     pub fn wait(&mut self, thread: u32, mode: Mode, timeout: Timeout, handles: &[u32]) -> Reply {
-        self.waited(thread, mode, timeout, handles).into()
+        match handles {
+            [handle] => self.waited_for_one(thread, mode, timeout, *handle).into(),
+            _ => self.wait_for_some(thread, mode, timeout, handles),
+        }
+    }
+
+    #[inline(never)]
+    fn wait_for_some(&mut self, thread: u32, mode: Mode, timeout: Timeout, handles: &[u32]) -> Reply {
+        self.waited_for_some(thread, mode, timeout, handles).into()
     }
 
     pub fn wait_result(&mut self, wait: u32) -> Reply {
@@ -145,7 +153,11 @@ impl Manager {
     }
 
     pub(crate) fn thread_at(&self, thread: u32) -> Result<&Thread, Fault> {
-        self.waits.threads.get(thread as usize).filter(|thread| thread.process != 0).ok_or(Fault::Parameter)
+        let thread = self.waits.threads.get(thread as usize).ok_or(Fault::Parameter)?;
+        if thread.process == 0 {
+            return Err(Fault::Parameter);
+        }
+        Ok(thread)
     }
 
     pub(crate) fn caller(&self, thread: u32) -> Result<u32, Fault> {
@@ -167,9 +179,5 @@ impl Manager {
     pub(crate) fn found(&self, process: u32, handle: u32) -> Result<Entry, Fault> {
         let process = self.processes[process as usize].as_ref().ok_or(Fault::Parameter)?;
         process.table.entry(handle).ok_or(Fault::Handle)
-    }
-
-    pub(crate) fn object(&self, slot: u32) -> Option<&Object> {
-        self.objects.look(slot)
     }
 }

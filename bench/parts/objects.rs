@@ -6,6 +6,7 @@ use super::answers::{Fault, Kind};
 use super::body::Body;
 use std::sync::atomic::{AtomicU64, Ordering::SeqCst};
 
+#[derive(Default)]
 pub struct Object {
     pub birth: u64,
     pub kind: Kind,
@@ -34,7 +35,14 @@ pub enum Phase {
 pub struct Slot {
     pub generation: u32,
     pub phase: Phase,
-    pub object: Option<Object>,
+    /// Where the phase is live or closing.
+    pub object: Object,
+}
+
+impl Slot {
+    pub fn has_object(&self) -> bool {
+        matches!(self.phase, Phase::Live | Phase::Closing)
+    }
 }
 
 const _: () = assert!(size_of::<Slot>() == 64);
@@ -58,7 +66,7 @@ pub struct Objects {
 
 impl Objects {
     pub fn new(slots: u32) -> Objects {
-        let slot = || Slot { generation: 1, phase: Phase::Free, object: None };
+        let slot = || Slot { generation: 1, phase: Phase::Free, object: Object::default() };
         let words = (0..2 * slots as usize).map(|_| AtomicU64::new(1 << 32)).collect();
         Objects { slots: (0..slots).map(|_| slot()).collect(), words, owned: vec![Vec::new()] }
     }
@@ -73,7 +81,7 @@ impl Objects {
     }
 
     /// A slot as a savestate says it.
-    pub fn restore(&mut self, slot: u32, generation: u32, phase: Phase, descr: u64, object: Option<Object>) {
+    pub fn restore(&mut self, slot: u32, generation: u32, phase: Phase, descr: u64, object: Object) {
         let at = slot as usize;
         let code = match phase {
             Phase::Free => 0,
@@ -103,46 +111,29 @@ impl Objects {
         Ok(phase)
     }
 
-    pub fn look(&self, slot: u32) -> Option<&Object> {
-        self.slots.get(slot as usize)?.object.as_ref()
+    /// The object of a slot that has one, or had it.
+    pub fn look(&self, slot: u32) -> &Object {
+        &self.slots[slot as usize].object
     }
 
-    pub fn object(&mut self, slot: u32) -> Option<&mut Object> {
-        self.slots.get_mut(slot as usize)?.object.as_mut()
+    pub fn object(&mut self, slot: u32) -> &mut Object {
+        &mut self.slots[slot as usize].object
     }
 
-    /// Whether some thread that waits could take it.
-    pub fn is_free(&self, slot: u32) -> bool {
-        self.look(slot).is_some_and(|object| object.body.signals > 0)
-    }
-
-    pub fn is_signaled(&self, thread: u32, slot: u32) -> bool {
-        self.look(slot).is_some_and(|object| object.body.signaled_for(thread))
-    }
-
-    /// Whether a thread may own it once more, if it is a mutex.
-    pub fn has_room(&self, thread: u32, slot: u32, limit: u32) -> bool {
-        self.look(slot).is_none_or(|object| object.body.has_room(thread, limit))
-    }
-
-    /// What it adds to the code.
+    /// What it adds to the code of a wait.
+    #[inline(always)]
     pub fn acquire(&mut self, thread: u32, slot: u32) -> u32 {
-        let Some(object) = self.object(slot) else {
-            return 0;
-        };
-        let body = &mut object.body;
-        match object.kind {
-            Kind::Event => body.signals &= u32::from(object.manual),
-            Kind::Semaphore => body.signals -= 1,
-            Kind::Mutex => return self.own(thread, slot),
+        let object = self.object(slot);
+        if object.kind == Kind::Mutex {
+            return self.own(thread, slot);
         }
+        object.body.signals -= u32::from(!object.manual);
         0
     }
 
+    #[inline(never)]
     fn own(&mut self, thread: u32, slot: u32) -> u32 {
-        let Some(Object { body, .. }) = self.object(slot) else {
-            return 0;
-        };
+        let body = &mut self.object(slot).body;
         let Body { owner, recursion, abandoned, .. } = *body;
         *body = Body { signals: 0, owner: thread, recursion: recursion + 1, abandoned: false };
         if owner == 0 {
@@ -165,7 +156,7 @@ impl Objects {
 
     /// A mutex is owned once less. Whether nobody owns it now.
     pub fn unlock(&mut self, thread: u32, slot: u32) -> Result<bool, Fault> {
-        let Some(Object { kind: Kind::Mutex, body, .. }) = self.object(slot) else {
+        let Object { kind: Kind::Mutex, body, .. } = self.object(slot) else {
             return Err(Fault::Handle);
         };
         if body.owner != thread {
@@ -184,20 +175,19 @@ impl Objects {
     pub fn abandon(&mut self, thread: u32) -> Vec<u32> {
         let slots = std::mem::take(&mut self.owned[thread as usize]);
         for slot in &slots {
-            if let Some(object) = self.object(*slot) {
-                object.body = Body::of_mutex(None, 0, true);
-            }
+            self.object(*slot).body = Body::of_mutex(None, 0, true);
         }
         slots
     }
 
     /// Nothing refers to it any more.
+    #[inline(never)]
     fn end(&mut self, slot: u32) {
         self.words[slot as usize].fetch_or(CLOSING, SeqCst);
         let place = &mut self.slots[slot as usize];
         place.phase = Phase::Closing;
-        let body = place.object.as_mut().map(|object| std::mem::take(&mut object.body));
-        if let Some(Body { owner: owner @ 1.., .. }) = body {
+        let owner = std::mem::take(&mut place.object.body).owner;
+        if owner != 0 {
             self.disown(owner, slot);
         }
     }
@@ -205,7 +195,7 @@ impl Objects {
     /// Whether it was the last handle of an object that has a name; then its hash.
     #[inline(always)]
     pub fn handle_left(&mut self, slot: u32) -> Option<u64> {
-        let object = self.object(slot)?;
+        let object = self.object(slot);
         object.handles -= 1;
         if object.handles > 0 {
             return None;
@@ -217,47 +207,26 @@ impl Objects {
         hash
     }
 
-    pub fn blocks(&self, slot: u32) -> u32 {
-        self.look(slot).map_or(0, |object| object.blocks)
-    }
-
-    pub fn first(&self, slot: u32) -> u32 {
-        self.look(slot).map_or(0, |object| object.first)
-    }
-
-    /// Whether it is the only one.
-    pub fn block_came(&mut self, slot: u32, place: u32) -> bool {
-        let Some(object) = self.object(slot) else {
-            return true;
-        };
-        object.blocks += 1;
-        if object.blocks == 1 {
+    /// How many blocks it had before.
+    #[inline(always)]
+    pub fn block_came(&mut self, slot: u32, place: u32) -> u32 {
+        let object = self.object(slot);
+        if object.blocks == 0 {
             object.first = place;
         }
-        object.blocks == 1
+        object.blocks += 1;
+        object.blocks - 1
     }
 
-    /// Whether it was the last one.
-    pub fn block_left(&mut self, slot: u32) -> bool {
-        let Some(object) = self.object(slot) else {
-            return true;
-        };
+    /// How many blocks it has yet.
+    #[inline(always)]
+    pub fn block_left(&mut self, slot: u32) -> u32 {
+        let object = self.object(slot);
         object.blocks -= 1;
-        if object.blocks > 0 {
-            return false;
-        }
-        if object.handles == 0 {
+        let left = object.blocks;
+        if left | object.handles == 0 {
             self.end(slot);
         }
-        true
-    }
-
-    /// Where this block is the first one, another is from now on.
-    pub fn first_left(&mut self, slot: u32, place: u32, behind: u32) {
-        if let Some(object) = self.object(slot) {
-            if object.first == place {
-                object.first = behind;
-            }
-        }
+        left
     }
 }

@@ -6,7 +6,7 @@ use super::body::Body;
 use super::directory::{GLOBAL, hash_of};
 use super::id::Id;
 use super::manager::{Manager, Process};
-use super::objects::{Object, Phase, Slot};
+use super::objects::{Object, Phase};
 use super::sha256::sha256;
 use super::table::{Entry, Free, Table};
 use super::waiting::{Shown, Thread};
@@ -120,10 +120,11 @@ fn put_slots(out: &mut Vec<u8>, m: &Manager) {
     for (slot, name) in m.objects.slots.iter().zip(names) {
         put(out, slot.generation);
         out.push(u8::from(slot.phase == Phase::Retired));
-        out.push(u8::from(slot.object.is_some()));
-        let Some(object) = &slot.object else {
+        out.push(u8::from(slot.has_object()));
+        if !slot.has_object() {
             continue;
-        };
+        }
+        let object = &slot.object;
         out.extend(object.birth.to_le_bytes());
         out.extend(descr_of(object).to_le_bytes());
         put(out, object.grant);
@@ -303,7 +304,7 @@ fn read_slots<'a>(c: &mut Cursor<'a>, m: &mut Manager, owners: &[Option<u32>]) -
             if retired {
                 m.vacant.take(slot);
             }
-            m.objects.restore(slot, generation, if retired { Phase::Retired } else { Phase::Free }, 0, None);
+            m.objects.restore(slot, generation, if retired { Phase::Retired } else { Phase::Free }, 0, Object::default());
             continue;
         }
         let (birth, descr, grant) = (c.eight()?, c.eight()?, c.four()?);
@@ -322,14 +323,14 @@ fn read_slots<'a>(c: &mut Cursor<'a>, m: &mut Manager, owners: &[Option<u32>]) -
         let (manual, max) = (descr & 4 != 0, (descr >> 3) as u32);
         let object = Object { birth, kind, manual, max, grant, handles: 0, blocks: 0, first: 0, body, is_named: name.is_some(), hash };
         m.vacant.take(slot);
-        m.objects.restore(slot, generation, phase, descr, Some(object));
+        m.objects.restore(slot, generation, phase, descr, object);
         births.push((birth, slot, name));
     }
     Some(births)
 }
 
 fn is_there(m: &Manager, id: Id) -> bool {
-    m.objects.slots.get(id.slot as usize).is_some_and(|slot| slot.generation == id.generation && slot.object.is_some())
+    m.objects.slots.get(id.slot as usize).is_some_and(|slot| slot.generation == id.generation && slot.has_object())
 }
 
 fn put_processes(m: &mut Manager, sessions: Vec<Option<u32>>, owners: Vec<Option<u32>>, tables: Vec<Vec<Option<Entry>>>) -> Option<()> {
@@ -338,7 +339,7 @@ fn put_processes(m: &mut Manager, sessions: Vec<Option<u32>>, owners: Vec<Option
         let mut free = Bits::default();
         for (place, entry) in places.iter().enumerate() {
             match entry {
-                Some(entry) if is_there(m, entry.id) => m.objects.object(entry.id.slot)?.handles += 1,
+                Some(entry) if is_there(m, entry.id) => m.objects.object(entry.id.slot).handles += 1,
                 Some(_) => return None,
                 None => free.give_back(place as u32),
             }
@@ -371,9 +372,9 @@ fn restore_waits(m: &mut Manager, waits: Vec<Shown>, last: u32) -> Option<()> {
         if mode == Mode::All && ids.iter().enumerate().any(twice) || !ids.iter().all(|id| is_there(m, *id)) {
             return None;
         }
-        let is_signaled = |id: &Id| m.objects.is_signaled(thread, id.slot);
+        let is_signaled = |id: &Id| m.objects.look(id.slot).body.signaled_for(thread);
         let is_satisfied = if mode == Mode::Any { ids.iter().any(is_signaled) } else { ids.iter().all(is_signaled) };
-        let has_room = |id: &Id| m.objects.has_room(thread, id.slot, m.limits.max_recursion);
+        let has_room = |id: &Id| m.objects.look(id.slot).body.has_room(thread, m.limits.max_recursion);
         if is_satisfied || !ids.iter().all(has_room) {
             return None;
         }
@@ -386,22 +387,19 @@ fn restore_waits(m: &mut Manager, waits: Vec<Shown>, last: u32) -> Option<()> {
 
 fn enter_names(m: &mut Manager, births: &[Birth<'_>]) -> Option<()> {
     for (_, slot, name) in births {
-        let (Some((space, base)), Some(object)) = (name, m.objects.look(*slot)) else {
+        let object = m.objects.look(*slot);
+        let Some((space, base)) = name.filter(|_| object.handles > 0) else {
             continue;
         };
-        if object.handles == 0 {
-            continue;
-        }
-        if m.names.find(object.hash, *space, base).is_some() {
+        if m.names.find(object.hash, space, base).is_some() {
             return None;
         }
         let id = Id { slot: *slot, generation: m.objects.slots[*slot as usize].generation };
-        m.names.enter(object.hash, *space, base, id);
+        m.names.enter(object.hash, space, base, id);
     }
     Some(())
 }
 
 fn are_bodied(m: &Manager) -> bool {
-    let is_bodied = |slot: &Slot, object: &Object| (slot.phase == Phase::Live) == (object.handles > 0 || object.blocks > 0);
-    m.objects.slots.iter().all(|slot| slot.object.as_ref().is_none_or(|object| is_bodied(slot, object)))
+    m.objects.slots.iter().all(|slot| (slot.phase == Phase::Live) == (slot.object.handles > 0 || slot.object.blocks > 0))
 }

@@ -1,10 +1,10 @@
-//! Waits: each stands at its thread, with a block for each object that it is for, in a ring that goes round the blocks of the object.
+//! Waits: each at its thread, with a block for each object that it lists. The blocks of an object are a ring, by rising number.
 //!
-//! A block's place is its thread's number and its index in the wait, so that nothing is looked up from there. No place and no thread is 0.
+//! A block's place is made of its thread and its index in the list. No place is 0, and no thread.
 
 use super::answers::{Fault, Mode, WAIT_TIMEOUT};
 use super::id::Id;
-use super::objects::Objects;
+use super::objects::{Object, Objects};
 use std::collections::BTreeMap;
 
 /// How many bits of a place are the index.
@@ -18,7 +18,7 @@ fn index_of(place: u32) -> u32 {
     place % (1 << INDEX_BITS)
 }
 
-/// Where the wait is in the ring of an object: between itself and itself where it waits there alone.
+/// A wait's place in the ring of an object, where a lone block is before and behind itself.
 #[derive(Clone, Copy, Default)]
 struct Block {
     slot: u32,
@@ -45,10 +45,8 @@ pub struct Thread {
     code: u32,
     /// The block of a wait for one object.
     block: Block,
-    /// The blocks of a wait for several; of another there are none.
+    /// The blocks of a wait for several; none of a wait for one.
     blocks: Vec<Block>,
-    /// The next thread whose wait's number has the same low bits.
-    next: u32,
     /// The threads whose answers come before and behind this one's.
     earlier: u32,
     later: u32,
@@ -68,6 +66,12 @@ impl Thread {
     fn blocks(&self) -> &[Block] {
         if self.blocks.is_empty() { std::slice::from_ref(&self.block) } else { &self.blocks }
     }
+
+    /// Its blocks are counted off their objects. Whether some of these have others, whose rings they are still in.
+    #[inline(always)]
+    fn drop_blocks(&self, objects: &mut Objects) -> bool {
+        self.blocks().iter().fold(0, |others, block| others | objects.block_left(block.slot)) > 0
+    }
 }
 
 /// A wait as a savestate says it: what it is pending for, or the code that it is answered with.
@@ -83,19 +87,25 @@ pub struct Waits {
     limit: u32,
     given: u32,
     pub threads: Vec<Thread>,
-    /// By the low bits of a wait's number, the thread whose wait came last.
-    heads: Vec<u32>,
+    /// By the low bits of its number, the thread of the last wait that has them.
+    recent: Vec<u32>,
+    /// By its number, the thread of a wait that is no longer among those.
+    old: BTreeMap<u32, u32>,
     /// The threads whose answers aren't taken, by rising number of their waits: the first and the last.
     first: u32,
     last: u32,
-    /// Those that were answered behind a greater number, by number.
+    /// By its number, the thread of a wait that was answered when a greater one already was.
     late: BTreeMap<u32, u32>,
 }
 
 impl Waits {
-    pub fn new(limit: u32, threads: u32) -> Waits {
-        let heads = vec![0; threads.next_power_of_two() as usize];
-        Waits { limit, given: 0, threads: vec![Thread::default()], heads, first: 0, last: 0, late: BTreeMap::new() }
+    /// With room for so many threads.
+    pub fn new(limit: u32, most: u32) -> Waits {
+        let mut threads = Vec::with_capacity(most as usize + 1);
+        threads.push(Thread::default());
+        let recent = vec![0; most.next_power_of_two() as usize];
+        let (old, late) = (BTreeMap::new(), BTreeMap::new());
+        Waits { limit, given: 0, threads, recent, old, first: 0, last: 0, late }
     }
 
     fn at(&mut self, thread: u32) -> &mut Thread {
@@ -107,43 +117,56 @@ impl Waits {
         if thread.blocks.is_empty() { &mut thread.block } else { &mut thread.blocks[index_of(place) as usize] }
     }
 
+    fn recent(&mut self, number: u32) -> &mut u32 {
+        let mask = self.recent.len() - 1;
+        &mut self.recent[number as usize & mask]
+    }
+
     /// The thread's wait gets the next number.
-    fn enter(&mut self, thread: u32, state: State, code: u32) -> u32 {
+    #[inline(always)]
+    fn enter(&mut self, thread: u32, state: State) -> u32 {
         self.given += 1;
         let number = self.given;
-        let head = number as usize & (self.heads.len() - 1);
-        let next = std::mem::replace(&mut self.heads[head], thread);
+        let before = std::mem::replace(self.recent(number), thread);
+        if before != 0 {
+            self.make_old(before);
+        }
         let at = self.at(thread);
-        (at.wait, at.state, at.code, at.next) = (number, state, code, next);
+        (at.wait, at.state) = (number, state);
         number
     }
 
+    #[cold]
+    fn make_old(&mut self, thread: u32) {
+        self.old.insert(self.threads[thread as usize].wait, thread);
+    }
+
+    #[inline(always)]
     fn found(&self, number: u32) -> Result<u32, Fault> {
-        let mut thread = self.heads[number as usize & (self.heads.len() - 1)];
-        while thread != 0 {
-            let Thread { wait, next, .. } = self.threads[thread as usize];
-            if wait == number {
-                return Ok(thread);
-            }
-            thread = next;
-        }
-        Err(Fault::Parameter)
+        let thread = self.recent[number as usize & (self.recent.len() - 1)];
+        if thread != 0 && self.threads[thread as usize].wait == number { Ok(thread) } else { self.found_old(number) }
+    }
+
+    #[cold]
+    fn found_old(&self, number: u32) -> Result<u32, Fault> {
+        self.old.get(&number).copied().ok_or(Fault::Parameter)
     }
 
     /// The thread waits no more.
+    #[inline(always)]
     fn leave(&mut self, thread: u32) {
-        let Thread { wait, next, .. } = self.threads[thread as usize];
-        self.at(thread).wait = 0;
-        let head = wait as usize & (self.heads.len() - 1);
-        let mut other = self.heads[head];
-        if other == thread {
-            self.heads[head] = next;
-            return;
+        let number = std::mem::take(&mut self.at(thread).wait);
+        let recent = self.recent(number);
+        if *recent == thread {
+            *recent = 0;
+        } else {
+            self.leave_old(number);
         }
-        while self.at(other).next != thread {
-            other = self.at(other).next;
-        }
-        self.at(other).next = next;
+    }
+
+    #[cold]
+    fn leave_old(&mut self, number: u32) {
+        self.old.remove(&number);
     }
 
     /// The wait's number.
@@ -152,19 +175,25 @@ impl Waits {
         if self.given >= self.limit {
             return Err(Fault::Limit);
         }
-        let number = self.enter(thread, State::Pending(mode), 0);
-        let mut is_alone = true;
-        let mut block = |(index, slot): (usize, &u32)| {
-            let place = thread << INDEX_BITS | index as u32;
-            is_alone &= objects.block_came(*slot, place);
-            Block { slot: *slot, before: place, behind: place }
-        };
+        let number = self.enter(thread, State::Pending(mode));
         let at = &mut self.threads[thread as usize];
-        match slots {
-            [slot] => at.block = block((0, slot)),
-            _ => at.blocks.extend(slots.iter().enumerate().map(block)),
+        let blocks = match slots {
+            [_] => {
+                at.blocks.clear();
+                std::slice::from_mut(&mut at.block)
+            }
+            _ => {
+                at.blocks.resize(slots.len(), Block::default());
+                &mut at.blocks
+            }
+        };
+        let mut others = 0;
+        for (index, (block, slot)) in blocks.iter_mut().zip(slots).enumerate() {
+            let place = thread << INDEX_BITS | index as u32;
+            *block = Block { slot: *slot, before: place, behind: place };
+            others |= objects.block_came(*slot, place);
         }
-        if !is_alone {
+        if others > 0 {
             self.join(objects, thread);
         }
         Ok(number)
@@ -175,7 +204,7 @@ impl Waits {
     fn join(&mut self, objects: &Objects, thread: u32) {
         for index in 0..self.at(thread).blocks().len() {
             let place = thread << INDEX_BITS | index as u32;
-            let first = objects.first(self.block(place).slot);
+            let first = objects.look(self.block(place).slot).first;
             if first != place {
                 let last = std::mem::replace(&mut self.block(first).before, place);
                 self.block(last).behind = place;
@@ -194,21 +223,12 @@ impl Waits {
             if behind != place {
                 self.block(before).behind = behind;
                 self.block(behind).before = before;
-                objects.first_left(slot, place, behind);
+                let object = objects.object(slot);
+                if object.first == place {
+                    object.first = behind;
+                }
             }
         }
-    }
-
-    /// A thread is pending no more.
-    fn drop_blocks(&mut self, objects: &mut Objects, thread: u32) {
-        let mut is_alone = true;
-        for block in self.threads[thread as usize].blocks() {
-            is_alone &= objects.block_left(block.slot);
-        }
-        if !is_alone {
-            self.part(objects, thread);
-        }
-        self.at(thread).blocks.clear();
     }
 
     pub fn given(&self) -> u32 {
@@ -235,28 +255,36 @@ impl Waits {
     }
 
     pub fn add_answered(&mut self, thread: u32, code: u32) {
-        self.enter(thread, State::Answered, code);
+        self.enter(thread, State::Answered);
+        self.at(thread).code = code;
         self.note_answer(thread);
     }
 
+    #[inline(never)]
     fn note_answer(&mut self, thread: u32) {
         let (last, number) = (self.last, self.at(thread).wait);
-        if self.at(last).wait > number {
-            self.late.insert(number, thread);
-            return;
-        }
         match last {
             0 => self.first = thread,
-            _ => self.at(last).later = thread,
+            _ if self.at(last).wait < number => self.at(last).later = thread,
+            _ => {
+                self.late.insert(number, thread);
+                return;
+            }
         }
         self.last = thread;
         let at = self.at(thread);
         (at.earlier, at.later) = (last, 0);
     }
 
+    #[cold]
+    fn drop_late(&mut self, number: u32) -> bool {
+        self.late.remove(&number).is_some()
+    }
+
+    #[inline(always)]
     fn drop_answer(&mut self, thread: u32) {
         let Thread { wait, earlier, later, .. } = self.threads[thread as usize];
-        if !self.late.is_empty() && self.late.remove(&wait).is_some() {
+        if !self.late.is_empty() && self.drop_late(wait) {
             return;
         }
         match earlier {
@@ -279,6 +307,7 @@ impl Waits {
     }
 
     /// An answer is taken.
+    #[inline(always)]
     fn take(&mut self, thread: u32) -> u32 {
         self.drop_answer(thread);
         self.leave(thread);
@@ -291,28 +320,43 @@ impl Waits {
 
     /// The waits for a slot take effect, by rising number, as long as it has something to take.
     pub fn settle_after(&mut self, objects: &mut Objects, slot: u32) {
-        let (mut place, mut left) = (objects.first(slot), objects.blocks(slot));
-        while left > 0 && objects.is_free(slot) {
-            let (thread, index) = (thread_of(place), index_of(place));
+        let Object { first, blocks, .. } = *objects.look(slot);
+        match blocks {
+            0 => {}
+            1 => self.reach(objects, slot, first),
+            _ => self.settle_ring(objects, slot, first, blocks),
+        }
+    }
+
+    #[inline(never)]
+    fn settle_ring(&mut self, objects: &mut Objects, slot: u32, mut place: u32, mut left: u32) {
+        while left > 0 && objects.look(slot).body.signals > 0 {
+            let reached = place;
             // (a wait for any may have several blocks here, and all leave with it)
-            while left > 0 && thread_of(place) == thread {
+            while left > 0 && thread_of(place) == thread_of(reached) {
                 place = self.block(place).behind;
                 left -= 1;
             }
-            // (of what another wait for any is for nothing else is signaled)
-            match self.at(thread).state {
-                State::Pending(Mode::Any) => {
-                    let code = index + objects.acquire(thread, slot);
-                    self.answer(objects, thread, code);
-                }
-                _ => self.take_effect(objects, thread),
+            self.reach(objects, slot, reached);
+        }
+    }
+
+    /// What a block waits for may be taken. Nothing else is signaled that a wait for any is for.
+    #[inline(always)]
+    fn reach(&mut self, objects: &mut Objects, slot: u32, place: u32) {
+        let thread = thread_of(place);
+        match self.at(thread).state {
+            State::Pending(Mode::Any) => {
+                let code = index_of(place) + objects.acquire(thread, slot);
+                self.answer(objects, thread, code);
             }
+            _ => self.take_effect(objects, thread),
         }
     }
 
     fn waiters(&mut self, objects: &Objects, slot: u32, found: &mut Vec<(u32, u32)>) {
-        let mut place = objects.first(slot);
-        for _ in 0..objects.blocks(slot) {
+        let Object { first: mut place, blocks, .. } = *objects.look(slot);
+        for _ in 0..blocks {
             let thread = thread_of(place);
             found.push((self.at(thread).wait, thread));
             place = self.block(place).behind;
@@ -335,9 +379,10 @@ impl Waits {
     }
 
     /// A pending wait is answered where it is ready.
+    #[inline(never)]
     fn take_effect(&mut self, objects: &mut Objects, thread: u32) {
         let at = &self.threads[thread as usize];
-        let is_signaled = |block: &Block| objects.is_signaled(thread, block.slot);
+        let is_signaled = |block: &Block| objects.look(block.slot).body.signaled_for(thread);
         let code = match at.state {
             State::Pending(Mode::Any) => match at.blocks().iter().position(is_signaled) {
                 Some(index) => index as u32 + objects.acquire(thread, at.blocks()[index].slot),
@@ -352,11 +397,20 @@ impl Waits {
     }
 
     /// A pending wait is answered.
+    #[inline(always)]
     fn answer(&mut self, objects: &mut Objects, thread: u32, code: u32) {
-        self.drop_blocks(objects, thread);
-        let at = self.at(thread);
+        let at = &mut self.threads[thread as usize];
         (at.state, at.code) = (State::Answered, code);
-        self.note_answer(thread);
+        let has_others = at.drop_blocks(objects);
+        if self.last == 0 {
+            (self.first, self.last) = (thread, thread);
+            (at.earlier, at.later) = (0, 0);
+        } else {
+            self.note_answer(thread);
+        }
+        if has_others {
+            self.part(objects, thread);
+        }
     }
 
     /// The code of a wait, which is over with that, or none while it is pending.
@@ -379,10 +433,12 @@ impl Waits {
 
     /// A thread ends, and its wait with it.
     pub fn end(&mut self, objects: &mut Objects, thread: u32) {
-        if self.at(thread).waits() {
-            match self.at(thread).state {
-                State::Pending(_) => self.drop_blocks(objects, thread),
+        let at = &self.threads[thread as usize];
+        if at.waits() {
+            match at.state {
                 State::Answered => self.drop_answer(thread),
+                State::Pending(_) if at.drop_blocks(objects) => self.part(objects, thread),
+                State::Pending(_) => {}
             }
             self.leave(thread);
         }
