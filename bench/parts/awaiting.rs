@@ -5,19 +5,17 @@ use super::manager::Manager;
 
 const MAXIMUM_WAIT_OBJECTS: usize = 64;
 
-/// Whether a list, in which numbers mostly rise, has one twice but for these bits.
-fn has_twice(numbers: &[u32], but: u32) -> bool {
-    let rises = numbers.windows(2).fold(true, |rises, pair| rises & (pair[0] | but < pair[1]));
-    !rises && stands_twice(numbers, but)
-}
-
-#[cold]
-fn stands_twice(numbers: &[u32], but: u32) -> bool {
+/// Whether a list has a number twice, these bits aside. Most lists rise.
+fn has_twice(numbers: &[u32], aside: u32) -> bool {
+    let is_less = |pair: &[u32]| pair[0] | aside < pair[1];
+    if numbers.windows(2).fold(true, |rises, pair| rises & is_less(pair)) {
+        return false;
+    }
     let mut sorted = [0; MAXIMUM_WAIT_OBJECTS];
     let sorted = &mut sorted[..numbers.len()];
     sorted.copy_from_slice(numbers);
     sorted.sort_unstable();
-    sorted.windows(2).any(|pair| pair[0] | but >= pair[1])
+    !sorted.windows(2).all(is_less)
 }
 
 impl Manager {

@@ -129,26 +129,19 @@ impl Waits {
         let number = self.given;
         let before = std::mem::replace(self.recent(number), thread);
         if before != 0 {
-            self.make_old(before);
+            self.old.insert(self.threads[before as usize].wait, before);
         }
         let at = self.at(thread);
         (at.wait, at.state) = (number, state);
         number
     }
 
-    #[cold]
-    fn make_old(&mut self, thread: u32) {
-        self.old.insert(self.threads[thread as usize].wait, thread);
-    }
-
     #[inline(always)]
     fn found(&self, number: u32) -> Result<u32, Fault> {
         let thread = self.recent[number as usize & (self.recent.len() - 1)];
-        if thread != 0 && self.threads[thread as usize].wait == number { Ok(thread) } else { self.found_old(number) }
-    }
-
-    #[cold]
-    fn found_old(&self, number: u32) -> Result<u32, Fault> {
+        if thread != 0 && self.threads[thread as usize].wait == number {
+            return Ok(thread);
+        }
         self.old.get(&number).copied().ok_or(Fault::Parameter)
     }
 
@@ -160,13 +153,8 @@ impl Waits {
         if *recent == thread {
             *recent = 0;
         } else {
-            self.leave_old(number);
+            self.old.remove(&number);
         }
-    }
-
-    #[cold]
-    fn leave_old(&mut self, number: u32) {
-        self.old.remove(&number);
     }
 
     /// The wait's number.
@@ -276,27 +264,6 @@ impl Waits {
         (at.earlier, at.later) = (last, 0);
     }
 
-    #[cold]
-    fn drop_late(&mut self, number: u32) -> bool {
-        self.late.remove(&number).is_some()
-    }
-
-    #[inline(always)]
-    fn drop_answer(&mut self, thread: u32) {
-        let Thread { wait, earlier, later, .. } = self.threads[thread as usize];
-        if !self.late.is_empty() && self.drop_late(wait) {
-            return;
-        }
-        match earlier {
-            0 => self.first = later,
-            _ => self.at(earlier).later = later,
-        }
-        match later {
-            0 => self.last = earlier,
-            _ => self.at(later).earlier = earlier,
-        }
-    }
-
     /// The least wait that is answered and not taken, which is over with that: its thread and the code.
     pub fn take_answered(&mut self) -> Option<(u32, u32)> {
         let thread = match self.late.first_key_value() {
@@ -306,12 +273,22 @@ impl Waits {
         (thread != 0).then(|| (thread, self.take(thread)))
     }
 
-    /// An answer is taken.
+    /// An answer is taken, or goes with its thread.
     #[inline(always)]
     fn take(&mut self, thread: u32) -> u32 {
-        self.drop_answer(thread);
+        let Thread { wait, code, earlier, later, .. } = self.threads[thread as usize];
         self.leave(thread);
-        self.at(thread).code
+        if self.late.is_empty() || self.late.remove(&wait).is_none() {
+            match earlier {
+                0 => self.first = later,
+                _ => self.at(earlier).later = later,
+            }
+            match later {
+                0 => self.last = earlier,
+                _ => self.at(later).earlier = earlier,
+            }
+        }
+        code
     }
 
     pub fn is_pending(&self, number: u32) -> bool {
@@ -329,19 +306,20 @@ impl Waits {
     }
 
     #[inline(never)]
-    fn settle_ring(&mut self, objects: &mut Objects, slot: u32, mut place: u32, mut left: u32) {
-        while left > 0 && objects.look(slot).body.signals > 0 {
-            let reached = place;
-            // (a wait for any may have several blocks here, and all leave with it)
-            while left > 0 && thread_of(place) == thread_of(reached) {
-                place = self.block(place).behind;
-                left -= 1;
+    fn settle_ring(&mut self, objects: &mut Objects, slot: u32, first: u32, blocks: u32) {
+        let mut place = first;
+        for _ in 0..blocks {
+            if objects.look(slot).body.signals == 0 {
+                return;
             }
-            self.reach(objects, slot, reached);
+            let behind = self.block(place).behind;
+            self.reach(objects, slot, place);
+            place = behind;
         }
     }
 
-    /// What a block waits for may be taken. Nothing else is signaled that a wait for any is for.
+    /// What a block is for may be taken. A wait that has another block there may be answered already, and nothing else is
+    /// signaled that a wait for any is for.
     #[inline(always)]
     fn reach(&mut self, objects: &mut Objects, slot: u32, place: u32) {
         let thread = thread_of(place);
@@ -434,13 +412,15 @@ impl Waits {
     /// A thread ends, and its wait with it.
     pub fn end(&mut self, objects: &mut Objects, thread: u32) {
         let at = &self.threads[thread as usize];
-        if at.waits() {
-            match at.state {
-                State::Answered => self.drop_answer(thread),
-                State::Pending(_) if at.drop_blocks(objects) => self.part(objects, thread),
-                State::Pending(_) => {}
+        match at.state {
+            _ if !at.waits() => {}
+            State::Answered => _ = self.take(thread),
+            State::Pending(_) => {
+                if at.drop_blocks(objects) {
+                    self.part(objects, thread);
+                }
+                self.leave(thread);
             }
-            self.leave(thread);
         }
         *self.at(thread) = Thread::default();
     }
