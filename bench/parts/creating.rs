@@ -3,7 +3,7 @@
 //! A name is hashed once a call, and where it leaves not at all: its object keeps the hash.
 
 use super::answers::{Fault, Kind, Make, Reply, within};
-use super::body::{Body, Mutex};
+use super::body::Body;
 use super::directory::{GLOBAL, hash_of};
 use super::id::Id;
 use super::manager::Manager;
@@ -55,14 +55,13 @@ pub fn flags_of(inherit: bool) -> u32 {
 impl Manager {
     pub(crate) fn event(&mut self, thread: u32, make: &Make<'_>, manual: bool, set: bool) -> Result<Reply, Fault> {
         let process = self.caller(thread)?;
-        let body = Body::Event { manual, set };
+        let body = Body { signals: u32::from(set), ..Body::default() };
         self.create(process, make, New { kind: Kind::Event, manual, max: 0, body })
     }
 
     pub(crate) fn mutex(&mut self, thread: u32, make: &Make<'_>, owned: bool) -> Result<Reply, Fault> {
         let process = self.caller(thread)?;
-        let owner = owned.then_some(thread);
-        let body = Body::Mutex(Mutex { owner, recursion: u32::from(owned), abandoned: false });
+        let body = Body::of_mutex(owned.then_some(thread), u32::from(owned), false);
         let reply = self.create(process, make, New { kind: Kind::Mutex, manual: false, max: 0, body })?;
         if let Reply::Made { id, .. } = reply {
             if owned {
@@ -77,9 +76,8 @@ impl Manager {
         if initial < 0 || max <= 0 || max < initial {
             return Err(Fault::Parameter);
         }
-        let (count, max) = (initial as u32, max as u32);
-        let body = Body::Semaphore { count, maximum: max };
-        self.create(process, make, New { kind: Kind::Semaphore, manual: false, max, body })
+        let body = Body { signals: initial as u32, ..Body::default() };
+        self.create(process, make, New { kind: Kind::Semaphore, manual: false, max: max as u32, body })
     }
 
     fn create(&mut self, process: u32, make: &Make<'_>, new: New) -> Result<Reply, Fault> {
@@ -116,7 +114,7 @@ impl Manager {
         let handle = table.place(entry, limit).ok_or(Fault::Limit)?;
         self.vacant.take(id.slot);
         self.objects.publish(place, new.kind, new.manual, new.max);
-        self.objects.slots[place].object = Some(Object {
+        self.objects.slots[place].object = Object {
             birth: self.births,
             kind: new.kind,
             manual: new.manual,
@@ -124,10 +122,11 @@ impl Manager {
             grant: make.grant.unwrap_or(all),
             handles: 1,
             blocks: 0,
-            body: Some(new.body),
+            first: 0,
+            body: new.body,
             is_named: name.is_some(),
             hash: name.map_or(0, |name| name.hash),
-        });
+        };
         self.births += 1;
         if let Some(name) = name {
             self.names.enter(name.hash, name.space, name.base, id);
@@ -136,7 +135,7 @@ impl Manager {
     }
 
     fn another_handle(&mut self, process: u32, id: Id, kind: Kind, rights: u32, inherit: bool) -> Result<u32, Fault> {
-        let object = self.object(id.slot).ok_or(Fault::Handle)?;
+        let object = self.objects.look(id.slot);
         if object.kind != kind {
             return Err(Fault::Handle);
         }
@@ -151,9 +150,7 @@ impl Manager {
     pub(crate) fn placed(&mut self, process: u32, entry: Entry) -> Result<u32, Fault> {
         let limit = self.limits.handles;
         let handle = self.process(process)?.table.place(entry, limit).ok_or(Fault::Limit)?;
-        if let Some(object) = self.objects.object(entry.id.slot) {
-            object.handles += 1;
-        }
+        self.objects.object(entry.id.slot).handles += 1;
         Ok(handle)
     }
 

@@ -1,11 +1,10 @@
 //! Handles are duplicated and closed, and what they name is set, reset, released and counted.
 
-use super::answers::{Fault, MODIFY_STATE, Reclaim, Reply, within};
-use super::body::Body;
+use super::answers::{Fault, Kind, MODIFY_STATE, Reclaim, Reply, within};
 use super::creating::flags_of;
 use super::id::Id;
 use super::manager::Manager;
-use super::objects::Phase;
+use super::objects::{Object, Phase};
 use super::table::{Entry, Free};
 
 const CLOSE_SOURCE: u32 = 1;
@@ -45,8 +44,7 @@ impl Manager {
         let id = entry.id;
         let mut rights = entry.rights;
         if options & SAME_ACCESS == 0 {
-            let grant = self.object(id.slot).ok_or(Fault::Handle)?.grant;
-            if !within(mask, entry.rights | grant) {
+            if !within(mask, entry.rights | self.objects.look(id.slot).grant) {
                 return Err(Fault::Access);
             }
             rights = mask;
@@ -74,18 +72,18 @@ impl Manager {
         }
     }
 
+    #[inline(always)]
     pub(crate) fn changed(&mut self, thread: u32, handle: u32, is_set: bool) -> Result<Reply, Fault> {
         let process = self.caller(thread)?;
         let entry = self.found(process, handle)?;
-        let object = self.objects.object(entry.id.slot).ok_or(Fault::Handle)?;
-        let Some(Body::Event { set, .. }) = &mut object.body else {
+        let Object { kind: Kind::Event, body, blocks, .. } = self.objects.object(entry.id.slot) else {
             return Err(Fault::Handle);
         };
         if !within(MODIFY_STATE, entry.rights) {
             return Err(Fault::Access);
         }
-        *set = is_set;
-        if is_set && object.blocks > 0 {
+        body.signals = u32::from(is_set);
+        if is_set && *blocks > 0 {
             self.waits.settle_after(&mut self.objects, entry.id.slot);
         }
         Ok(Reply::Done)
@@ -97,22 +95,21 @@ impl Manager {
             return Err(Fault::Parameter);
         }
         let entry = self.found(process, handle)?;
-        let object = self.objects.object(entry.id.slot).ok_or(Fault::Handle)?;
-        let Some(Body::Semaphore { count, maximum }) = &mut object.body else {
+        let Object { kind: Kind::Semaphore, max, body, blocks, .. } = self.objects.object(entry.id.slot) else {
             return Err(Fault::Handle);
         };
         if !within(MODIFY_STATE, entry.rights) {
             return Err(Fault::Access);
         }
-        let before = *count;
-        if *maximum - before < more as u32 {
+        let count = body.signals;
+        if *max - count < more as u32 {
             return Err(Fault::TooManyPosts);
         }
-        *count += more as u32;
-        if object.blocks > 0 {
+        body.signals += more as u32;
+        if *blocks > 0 {
             self.waits.settle_after(&mut self.objects, entry.id.slot);
         }
-        Ok(Reply::Previous { count: before })
+        Ok(Reply::Previous { count })
     }
 
     pub(crate) fn unlocked(&mut self, thread: u32, handle: u32) -> Result<Reply, Fault> {
@@ -129,8 +126,7 @@ impl Manager {
             return Err(Fault::Parameter);
         }
         let place = &mut self.objects.slots[slot as usize];
-        let object = place.object.as_ref().ok_or(Fault::Handle)?;
-        if object.body.is_some() || place.phase != Phase::Closing {
+        if place.phase != Phase::Closing {
             return Err(Fault::Handle);
         }
         let id = Id { slot, generation: place.generation };
@@ -143,7 +139,6 @@ impl Manager {
             Ok(_) => Reclaim::Retired,
             Err(pins) => return Ok(Reply::Reaped { id, outcome: Reclaim::Held { pins } }),
         };
-        self.objects.slots[slot as usize].object = None;
         if outcome == Reclaim::Freed {
             self.vacant.give_back(slot);
         }
@@ -152,11 +147,10 @@ impl Manager {
 
     pub(crate) fn counted(&self, id: Id) -> Result<Reply, Fault> {
         let slot = self.objects.slots.get(id.slot as usize).ok_or(Fault::Parameter)?;
-        let object = slot.object.as_ref().ok_or(Fault::Handle)?;
-        if slot.generation != id.generation {
+        if !slot.has_object() || slot.generation != id.generation {
             return Err(Fault::Handle);
         }
-        let hold = u32::from(object.handles == 0 && object.blocks == 0);
-        Ok(Reply::CountsAre { handles: object.handles, waits: object.blocks, hold })
+        let Object { handles, blocks, .. } = slot.object;
+        Ok(Reply::CountsAre { handles, waits: u64::from(blocks), hold: u32::from(handles == 0 && blocks == 0) })
     }
 }

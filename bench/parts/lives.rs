@@ -2,19 +2,20 @@
 
 use super::answers::{Fault, Reply};
 use super::bits::Bits;
-use super::manager::{Manager, Process, Thread};
+use super::manager::{Manager, Process};
 use super::table::{INHERIT, Table};
+use super::waiting::Thread;
 
 impl Manager {
     fn start(&mut self, process: u32) -> u32 {
-        let thread = self.threads.len() as u32;
-        self.threads.push(Some(Thread { process, wait: None }));
+        let thread = self.waits.threads.len() as u32;
+        self.waits.threads.push(Thread::of(process));
         self.objects.owned.push(Vec::new());
         thread
     }
 
     fn has_numbers(&self) -> bool {
-        self.processes.len() as u32 <= self.limits.processes && self.threads.len() as u32 <= self.limits.threads
+        self.processes.len() as u32 <= self.limits.processes && self.waits.threads.len() as u32 <= self.limits.threads
     }
 
     pub(crate) fn added(&mut self, session: u32, table: Table<Bits>) -> Result<Reply, Fault> {
@@ -36,9 +37,7 @@ impl Manager {
         let session = parent.session;
         let table = if inherit { parent.table.with(INHERIT) } else { Table::default() };
         for entry in table.places.iter().flatten() {
-            if let Some(object) = self.objects.object(entry.id.slot) {
-                object.handles += 1;
-            }
+            self.objects.object(entry.id.slot).handles += 1;
         }
         self.added(session, table)
     }
@@ -47,7 +46,7 @@ impl Manager {
         if !self.is_live(process) {
             return Err(Fault::Parameter);
         }
-        if self.threads.len() as u32 > self.limits.threads {
+        if self.waits.threads.len() as u32 > self.limits.threads {
             return Err(Fault::Limit);
         }
         let thread = self.start(process);
@@ -57,9 +56,7 @@ impl Manager {
 
     /// A thread's wait is dropped, then its mutexes are abandoned; their slots.
     fn end_one(&mut self, thread: u32) -> Vec<u32> {
-        if let Some(Thread { wait: Some(wait), .. }) = self.threads[thread as usize].take() {
-            self.waits.drop_wait(&mut self.objects, wait);
-        }
+        self.waits.end(&mut self.objects, thread);
         self.objects.abandon(thread)
     }
 
@@ -73,7 +70,7 @@ impl Manager {
     }
 
     pub(crate) fn ended(&mut self, thread: u32) -> Result<Reply, Fault> {
-        let process = self.threads.get(thread as usize).and_then(Option::as_ref).ok_or(Fault::Parameter)?.process;
+        let process = self.thread_at(thread)?.process;
         let abandoned = self.end_one(thread);
         let threads = &mut self.process(process)?.threads;
         if let Ok(at) = threads.binary_search(&thread) {

@@ -5,14 +5,9 @@ use super::answers::{Fault, Kind, Limits, Make, Mode, Reply, Timeout};
 use super::bits::Bits;
 use super::directory::Directory;
 use super::id::Id;
-use super::objects::{Object, Objects};
+use super::objects::Objects;
 use super::table::{Entry, Free, Table};
-use super::waiting::Waits;
-
-pub struct Thread {
-    pub process: u32,
-    pub wait: Option<u32>,
-}
+use super::waiting::{Thread, Waits};
 
 pub struct Process {
     pub session: u32,
@@ -25,7 +20,6 @@ pub struct Process {
 pub struct Manager {
     pub(crate) limits: Limits,
     pub(crate) processes: Vec<Option<Process>>,
-    pub(crate) threads: Vec<Option<Thread>>,
     pub(crate) objects: Objects,
     pub(crate) vacant: Bits,
     pub(crate) births: u64,
@@ -42,13 +36,12 @@ impl Manager {
         Manager {
             limits,
             processes: vec![None],
-            threads: vec![None],
             objects: Objects::new(limits.slots),
             vacant,
             births: 0,
             held: Vec::new(),
             names: Directory::new(),
-            waits: Waits::new(limits.waits),
+            waits: Waits::new(limits.waits, limits.threads),
         }
     }
 
@@ -115,7 +108,15 @@ impl Manager {
     }
 
     pub fn wait(&mut self, thread: u32, mode: Mode, timeout: Timeout, handles: &[u32]) -> Reply {
-        self.waited(thread, mode, timeout, handles).into()
+        match handles {
+            [handle] => self.waited_for_one(thread, mode, timeout, *handle).into(),
+            _ => self.wait_for_some(thread, mode, timeout, handles),
+        }
+    }
+
+    #[inline(never)]
+    fn wait_for_some(&mut self, thread: u32, mode: Mode, timeout: Timeout, handles: &[u32]) -> Reply {
+        self.waited_for_some(thread, mode, timeout, handles).into()
     }
 
     pub fn wait_result(&mut self, wait: u32) -> Reply {
@@ -151,9 +152,17 @@ impl Manager {
         Ok(process.table.entry(handle).ok_or(Fault::Handle)?.id)
     }
 
+    pub(crate) fn thread_at(&self, thread: u32) -> Result<&Thread, Fault> {
+        let thread = self.waits.threads.get(thread as usize).ok_or(Fault::Parameter)?;
+        if thread.process == 0 {
+            return Err(Fault::Parameter);
+        }
+        Ok(thread)
+    }
+
     pub(crate) fn caller(&self, thread: u32) -> Result<u32, Fault> {
-        let thread = self.threads.get(thread as usize).and_then(Option::as_ref).ok_or(Fault::Parameter)?;
-        if thread.wait.is_some() {
+        let thread = self.thread_at(thread)?;
+        if thread.waits() {
             return Err(Fault::Busy);
         }
         Ok(thread.process)
@@ -170,9 +179,5 @@ impl Manager {
     pub(crate) fn found(&self, process: u32, handle: u32) -> Result<Entry, Fault> {
         let process = self.processes[process as usize].as_ref().ok_or(Fault::Parameter)?;
         process.table.entry(handle).ok_or(Fault::Handle)
-    }
-
-    pub(crate) fn object(&self, slot: u32) -> Option<&Object> {
-        self.objects.look(slot)
     }
 }

@@ -4,9 +4,9 @@
 
 use super::answers::{Fault, Kind};
 use super::body::Body;
-use super::id::Id;
 use std::sync::atomic::{AtomicU64, Ordering::SeqCst};
 
+#[derive(Default)]
 pub struct Object {
     pub birth: u64,
     pub kind: Kind,
@@ -14,8 +14,10 @@ pub struct Object {
     pub max: u32,
     pub grant: u32,
     pub handles: u32,
-    pub blocks: u64,
-    pub body: Option<Body>,
+    /// How many blocks of waits there are for it, and the place of the first one.
+    pub blocks: u32,
+    pub first: u32,
+    pub body: Body,
     pub is_named: bool,
     /// The hash of its name, if it has one.
     pub hash: u64,
@@ -33,7 +35,14 @@ pub enum Phase {
 pub struct Slot {
     pub generation: u32,
     pub phase: Phase,
-    pub object: Option<Object>,
+    /// Where the phase is live or closing.
+    pub object: Object,
+}
+
+impl Slot {
+    pub fn has_object(&self) -> bool {
+        matches!(self.phase, Phase::Live | Phase::Closing)
+    }
 }
 
 const _: () = assert!(size_of::<Slot>() == 64);
@@ -43,6 +52,9 @@ const LIVE: u64 = 1 << 30;
 const CLOSING: u64 = 3 << 30;
 
 const PINS: u64 = LIVE - 1;
+
+/// What an abandoned mutex adds to the code of a wait.
+const ABANDONED: u32 = 128;
 
 pub struct Objects {
     pub slots: Vec<Slot>,
@@ -54,7 +66,7 @@ pub struct Objects {
 
 impl Objects {
     pub fn new(slots: u32) -> Objects {
-        let slot = || Slot { generation: 1, phase: Phase::Free, object: None };
+        let slot = || Slot { generation: 1, phase: Phase::Free, object: Object::default() };
         let words = (0..2 * slots as usize).map(|_| AtomicU64::new(1 << 32)).collect();
         Objects { slots: (0..slots).map(|_| slot()).collect(), words, owned: vec![Vec::new()] }
     }
@@ -69,7 +81,7 @@ impl Objects {
     }
 
     /// A slot as a savestate says it.
-    pub fn restore(&mut self, slot: u32, generation: u32, phase: Phase, descr: u64, object: Option<Object>) {
+    pub fn restore(&mut self, slot: u32, generation: u32, phase: Phase, descr: u64, object: Object) {
         let at = slot as usize;
         let code = match phase {
             Phase::Free => 0,
@@ -99,39 +111,40 @@ impl Objects {
         Ok(phase)
     }
 
-    pub fn look(&self, slot: u32) -> Option<&Object> {
-        self.slots.get(slot as usize)?.object.as_ref()
+    /// The object of a slot that has one, or had it.
+    pub fn look(&self, slot: u32) -> &Object {
+        &self.slots[slot as usize].object
     }
 
-    pub fn object(&mut self, slot: u32) -> Option<&mut Object> {
-        self.slots.get_mut(slot as usize)?.object.as_mut()
+    pub fn object(&mut self, slot: u32) -> &mut Object {
+        &mut self.slots[slot as usize].object
     }
 
-    pub fn body(&self, slot: u32) -> Option<&Body> {
-        self.look(slot)?.body.as_ref()
+    /// What it adds to the code of a wait.
+    #[inline(always)]
+    pub fn acquire(&mut self, thread: u32, slot: u32) -> u32 {
+        let object = self.object(slot);
+        if object.kind == Kind::Mutex {
+            return self.own(thread, slot);
+        }
+        object.body.signals -= u32::from(!object.manual);
+        0
     }
 
-    /// Whether some thread that waits could take it.
-    pub fn is_free(&self, slot: u32) -> bool {
-        self.body(slot).is_some_and(Body::is_free)
-    }
-
-    pub fn is_signaled(&self, thread: u32, slot: u32) -> bool {
-        self.body(slot).is_some_and(|body| body.signaled_for(thread))
-    }
-
-    /// Whether it was abandoned.
-    pub fn acquire(&mut self, thread: u32, slot: u32) -> bool {
-        let Some(Object { body: Some(body), .. }) = self.object(slot) else {
-            return false;
-        };
-        let was_abandoned = body.is_abandoned();
-        let is_new = matches!(body, Body::Mutex(mutex) if mutex.owner.is_none());
-        body.acquire(thread);
-        if is_new {
+    #[inline(never)]
+    fn own(&mut self, thread: u32, slot: u32) -> u32 {
+        let body = &mut self.object(slot).body;
+        let Body { owner, recursion, abandoned, .. } = *body;
+        *body = Body { signals: 0, owner: thread, recursion: recursion + 1, abandoned: false };
+        if owner == 0 {
             self.owned[thread as usize].push(slot);
         }
-        was_abandoned
+        if abandoned { ABANDONED } else { 0 }
+    }
+
+    /// The code of a wait for all.
+    pub fn acquire_all(&mut self, thread: u32, slots: impl Iterator<Item = u32>) -> u32 {
+        slots.fold(0, |code, slot| code | self.acquire(thread, slot))
     }
 
     fn disown(&mut self, thread: u32, slot: u32) {
@@ -143,17 +156,17 @@ impl Objects {
 
     /// A mutex is owned once less. Whether nobody owns it now.
     pub fn unlock(&mut self, thread: u32, slot: u32) -> Result<bool, Fault> {
-        let Some(Object { body: Some(Body::Mutex(mutex)), .. }) = self.object(slot) else {
+        let Object { kind: Kind::Mutex, body, .. } = self.object(slot) else {
             return Err(Fault::Handle);
         };
-        if mutex.owner != Some(thread) {
+        if body.owner != thread {
             return Err(Fault::NotOwner);
         }
-        mutex.recursion -= 1;
-        if mutex.recursion > 0 {
+        body.recursion -= 1;
+        if body.recursion > 0 {
             return Ok(false);
         }
-        mutex.owner = None;
+        (body.signals, body.owner) = (1, 0);
         self.disown(thread, slot);
         Ok(true)
     }
@@ -162,32 +175,27 @@ impl Objects {
     pub fn abandon(&mut self, thread: u32) -> Vec<u32> {
         let slots = std::mem::take(&mut self.owned[thread as usize]);
         for slot in &slots {
-            if let Some(Object { body: Some(Body::Mutex(mutex)), .. }) = self.object(*slot) {
-                mutex.owner = None;
-                mutex.recursion = 0;
-                mutex.abandoned = true;
-            }
+            self.object(*slot).body = Body::of_mutex(None, 0, true);
         }
         slots
     }
 
     /// Nothing refers to it any more.
+    #[inline(never)]
     fn end(&mut self, slot: u32) {
         self.words[slot as usize].fetch_or(CLOSING, SeqCst);
         let place = &mut self.slots[slot as usize];
         place.phase = Phase::Closing;
-        let body = place.object.as_mut().and_then(|object| object.body.take());
-        if let Some(Body::Mutex(mutex)) = body {
-            if let Some(owner) = mutex.owner {
-                self.disown(owner, slot);
-            }
+        let owner = std::mem::take(&mut place.object.body).owner;
+        if owner != 0 {
+            self.disown(owner, slot);
         }
     }
 
     /// Whether it was the last handle of an object that has a name; then its hash.
     #[inline(always)]
     pub fn handle_left(&mut self, slot: u32) -> Option<u64> {
-        let object = self.object(slot)?;
+        let object = self.object(slot);
         object.handles -= 1;
         if object.handles > 0 {
             return None;
@@ -199,21 +207,26 @@ impl Objects {
         hash
     }
 
-    pub fn blocks_came(&mut self, ids: &[Id]) {
-        for id in ids {
-            if let Some(object) = self.object(id.slot) {
-                object.blocks += 1;
-            }
+    /// How many blocks it had before.
+    #[inline(always)]
+    pub fn block_came(&mut self, slot: u32, place: u32) -> u32 {
+        let object = self.object(slot);
+        if object.blocks == 0 {
+            object.first = place;
         }
+        object.blocks += 1;
+        object.blocks - 1
     }
 
-    pub fn block_left(&mut self, slot: u32) {
-        let Some(object) = self.object(slot) else {
-            return;
-        };
+    /// How many blocks it has yet.
+    #[inline(always)]
+    pub fn block_left(&mut self, slot: u32) -> u32 {
+        let object = self.object(slot);
         object.blocks -= 1;
-        if object.blocks == 0 && object.handles == 0 {
+        let left = object.blocks;
+        if left | object.handles == 0 {
             self.end(slot);
         }
+        left
     }
 }

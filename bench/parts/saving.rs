@@ -2,14 +2,14 @@
 
 use super::answers::{Kind, Limits, Mode};
 use super::bits::Bits;
-use super::body::{Body, Mutex};
+use super::body::Body;
 use super::directory::{GLOBAL, hash_of};
 use super::id::Id;
-use super::manager::{Manager, Process, Thread};
+use super::manager::{Manager, Process};
 use super::objects::{Object, Phase};
 use super::sha256::sha256;
 use super::table::{Entry, Free, Table};
-use super::waiting::Shown;
+use super::waiting::{Shown, Thread};
 
 const MARK: u64 = 0x1_534a_424f;
 
@@ -41,21 +41,19 @@ fn put_entry(out: &mut Vec<u8>, entry: &Option<Entry>) {
     }
 }
 
-fn put_body(out: &mut Vec<u8>, body: &Option<Body>) {
-    out.push(u8::from(body.is_some()));
-    match body {
-        None => {}
-        Some(Body::Event { manual, set }) => out.extend([0, u8::from(*manual), u8::from(*set)]),
-        Some(Body::Mutex(mutex)) => {
-            out.push(1);
-            put_option(out, mutex.owner);
-            put(out, mutex.recursion);
-            out.push(u8::from(mutex.abandoned));
+fn put_body(out: &mut Vec<u8>, object: &Object) {
+    let Body { signals, owner, recursion, abandoned } = object.body;
+    out.push(object.kind as u8);
+    match object.kind {
+        Kind::Event => out.extend([u8::from(object.manual), signals as u8]),
+        Kind::Mutex => {
+            put_option(out, (owner != 0).then_some(owner));
+            put(out, recursion);
+            out.push(u8::from(abandoned));
         }
-        Some(Body::Semaphore { count, maximum }) => {
-            out.push(2);
-            put(out, *count);
-            put(out, *maximum);
+        Kind::Semaphore => {
+            put(out, signals);
+            put(out, object.max);
         }
     }
 }
@@ -76,9 +74,9 @@ pub fn save(m: &Manager) -> Vec<u8> {
     for process in &m.processes {
         put_option(&mut out, process.as_ref().map(|process| process.session));
     }
-    put(&mut out, m.threads.len() as u32);
-    for thread in &m.threads {
-        put_option(&mut out, thread.as_ref().map(|thread| thread.process));
+    put(&mut out, m.waits.threads.len() as u32);
+    for thread in &m.waits.threads {
+        put_option(&mut out, (thread.process != 0).then_some(thread.process));
     }
     put(&mut out, m.processes.len() as u32);
     for process in &m.processes {
@@ -94,7 +92,7 @@ pub fn save(m: &Manager) -> Vec<u8> {
 }
 
 fn put_waits(out: &mut Vec<u8>, m: &Manager) {
-    let mut shown = m.waits.shown();
+    let mut shown = m.waits.shown(&m.objects);
     shown.sort_unstable_by_key(|wait| wait.number);
     put(out, m.waits.given());
     put(out, shown.len() as u32);
@@ -122,14 +120,18 @@ fn put_slots(out: &mut Vec<u8>, m: &Manager) {
     for (slot, name) in m.objects.slots.iter().zip(names) {
         put(out, slot.generation);
         out.push(u8::from(slot.phase == Phase::Retired));
-        out.push(u8::from(slot.object.is_some()));
-        let Some(object) = &slot.object else {
+        out.push(u8::from(slot.has_object()));
+        if !slot.has_object() {
             continue;
-        };
+        }
+        let object = &slot.object;
         out.extend(object.birth.to_le_bytes());
         out.extend(descr_of(object).to_le_bytes());
         put(out, object.grant);
-        put_body(out, &object.body);
+        out.push(u8::from(slot.phase == Phase::Live));
+        if slot.phase == Phase::Live {
+            put_body(out, object);
+        }
         out.push(u8::from(name.is_some()));
         if let Some((space, base)) = name {
             put(out, if space == GLOBAL { 0 } else { space as u32 });
@@ -202,17 +204,22 @@ impl<'a> Cursor<'a> {
         (numbers.len() <= limit as usize + 1 && numbers.first() == Some(&None)).then_some(numbers)
     }
 
-    fn body(&mut self) -> Option<Body> {
+    /// A body, and the descriptor of what has it.
+    fn body(&mut self) -> Option<(Body, u64)> {
         match self.take(1)? {
-            [0] => Some(Body::Event { manual: self.flag()?, set: self.flag()? }),
+            [0] => {
+                let (manual, set) = (self.flag()?, self.flag()?);
+                Some((Body { signals: u32::from(set), ..Body::default() }, u64::from(manual) << 2))
+            }
             [1] => {
                 let (owner, recursion, abandoned) = (self.option(Cursor::four)?, self.four()?, self.flag()?);
                 let is_right = if owner.is_some() { (1..=2_147_483_647).contains(&recursion) && !abandoned } else { recursion == 0 };
-                is_right.then_some(Body::Mutex(Mutex { owner, recursion, abandoned }))
+                is_right.then_some((Body::of_mutex(owner, recursion, abandoned), 1))
             }
             [2] => {
                 let (count, maximum) = (self.four()?, self.four()?);
-                (0 < maximum && count <= maximum && maximum <= 2_147_483_647).then_some(Body::Semaphore { count, maximum })
+                let is_right = 0 < maximum && count <= maximum && maximum <= 2_147_483_647;
+                is_right.then_some((Body { signals: count, ..Body::default() }, 2 | u64::from(maximum) << 3))
             }
             _ => None,
         }
@@ -241,14 +248,6 @@ impl<'a> Cursor<'a> {
         let ids = self.list(Cursor::id)?;
         let is_right = (1..=64).contains(&ids.len());
         is_right.then_some(Shown { number, thread, pending: Some((mode, ids)), code: 0 })
-    }
-}
-
-fn is_of(descr: u64, body: &Body) -> bool {
-    match body {
-        Body::Event { manual, .. } => descr == u64::from(*manual) << 2,
-        Body::Mutex(_) => descr == 1,
-        Body::Semaphore { maximum, .. } => descr == 2 | u64::from(*maximum) << 3,
     }
 }
 
@@ -305,32 +304,33 @@ fn read_slots<'a>(c: &mut Cursor<'a>, m: &mut Manager, owners: &[Option<u32>]) -
             if retired {
                 m.vacant.take(slot);
             }
-            m.objects.restore(slot, generation, if retired { Phase::Retired } else { Phase::Free }, 0, None);
+            m.objects.restore(slot, generation, if retired { Phase::Retired } else { Phase::Free }, 0, Object::default());
             continue;
         }
         let (birth, descr, grant) = (c.eight()?, c.eight()?, c.four()?);
         let (body, name) = (c.option(Cursor::body)?, c.option(Cursor::name)?);
-        if body.as_ref().is_some_and(|body| !is_of(descr, body)) {
+        if body.is_some_and(|(_, of)| of != descr) {
             return None;
         }
+        let phase = if body.is_some() { Phase::Live } else { Phase::Closing };
+        let body = body.map_or_else(Body::default, |(body, _)| body);
         let kind = [Kind::Event, Kind::Mutex, Kind::Semaphore].into_iter().nth(descr as usize & 3)?;
-        if let Some(Body::Mutex(Mutex { owner: Some(owner), .. })) = body {
-            owners.get(owner as usize).copied().flatten()?;
-            m.objects.owned[owner as usize].push(slot);
+        if descr == 1 && phase == Phase::Live && body.signals == 0 {
+            owners.get(body.owner as usize).copied().flatten()?;
+            m.objects.owned[body.owner as usize].push(slot);
         }
         let hash = name.map_or(0, |(space, base)| hash_of(space, base));
-        let phase = if body.is_some() { Phase::Live } else { Phase::Closing };
         let (manual, max) = (descr & 4 != 0, (descr >> 3) as u32);
-        let object = Object { birth, kind, manual, max, grant, handles: 0, blocks: 0, body, is_named: name.is_some(), hash };
+        let object = Object { birth, kind, manual, max, grant, handles: 0, blocks: 0, first: 0, body, is_named: name.is_some(), hash };
         m.vacant.take(slot);
-        m.objects.restore(slot, generation, phase, descr, Some(object));
+        m.objects.restore(slot, generation, phase, descr, object);
         births.push((birth, slot, name));
     }
     Some(births)
 }
 
 fn is_there(m: &Manager, id: Id) -> bool {
-    m.objects.slots.get(id.slot as usize).is_some_and(|slot| slot.generation == id.generation && slot.object.is_some())
+    m.objects.slots.get(id.slot as usize).is_some_and(|slot| slot.generation == id.generation && slot.has_object())
 }
 
 fn put_processes(m: &mut Manager, sessions: Vec<Option<u32>>, owners: Vec<Option<u32>>, tables: Vec<Vec<Option<Entry>>>) -> Option<()> {
@@ -339,19 +339,19 @@ fn put_processes(m: &mut Manager, sessions: Vec<Option<u32>>, owners: Vec<Option
         let mut free = Bits::default();
         for (place, entry) in places.iter().enumerate() {
             match entry {
-                Some(entry) if is_there(m, entry.id) => m.objects.object(entry.id.slot)?.handles += 1,
+                Some(entry) if is_there(m, entry.id) => m.objects.object(entry.id.slot).handles += 1,
                 Some(_) => return None,
                 None => free.give_back(place as u32),
             }
         }
         m.processes.push(session.map(|session| Process { session, threads: Vec::new(), table: Table { places, free } }));
     }
-    m.threads.clear();
+    m.waits.threads.clear();
     for (thread, owner) in owners.into_iter().enumerate() {
         if let Some(process) = owner {
             m.processes.get_mut(process as usize)?.as_mut()?.threads.push(thread as u32);
         }
-        m.threads.push(owner.map(|process| Thread { process, wait: None }));
+        m.waits.threads.push(Thread::of(owner.unwrap_or(0)));
     }
     Some(())
 }
@@ -359,8 +359,7 @@ fn put_processes(m: &mut Manager, sessions: Vec<Option<u32>>, owners: Vec<Option
 fn restore_waits(m: &mut Manager, waits: Vec<Shown>, last: u32) -> Option<()> {
     let mut before = 0;
     for Shown { number, thread, pending, code } in waits {
-        let of = m.threads.get_mut(thread as usize)?.as_mut()?;
-        if number <= before || number > last || of.wait.replace(number).is_some() {
+        if number <= before || number > last || m.caller(thread).is_err() {
             return None;
         }
         before = number;
@@ -373,13 +372,14 @@ fn restore_waits(m: &mut Manager, waits: Vec<Shown>, last: u32) -> Option<()> {
         if mode == Mode::All && ids.iter().enumerate().any(twice) || !ids.iter().all(|id| is_there(m, *id)) {
             return None;
         }
-        let is_signaled = |id: &Id| m.objects.is_signaled(thread, id.slot);
+        let is_signaled = |id: &Id| m.objects.look(id.slot).body.signaled_for(thread);
         let is_satisfied = if mode == Mode::Any { ids.iter().any(is_signaled) } else { ids.iter().all(is_signaled) };
-        let has_room = |id: &Id| m.objects.body(id.slot).is_none_or(|body| body.has_room(thread, m.limits.max_recursion));
+        let has_room = |id: &Id| m.objects.look(id.slot).body.has_room(thread, m.limits.max_recursion);
         if is_satisfied || !ids.iter().all(has_room) {
             return None;
         }
-        m.waits.add(&mut m.objects, thread, mode, &ids).ok()?;
+        let slots: Vec<u32> = ids.iter().map(|id| id.slot).collect();
+        m.waits.add(&mut m.objects, thread, mode, &slots).ok()?;
     }
     m.waits.skip_to(last);
     Some(())
@@ -387,21 +387,19 @@ fn restore_waits(m: &mut Manager, waits: Vec<Shown>, last: u32) -> Option<()> {
 
 fn enter_names(m: &mut Manager, births: &[Birth<'_>]) -> Option<()> {
     for (_, slot, name) in births {
-        let (Some((space, base)), Some(object)) = (name, m.objects.look(*slot)) else {
+        let object = m.objects.look(*slot);
+        let Some((space, base)) = name.filter(|_| object.handles > 0) else {
             continue;
         };
-        if object.handles == 0 {
-            continue;
-        }
-        if m.names.find(object.hash, *space, base).is_some() {
+        if m.names.find(object.hash, space, base).is_some() {
             return None;
         }
         let id = Id { slot: *slot, generation: m.objects.slots[*slot as usize].generation };
-        m.names.enter(object.hash, *space, base, id);
+        m.names.enter(object.hash, space, base, id);
     }
     Some(())
 }
 
 fn are_bodied(m: &Manager) -> bool {
-    m.objects.slots.iter().flat_map(|slot| &slot.object).all(|object| object.body.is_some() == (object.handles > 0 || object.blocks > 0))
+    m.objects.slots.iter().all(|slot| (slot.phase == Phase::Live) == (slot.object.handles > 0 || slot.object.blocks > 0))
 }

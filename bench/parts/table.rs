@@ -26,10 +26,7 @@ pub struct Table<F> {
 
 impl<F: Free> Table<F> {
     pub fn entry(&self, value: u32) -> Option<Entry> {
-        if value < 4 {
-            return None;
-        }
-        *self.places.get(value as usize / 4 - 1)?
+        *self.places.get((value / 4).wrapping_sub(1) as usize)?
     }
 
     pub fn is_full(&self, limit: u32) -> bool {

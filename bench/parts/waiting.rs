@@ -1,149 +1,76 @@
-//! Waits: each at its thread, in linked lists by the slots of what it waits for, and found by its number.
+//! Waits: each at its thread, with a block for each object that it lists. The blocks of an object are a ring, by rising number.
+//!
+//! A block's place is made of its thread and its index in the list. No place is 0, and no thread.
 
 use super::answers::{Fault, Mode, WAIT_TIMEOUT};
 use super::id::Id;
-use super::objects::Objects;
-use std::collections::{HashMap, VecDeque};
-use std::hash::{BuildHasherDefault, Hasher};
+use super::objects::{Object, Objects};
+use std::collections::BTreeMap;
 
-/// No place.
-const NONE: u32 = u32::MAX;
+/// How many bits of a place are the index.
+const INDEX_BITS: u32 = 6;
 
-/// A wait's place in the list of a slot. A free one is linked by `behind`.
-#[derive(Clone, Copy)]
+fn thread_of(place: u32) -> u32 {
+    place >> INDEX_BITS
+}
+
+fn index_of(place: u32) -> u32 {
+    place % (1 << INDEX_BITS)
+}
+
+/// A wait's place in the ring of an object, where a lone block is before and behind itself.
+#[derive(Clone, Copy, Default)]
 struct Block {
-    number: u32,
-    thread: u32,
-    id: Id,
+    slot: u32,
     before: u32,
     behind: u32,
 }
 
-/// The blocks of a slot, by rising number of their waits.
-#[derive(Clone, Copy)]
-struct Queue {
-    first: u32,
-    last: u32,
-}
-
-struct Blocks {
-    pool: Vec<Block>,
-    free: u32,
-    queues: Vec<Queue>,
-}
-
-impl Blocks {
-    fn first(&self, slot: u32) -> u32 {
-        self.queues.get(slot as usize).map_or(NONE, |queue| queue.first)
-    }
-
-    fn queue(&mut self, slot: u32) -> &mut Queue {
-        let at = slot as usize;
-        if self.queues.len() <= at {
-            self.queues.resize(at + 1, Queue { first: NONE, last: NONE });
-        }
-        &mut self.queues[at]
-    }
-
-    /// A block at the end of its slot's list; its place.
-    fn link(&mut self, number: u32, thread: u32, id: Id) -> u32 {
-        let before = self.queue(id.slot).last;
-        let block = Block { number, thread, id, before, behind: NONE };
-        let place = if self.free == NONE {
-            self.pool.push(block);
-            self.pool.len() as u32 - 1
-        } else {
-            let place = self.free;
-            self.free = self.pool[place as usize].behind;
-            self.pool[place as usize] = block;
-            place
-        };
-        match before {
-            NONE => self.queue(id.slot).first = place,
-            _ => self.pool[before as usize].behind = place,
-        }
-        self.queue(id.slot).last = place;
-        place
-    }
-
-    fn unlink(&mut self, place: u32) {
-        let Block { id, before, behind, .. } = self.pool[place as usize];
-        match before {
-            NONE => self.queue(id.slot).first = behind,
-            _ => self.pool[before as usize].behind = behind,
-        }
-        match behind {
-            NONE => self.queue(id.slot).last = before,
-            _ => self.pool[behind as usize].before = before,
-        }
-        self.pool[place as usize].behind = self.free;
-        self.free = place;
-    }
-}
-
-/// The blocks of a wait: one in place, or a list.
-enum Places {
-    One([u32; 1]),
-    More(Vec<u32>),
-}
-
-impl Places {
-    fn as_slice(&self) -> &[u32] {
-        match self {
-            Places::One(place) => place,
-            Places::More(places) => places,
-        }
-    }
-}
-
-enum State {
-    Pending(Mode, Places),
-    Answered(u32),
-}
-
-struct Wait {
-    number: u32,
-    state: State,
-}
-
-/// Multiplies a number by an odd constant.
 #[derive(Clone, Copy, Default)]
-struct NumberHasher(u64);
-
-impl Hasher for NumberHasher {
-    fn finish(&self) -> u64 {
-        self.0
-    }
-
-    fn write(&mut self, bytes: &[u8]) {
-        for byte in bytes {
-            self.write_u32(u32::from(*byte));
-        }
-    }
-
-    fn write_u32(&mut self, number: u32) {
-        self.0 = (self.0.rotate_left(5) ^ u64::from(number)).wrapping_mul(0x9e37_79b9_7f4a_7c15);
-    }
+enum State {
+    #[default]
+    Answered,
+    Pending(Mode),
 }
 
-/// What a list takes now, and its code.
-pub fn try_now(objects: &mut Objects, thread: u32, mode: Mode, ids: &[Id]) -> Option<u32> {
-    match mode {
-        Mode::Any => {
-            let index = ids.iter().position(|id| objects.is_signaled(thread, id.slot))?;
-            let was_abandoned = objects.acquire(thread, ids[index].slot);
-            Some(index as u32 + if was_abandoned { 128 } else { 0 })
-        }
-        Mode::All => {
-            if !ids.iter().all(|id| objects.is_signaled(thread, id.slot)) {
-                return None;
-            }
-            let mut was_abandoned = false;
-            for id in ids {
-                was_abandoned |= objects.acquire(thread, id.slot);
-            }
-            Some(if was_abandoned { 128 } else { 0 })
-        }
+/// A thread with its wait, on one cache line.
+#[derive(Default)]
+#[repr(align(64))]
+pub struct Thread {
+    /// Its process, or 0 once it has ended.
+    pub process: u32,
+    /// The number of its wait, or 0.
+    wait: u32,
+    state: State,
+    code: u32,
+    /// The block of a wait for one object.
+    block: Block,
+    /// The blocks of a wait for several; none of a wait for one.
+    blocks: Vec<Block>,
+    /// The threads whose answers come before and behind this one's.
+    earlier: u32,
+    later: u32,
+}
+
+const _: () = assert!(size_of::<Thread>() == 64);
+
+impl Thread {
+    pub fn of(process: u32) -> Thread {
+        Thread { process, ..Thread::default() }
+    }
+
+    pub fn waits(&self) -> bool {
+        self.wait != 0
+    }
+
+    fn blocks(&self) -> &[Block] {
+        if self.blocks.is_empty() { std::slice::from_ref(&self.block) } else { &self.blocks }
+    }
+
+    /// Its blocks are counted off their objects. Whether some of these have others, whose rings they are still in.
+    #[inline(always)]
+    fn drop_blocks(&self, objects: &mut Objects) -> bool {
+        self.blocks().iter().fold(0, |others, block| others | objects.block_left(block.slot)) > 0
     }
 }
 
@@ -155,57 +82,159 @@ pub struct Shown {
     pub code: u32,
 }
 
-/// The waits of all threads. Their numbers rise from 1.
+/// The threads and their waits, whose numbers rise from 1.
 pub struct Waits {
     limit: u32,
     given: u32,
-    /// By thread.
-    waits: Vec<Option<Wait>>,
-    /// By number.
-    threads: HashMap<u32, u32, BuildHasherDefault<NumberHasher>>,
-    blocks: Blocks,
-    /// Those that are answered and not taken, by rising number.
-    answered: VecDeque<u32>,
+    pub threads: Vec<Thread>,
+    /// By the low bits of its number, the thread of the last wait that has them.
+    recent: Vec<u32>,
+    /// By its number, the thread of a wait that is no longer among those.
+    old: BTreeMap<u32, u32>,
+    /// The threads whose answers aren't taken, by rising number of their waits: the first and the last.
+    first: u32,
+    last: u32,
+    /// By its number, the thread of a wait that was answered when a greater one already was.
+    late: BTreeMap<u32, u32>,
 }
 
 impl Waits {
-    pub fn new(limit: u32) -> Waits {
-        let blocks = Blocks { pool: Vec::new(), free: NONE, queues: Vec::new() };
-        Waits { limit, given: 0, waits: Vec::new(), threads: HashMap::default(), blocks, answered: VecDeque::new() }
+    /// With room for so many threads.
+    pub fn new(limit: u32, most: u32) -> Waits {
+        let mut threads = Vec::with_capacity(most as usize + 1);
+        threads.push(Thread::default());
+        let recent = vec![0; most.next_power_of_two() as usize];
+        let (old, late) = (BTreeMap::new(), BTreeMap::new());
+        Waits { limit, given: 0, threads, recent, old, first: 0, last: 0, late }
     }
 
-    /// The wait's number, and where each was given, the limit.
-    pub fn add(&mut self, objects: &mut Objects, thread: u32, mode: Mode, ids: &[Id]) -> Result<u32, Fault> {
+    fn at(&mut self, thread: u32) -> &mut Thread {
+        &mut self.threads[thread as usize]
+    }
+
+    fn block(&mut self, place: u32) -> &mut Block {
+        let thread = self.at(thread_of(place));
+        if thread.blocks.is_empty() { &mut thread.block } else { &mut thread.blocks[index_of(place) as usize] }
+    }
+
+    fn recent(&mut self, number: u32) -> &mut u32 {
+        let mask = self.recent.len() - 1;
+        &mut self.recent[number as usize & mask]
+    }
+
+    /// The thread's wait gets the next number.
+    #[inline(always)]
+    fn enter(&mut self, thread: u32, state: State) -> u32 {
+        self.given += 1;
+        let number = self.given;
+        let before = std::mem::replace(self.recent(number), thread);
+        if before != 0 {
+            self.old.insert(self.threads[before as usize].wait, before);
+        }
+        let at = self.at(thread);
+        (at.wait, at.state) = (number, state);
+        number
+    }
+
+    #[inline(always)]
+    fn found(&self, number: u32) -> Result<u32, Fault> {
+        let thread = self.recent[number as usize & (self.recent.len() - 1)];
+        if thread != 0 && self.threads[thread as usize].wait == number {
+            return Ok(thread);
+        }
+        self.old.get(&number).copied().ok_or(Fault::Parameter)
+    }
+
+    /// The thread waits no more.
+    #[inline(always)]
+    fn leave(&mut self, thread: u32) {
+        let number = std::mem::take(&mut self.at(thread).wait);
+        let recent = self.recent(number);
+        if *recent == thread {
+            *recent = 0;
+        } else {
+            self.old.remove(&number);
+        }
+    }
+
+    /// The wait's number.
+    #[inline(always)]
+    pub fn add(&mut self, objects: &mut Objects, thread: u32, mode: Mode, slots: &[u32]) -> Result<u32, Fault> {
         if self.given >= self.limit {
             return Err(Fault::Limit);
         }
-        self.given += 1;
-        let number = self.given;
-        let places = match ids {
-            [id] => Places::One([self.blocks.link(number, thread, *id)]),
-            _ => Places::More(ids.iter().map(|id| self.blocks.link(number, thread, *id)).collect()),
+        let number = self.enter(thread, State::Pending(mode));
+        let at = &mut self.threads[thread as usize];
+        let blocks = match slots {
+            [_] => {
+                at.blocks.clear();
+                std::slice::from_mut(&mut at.block)
+            }
+            _ => {
+                at.blocks.resize(slots.len(), Block::default());
+                &mut at.blocks
+            }
         };
-        objects.blocks_came(ids);
-        let at = thread as usize;
-        if self.waits.len() <= at {
-            self.waits.resize_with(at + 1, || None);
+        let mut others = 0;
+        for (index, (block, slot)) in blocks.iter_mut().zip(slots).enumerate() {
+            let place = thread << INDEX_BITS | index as u32;
+            *block = Block { slot: *slot, before: place, behind: place };
+            others |= objects.block_came(*slot, place);
         }
-        self.waits[at] = Some(Wait { number, state: State::Pending(mode, places) });
-        self.threads.insert(number, thread);
+        if others > 0 {
+            self.join(objects, thread);
+        }
         Ok(number)
+    }
+
+    /// The blocks of a thread that aren't the first of their objects come last there.
+    #[inline(never)]
+    fn join(&mut self, objects: &Objects, thread: u32) {
+        for index in 0..self.at(thread).blocks().len() {
+            let place = thread << INDEX_BITS | index as u32;
+            let first = objects.look(self.block(place).slot).first;
+            if first != place {
+                let last = std::mem::replace(&mut self.block(first).before, place);
+                self.block(last).behind = place;
+                let block = self.block(place);
+                (block.before, block.behind) = (last, first);
+            }
+        }
+    }
+
+    /// The blocks of a thread that aren't alone leave the rings of their objects.
+    #[inline(never)]
+    fn part(&mut self, objects: &mut Objects, thread: u32) {
+        for index in 0..self.at(thread).blocks().len() {
+            let place = thread << INDEX_BITS | index as u32;
+            let Block { slot, before, behind } = *self.block(place);
+            if behind != place {
+                self.block(before).behind = behind;
+                self.block(behind).before = before;
+                let object = objects.object(slot);
+                if object.first == place {
+                    object.first = behind;
+                }
+            }
+        }
     }
 
     pub fn given(&self) -> u32 {
         self.given
     }
 
-    pub fn shown(&self) -> Vec<Shown> {
-        let ids = |places: &Places| places.as_slice().iter().map(|place| self.blocks.pool[*place as usize].id).collect();
-        let shown = |(thread, wait): (usize, &Wait)| match &wait.state {
-            State::Pending(mode, places) => Shown { number: wait.number, thread: thread as u32, pending: Some((*mode, ids(places))), code: 0 },
-            State::Answered(code) => Shown { number: wait.number, thread: thread as u32, pending: None, code: *code },
+    pub fn shown(&self, objects: &Objects) -> Vec<Shown> {
+        let id = |block: &Block| Id { slot: block.slot, generation: objects.slots[block.slot as usize].generation };
+        let shown = |(thread, at): (usize, &Thread)| Shown {
+            number: at.wait,
+            thread: thread as u32,
+            pending: match at.state {
+                State::Pending(mode) => Some((mode, at.blocks().iter().map(id).collect())),
+                State::Answered => None,
+            },
+            code: at.code,
         };
-        self.waits.iter().enumerate().filter_map(|(thread, wait)| Some((thread, wait.as_ref()?))).map(shown).collect()
+        self.threads.iter().enumerate().filter(|(_, at)| at.waits()).map(shown).collect()
     }
 
     /// The numbers up to this one are given to nobody.
@@ -214,68 +243,101 @@ impl Waits {
     }
 
     pub fn add_answered(&mut self, thread: u32, code: u32) {
-        self.given += 1;
-        let at = thread as usize;
-        if self.waits.len() <= at {
-            self.waits.resize_with(at + 1, || None);
-        }
-        self.waits[at] = Some(Wait { number: self.given, state: State::Answered(code) });
-        self.threads.insert(self.given, thread);
-        self.note_answer(self.given);
+        self.enter(thread, State::Answered);
+        self.at(thread).code = code;
+        self.note_answer(thread);
     }
 
-    fn note_answer(&mut self, number: u32) {
-        if self.answered.back().is_none_or(|last| *last < number) {
-            self.answered.push_back(number);
-            return;
+    #[inline(never)]
+    fn note_answer(&mut self, thread: u32) {
+        let (last, number) = (self.last, self.at(thread).wait);
+        match last {
+            0 => self.first = thread,
+            _ if self.at(last).wait < number => self.at(last).later = thread,
+            _ => {
+                self.late.insert(number, thread);
+                return;
+            }
         }
-        let at = self.answered.partition_point(|other| *other < number);
-        self.answered.insert(at, number);
+        self.last = thread;
+        let at = self.at(thread);
+        (at.earlier, at.later) = (last, 0);
     }
 
-    fn drop_answer(&mut self, number: u32) {
-        if self.answered.front() == Some(&number) {
-            self.answered.pop_front();
-            return;
-        }
-        if let Ok(at) = self.answered.binary_search(&number) {
-            self.answered.remove(at);
-        }
+    /// The least wait that is answered and not taken, which is over with that: its thread and the code.
+    pub fn take_answered(&mut self) -> Option<(u32, u32)> {
+        let thread = match self.late.first_key_value() {
+            Some((number, thread)) if self.first == 0 || *number < self.threads[self.first as usize].wait => *thread,
+            _ => self.first,
+        };
+        (thread != 0).then(|| (thread, self.take(thread)))
     }
 
-    /// The least wait that is answered and not taken.
-    pub fn next_answered(&self) -> Option<u32> {
-        self.answered.front().copied()
-    }
-
-    fn found(&self, number: u32) -> Result<(u32, &Wait), Fault> {
-        let thread = *self.threads.get(&number).ok_or(Fault::Parameter)?;
-        Ok((thread, self.waits[thread as usize].as_ref().ok_or(Fault::Parameter)?))
+    /// An answer is taken, or goes with its thread.
+    #[inline(always)]
+    fn take(&mut self, thread: u32) -> u32 {
+        let Thread { wait, code, earlier, later, .. } = self.threads[thread as usize];
+        self.leave(thread);
+        if self.late.is_empty() || self.late.remove(&wait).is_none() {
+            match earlier {
+                0 => self.first = later,
+                _ => self.at(earlier).later = later,
+            }
+            match later {
+                0 => self.last = earlier,
+                _ => self.at(later).earlier = earlier,
+            }
+        }
+        code
     }
 
     pub fn is_pending(&self, number: u32) -> bool {
-        self.found(number).is_ok_and(|(_, wait)| matches!(wait.state, State::Pending(..)))
+        self.found(number).is_ok_and(|thread| matches!(self.threads[thread as usize].state, State::Pending(_)))
     }
 
     /// The waits for a slot take effect, by rising number, as long as it has something to take.
     pub fn settle_after(&mut self, objects: &mut Objects, slot: u32) {
-        let mut place = self.blocks.first(slot);
-        while place != NONE && objects.is_free(slot) {
-            let Block { number, thread, .. } = self.blocks.pool[place as usize];
-            // (a wait may have several blocks here, and all leave with it)
-            while place != NONE && self.blocks.pool[place as usize].number == number {
-                place = self.blocks.pool[place as usize].behind;
-            }
-            self.take_effect(objects, thread);
+        let Object { first, blocks, .. } = *objects.look(slot);
+        match blocks {
+            0 => {}
+            1 => self.reach(objects, slot, first),
+            _ => self.settle_ring(objects, slot, first, blocks),
         }
     }
 
-    fn waiters(&self, slot: u32, found: &mut Vec<(u32, u32)>) {
-        let mut place = self.blocks.first(slot);
-        while place != NONE {
-            let block = self.blocks.pool[place as usize];
-            found.push((block.number, block.thread));
-            place = block.behind;
+    #[inline(never)]
+    fn settle_ring(&mut self, objects: &mut Objects, slot: u32, first: u32, blocks: u32) {
+        let mut place = first;
+        for _ in 0..blocks {
+            if objects.look(slot).body.signals == 0 {
+                return;
+            }
+            let behind = self.block(place).behind;
+            self.reach(objects, slot, place);
+            place = behind;
+        }
+    }
+
+    /// What a block is for may be taken. A wait that has another block there may be answered already, and nothing else is
+    /// signaled that a wait for any is for.
+    #[inline(always)]
+    fn reach(&mut self, objects: &mut Objects, slot: u32, place: u32) {
+        let thread = thread_of(place);
+        match self.at(thread).state {
+            State::Pending(Mode::Any) => {
+                let code = index_of(place) + objects.acquire(thread, slot);
+                self.answer(objects, thread, code);
+            }
+            _ => self.take_effect(objects, thread),
+        }
+    }
+
+    fn waiters(&mut self, objects: &Objects, slot: u32, found: &mut Vec<(u32, u32)>) {
+        let Object { first: mut place, blocks, .. } = *objects.look(slot);
+        for _ in 0..blocks {
+            let thread = thread_of(place);
+            found.push((self.at(thread).wait, thread));
+            place = self.block(place).behind;
         }
     }
 
@@ -286,99 +348,80 @@ impl Waits {
             [slot] => self.settle_after(objects, *slot),
             _ => {
                 let mut found = Vec::new();
-                slots.iter().for_each(|slot| self.waiters(*slot, &mut found));
+                slots.iter().for_each(|slot| self.waiters(objects, *slot, &mut found));
                 found.sort_unstable();
                 found.dedup();
-                for (_, thread) in found {
-                    self.take_effect(objects, thread);
-                }
+                found.into_iter().for_each(|(_, thread)| self.take_effect(objects, thread));
             }
         }
     }
 
-    /// What a list of blocks takes now, and its code.
-    fn try_blocks(&self, objects: &mut Objects, thread: u32, mode: Mode, places: &[u32]) -> Option<u32> {
-        let slot = |place: &u32| self.blocks.pool[*place as usize].id.slot;
-        match mode {
-            Mode::Any => {
-                let index = places.iter().position(|place| objects.is_signaled(thread, slot(place)))?;
-                let was_abandoned = objects.acquire(thread, slot(&places[index]));
-                Some(index as u32 + if was_abandoned { 128 } else { 0 })
+    /// A pending wait is answered where it is ready.
+    #[inline(never)]
+    fn take_effect(&mut self, objects: &mut Objects, thread: u32) {
+        let at = &self.threads[thread as usize];
+        let is_signaled = |block: &Block| objects.look(block.slot).body.signaled_for(thread);
+        let code = match at.state {
+            State::Pending(Mode::Any) => match at.blocks().iter().position(is_signaled) {
+                Some(index) => index as u32 + objects.acquire(thread, at.blocks()[index].slot),
+                None => return,
+            },
+            State::Pending(Mode::All) if at.blocks().iter().all(is_signaled) => {
+                objects.acquire_all(thread, at.blocks().iter().map(|block| block.slot))
             }
-            Mode::All => {
-                if !places.iter().all(|place| objects.is_signaled(thread, slot(place))) {
-                    return None;
-                }
-                let mut was_abandoned = false;
-                for place in places {
-                    was_abandoned |= objects.acquire(thread, slot(place));
-                }
-                Some(if was_abandoned { 128 } else { 0 })
-            }
-        }
-    }
-
-    /// Whether the wait was ready.
-    fn take_effect(&mut self, objects: &mut Objects, thread: u32) -> bool {
-        let Some(Wait { state: State::Pending(mode, places), .. }) = &self.waits[thread as usize] else {
-            return false;
-        };
-        let Some(code) = self.try_blocks(objects, thread, *mode, places.as_slice()) else {
-            return false;
+            _ => return,
         };
         self.answer(objects, thread, code);
-        true
     }
 
-    fn leave(blocks: &mut Blocks, objects: &mut Objects, places: &Places) {
-        for place in places.as_slice() {
-            let slot = blocks.pool[*place as usize].id.slot;
-            blocks.unlink(*place);
-            objects.block_left(slot);
-        }
-    }
-
-    /// The pending wait of a thread is answered.
+    /// A pending wait is answered.
+    #[inline(always)]
     fn answer(&mut self, objects: &mut Objects, thread: u32, code: u32) {
-        let Some(wait) = &mut self.waits[thread as usize] else {
-            return;
-        };
-        if let State::Pending(_, places) = std::mem::replace(&mut wait.state, State::Answered(code)) {
-            let number = wait.number;
-            Waits::leave(&mut self.blocks, objects, &places);
-            self.note_answer(number);
+        let at = &mut self.threads[thread as usize];
+        (at.state, at.code) = (State::Answered, code);
+        let has_others = at.drop_blocks(objects);
+        if self.last == 0 {
+            (self.first, self.last) = (thread, thread);
+            (at.earlier, at.later) = (0, 0);
+        } else {
+            self.note_answer(thread);
+        }
+        if has_others {
+            self.part(objects, thread);
         }
     }
 
-    /// What became of a wait, which is over with its answer: its thread and the code.
-    pub fn take_result(&mut self, number: u32) -> Result<Option<(u32, u32)>, Fault> {
-        let (thread, wait) = self.found(number)?;
-        let State::Answered(code) = wait.state else {
-            return Ok(None);
-        };
-        self.waits[thread as usize] = None;
-        self.threads.remove(&number);
-        self.drop_answer(number);
-        Ok(Some((thread, code)))
+    /// The code of a wait, which is over with that, or none while it is pending.
+    pub fn take_result(&mut self, number: u32) -> Result<Option<u32>, Fault> {
+        let thread = self.found(number)?;
+        Ok(match self.at(thread).state {
+            State::Answered => Some(self.take(thread)),
+            State::Pending(_) => None,
+        })
     }
 
     pub fn expire(&mut self, objects: &mut Objects, number: u32) -> Result<(), Fault> {
-        let (thread, wait) = self.found(number)?;
-        let State::Pending(..) = wait.state else {
+        let thread = self.found(number)?;
+        let State::Pending(_) = self.at(thread).state else {
             return Err(Fault::Parameter);
         };
         self.answer(objects, thread, WAIT_TIMEOUT);
         Ok(())
     }
 
-    /// A wait goes with its thread.
-    pub fn drop_wait(&mut self, objects: &mut Objects, number: u32) {
-        let Some(thread) = self.threads.remove(&number) else {
-            return;
-        };
-        match self.waits[thread as usize].take() {
-            Some(Wait { state: State::Pending(_, places), .. }) => Waits::leave(&mut self.blocks, objects, &places),
-            _ => self.drop_answer(number),
+    /// A thread ends, and its wait with it.
+    pub fn end(&mut self, objects: &mut Objects, thread: u32) {
+        let at = &self.threads[thread as usize];
+        match at.state {
+            _ if !at.waits() => {}
+            State::Answered => _ = self.take(thread),
+            State::Pending(_) => {
+                if at.drop_blocks(objects) {
+                    self.part(objects, thread);
+                }
+                self.leave(thread);
+            }
         }
+        *self.at(thread) = Thread::default();
     }
 }
