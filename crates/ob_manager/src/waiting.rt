@@ -381,7 +381,7 @@ pub fn wait<K: PinKeeper>(
 pub fn wait_result<K: PinKeeper>(store: &mut Store<K>, wait: u32) -> Result<Reply, Fault>
     ensures { Gives result store.old store.new (wait_result store.old.state wait) }
 {
-    match store.take_result(wait) {
+    match store.take_if_answered(wait) {
         None => Err(Fault::Parameter),
         Some(WaitState::Pending) => Ok(Reply::Pending { wait }),
         Some(WaitState::Answered(code)) => Ok(Reply::Code { code }),

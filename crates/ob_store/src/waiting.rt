@@ -97,12 +97,12 @@ impl<K: PinKeeper> Store<K> {
 
     /// Where the wait of a number stands: none where no wait has it. One that is answered is then over, and its thread
     /// may wait again.
-    pub fn take_result(&mut self, wait: u32) -> Option<WaitState>
+    pub fn take_if_answered(&mut self, wait: u32) -> Option<WaitState>
         ensures state { result ≡ state_at (slice_index_or self.old.state.waits wait None) }
         ensures over { self.new ≡ (if is_answer result
             then record self.old { state = settled (without_wait self.old.state wait) } else self.old) }
     {
         self.parts.objects.kept();
-        self.parts.waits.take_result(wait)
+        self.parts.waits.take_if_answered(wait)
     }
 }

@@ -1,9 +1,9 @@
 ghost use Rattle.std.specs.Prelude.{[], ◌∷◌, ◌++◌, ◌≡◌, false, Err, IfNone, ◌+◌, ◌<◌, ◌≤◌, ◌↔◌, ℕ, true, None};
-ghost use Rattle.std.specs.Prelude.{Some, length, map, slice_index_or, OnOk, OnErr, IfOk, IfErr, IfSome};
+ghost use Rattle.std.specs.Prelude.{Some, length, map, slice_index_or, OnOk, OnErr, IfOk, IfErr, IfSome, IsSome};
 ghost use Rattle.std.specs.Prelude.{if◌then◌else◌, is_some};
 ghost use Rattle.std.specs.Option.{option_map};
 ghost use Rattle.ob_waits.specs.Waits.{settled, blocks_among, number_of, with_wait, with_answer};
-ghost use Rattle.ob_waits.specs.Waits.{without_wait, without_thread, is_answer, is_pending, state_at, ids_of, is_full};
+ghost use Rattle.ob_waits.specs.Waits.{without_wait, without_thread, code_at, is_answer, is_pending, state_at, ids_of, is_full};
 ghost use Rattle.ob_codec.specs.Reading.{Gives};
 ghost use Rattle.ob_waits.specs.Spelling.{WaitsFit, are_within, can_be, waits_at, waits_text};
 ghost use Rattle.ob_waits.specs.Waits.{is_code, new_wait, skipped, with_answered};
@@ -42,8 +42,8 @@ use std::marker::Model;
 ///
 /// A thread's wait and the wait of a number are found in constant time. [`wait_of`](Waits::wait_of),
 /// [`look`](Waits::look) and [`pending`](Waits::pending) do no more; [`expire`](Waits::expire),
-/// [`drop_thread`](Waits::drop_thread) and [`take_result`](Waits::take_result) also keep the list of answers, which
-/// costs a logarithm of the threads where waits weren't answered in the order of their numbers.
+/// [`drop_thread`](Waits::drop_thread) and [`take_if_answered`](Waits::take_if_answered) also keep the list of answers,
+/// which costs a logarithm of the threads where waits weren't answered in the order of their numbers.
 ///
 /// Beside these there is a list of wait numbers for each slot, and one for all. Such a list has the numbers of all
 /// pending waits for its objects, and may have others, until a settling that looks at them drops them, or an `add` that
@@ -438,7 +438,7 @@ impl Waits {
     }
 
     /// Where the wait of a number stands. One that is answered is then over, and its thread may wait again.
-    pub fn take_result(&mut self, wait: u32) -> Option<WaitState>
+    pub fn take_if_answered(&mut self, wait: u32) -> Option<WaitState>
         ensures state { result ≡ state_at (slice_index_or self.old.waits wait None) }
         ensures over { self.new ≡ (if is_answer result then without_wait self.old wait else self.old) }
     {
@@ -452,5 +452,17 @@ impl Waits {
         self.live.remove(thread, wait);
         self.pending_index.forget(wait);
         Some(WaitState::Answered(code))
+    }
+
+    /// Takes the code of an answered wait. The wait is then over, and its thread may wait again.
+    pub fn take_result(&mut self, wait: u32) -> u32
+        requires { IsSome (code_at (slice_index_or self.old.waits wait None)) }
+        ensures code { code_at (slice_index_or self.old.waits wait None) ≡ Some result }
+        ensures over { self.new ≡ without_wait self.old wait }
+    {
+        let Some(WaitState::Answered(code)) = self.take_if_answered(wait) else {
+            unreachable!()
+        };
+        code
     }
 }

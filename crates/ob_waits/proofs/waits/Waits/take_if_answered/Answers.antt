@@ -4,7 +4,7 @@ use Rattle.ob_waits.specs.Waits.{is_pending}
 use Rattle.ob_waits.proofs.DeadlineLaws.{timely_removed}
 use Rattle.ob_waits.proofs.TrackedLaws.{tracked_left, tracked_removed}
 use Rattle.ob_waits.proofs.Writes.{set_none}
-use Rattle.ob_waits.proofs.waits.Waits.take_result.Goals as goal
+use Rattle.ob_waits.proofs.waits.Waits.take_if_answered.Goals as goal
 
 pub invariant_of-self : goal.invariant_of-self
 invariant_of-self c =
