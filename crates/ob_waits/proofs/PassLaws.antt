@@ -1,7 +1,9 @@
 -- Numbers take effect one after another where they are ready: that is settling, as long as none that is ready is below
 -- the next.
-use Rattle.std.proofs.Common.{◌≡◌, ℕ, zero, suc, ◌+◌, ◌<◌, ◌≤◌, List, [], ◌∷◌, length, Option, Some, None, refl, ◌∙◌, sym, subst, arith, drop, eqb, get_or, Bool, true, false, inl, inr}
+use Rattle.ob_codec.proofs.AtPlace.{at_place}
+use Rattle.std.proofs.Common.{◌≡◌, ℕ, zero, suc, ◌+◌, ◌<◌, ◌≤◌, List, [], ◌∷◌, length, Option, Some, None, refl, ◌∙◌, sym, subst, arith, drop, eqb, get_or, set, Bool, true, false, inl, inr}
 use Rattle.std.specs.List.{list_any}
+use Rattle.std.specs.Prelude.{◌&&◌, not}
 use Rattle.std.proofs.lemmas.List.{drop_all, drop_more}
 use Rattle.std.proofs.lemmas.List.Folds.{list_any_at}
 use Rattle.std.proofs.lemmas.List.Sums.{count_by-le-length, passes_at_first}
@@ -9,11 +11,13 @@ use Rattle.std.proofs.lemmas.Bool.{cases_lt, true_from_ne_false}
 use Rattle.pin_core.specs.declared.id.Id.{Id}
 use Rattle.ob_body.specs.declared.body.Body.{Body}
 use Rattle.ob_waits.specs.declared.wait.Wait.{Wait}
-use Rattle.ob_waits.specs.RisingNumbers.{numbers_of}
+use Rattle.ob_waits.specs.RisingNumbers.{numbers_of, Thins}
 use Rattle.ob_waits.specs.CountedBodies.{CountedBodies, slot_signaled}
 use Rattle.ob_waits.specs.PendingIndex.{AreIndexed}
 use Rattle.ob_waits.specs.Rules.{Covers, IsReadyAt, IsReadyBy, IsRising, IsSettled, IsSpent, thread_of}
-use Rattle.ob_waits.specs.Waits.{nowhere, Scene, is_ready, is_pending, ids_of, first_ready, effect, passed, settled, settled_within}
+use Rattle.ob_waits.specs.Waits.{nowhere, Scene, answered, is_ready, is_pending, ids_of, first_ready, effect, passed, settled, settled_within}
+use Rattle.ob_waits.proofs.Keeping.{Fade}
+use Rattle.ob_waits.proofs.NumberLaws.{thins_both, thins_first}
 use Rattle.ob_waits.proofs.Settling.{pending_count, ready_within, ready_counted, ready_where, fewer, was_ready, answers, settled_at_end, settled_none, settled_same, settled_first, first_is}
 use Rattle.ob_waits.proofs.Settled.{settled_replaced}
 
@@ -145,3 +149,27 @@ by_passed changed m s r = by (is_ready s.objects.bodies (get_or s.waits m None))
       settled = search (arith, settled_replaced);
       less = λ t k out signaled. r.less t k out (a.less.each t (record { slot = k; generation = 0 }) signaled);
     })
+
+-- a wait that was answered is not pending
+pub answered_not_pending : (ws : List (Option Wait)) (n code : ℕ)
+    → is_pending (get_or (set ws n (answered (get_or ws n None) code)) n None) ≡ false
+answered_not_pending ws n code = grind (arith, at_place)
+
+-- what may leave a list still may, once more waits were answered
+pub thins_faded : (ws ws' : List (Option Wait)) (old new : List ℕ) → Fade ws ws' → Thins ws old new
+    → Thins ws' old new
+thins_faded ws ws' old new fade t = record {
+  rising = t.rising;
+  only = t.only;
+  keeps = λ k pending. t.keeps k ((fade.each k).pending pending);
+}
+
+-- one more leaves the front of a list, where all before it may
+pub thins_on : (ws ws' : List (Option Wait)) (ns : List ℕ) (at : ℕ) (all pending : Bool) → Fade ws ws' → at < length ns
+    → pending ≡ is_pending (get_or ws' (get_or ns at 0) None) → (all ≡ true → Thins ws ns (drop at ns))
+    → not pending && all ≡ true → Thins ws' ns (drop (at + 1) ns)
+thins_on ws ws' ns at true true fade lt is before both = absurd (cc (both))
+thins_on ws ws' ns at false true fade lt is before both = absurd (cc (both))
+thins_on ws ws' ns at false false fade lt is before both = absurd (cc (both))
+thins_on ws ws' ns at true false fade lt is before both = thins_both ws' ns (drop at ns) (drop (at + 1) ns)
+    (thins_faded ws ws' ns (drop at ns) fade (before refl)) (thins_first ws' ns at lt (sym is))

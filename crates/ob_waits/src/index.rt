@@ -1,6 +1,6 @@
-ghost use Rattle.std.specs.Prelude.{◌≡◌, ◌<◌, ◌≤◌, ℕ, [], length, slice_index_or, OnOk};
+ghost use Rattle.std.specs.Prelude.{◌≡◌, ◌<◌, ◌≤◌, ℕ, [], drop, length, slice_index_or, true, OnOk};
 ghost use Rattle.ob_waits.specs.Rules.{Within};
-ghost use Rattle.ob_waits.specs.RisingNumbers.{numbers_of, AreOrdered, LosesNone, ThinsEach};
+ghost use Rattle.ob_waits.specs.RisingNumbers.{numbers_of, AreOrdered, LosesNone, Thins, ThinsEach};
 ghost use Rattle.ob_waits.specs.Waits.{nowhere};
 
 use crate::live::Live;
@@ -46,15 +46,17 @@ impl Index {
         &[]
     }
 
-    /// Drops, of the first `count` numbers of a slot, those whose waits are not pending.
-    pub(crate) fn thin(&mut self, live: &Live, slot: u32, count: usize)
-        requires { count ≤ length (numbers_of self.old slot) }
+    /// Drops, of the first `count` numbers of a slot, those whose waits are not pending: all of them, where that is
+    /// known.
+    pub(crate) fn thin(&mut self, live: &Live, slot: u32, count: usize, all: bool)
+        requires bound { count ≤ length (numbers_of self.old slot) }
+        requires all { all ≡ true → Thins live.now (numbers_of self.old slot) (drop count (numbers_of self.old slot)) }
         ensures { ThinsEach live.now self.old self.new }
     {
         let at = slot as usize;
         if at < self.lists.len() {
             let numbers = &mut self.lists[at];
-            numbers.thin(live, count);
+            numbers.thin(live, count, all);
         }
     }
 

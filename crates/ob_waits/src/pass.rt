@@ -1,9 +1,9 @@
-ghost use Rattle.std.specs.Prelude.{[], ◌∷◌, ◌≡◌, ◌<◌, ◌≤◌, true, false, None, Some, length, slice_index_or};
+ghost use Rattle.std.specs.Prelude.{[], ◌∷◌, ◌≡◌, ◌<◌, ◌≤◌, true, false, None, Some, drop, length, slice_index_or};
 ghost use Rattle.ob_waits.specs.CountedBodies.{without_blocks};
-ghost use Rattle.ob_waits.specs.RisingNumbers.{numbers_of};
+ghost use Rattle.ob_waits.specs.RisingNumbers.{numbers_of, Thins};
 ghost use Rattle.ob_waits.specs.PendingIndex.{IsRight};
 ghost use Rattle.ob_waits.specs.Rules.{Covers, Fits, IsReadyAt, IsReadyAtOne, IsRising, IsSettled};
-ghost use Rattle.ob_waits.specs.Waits.{passed, settled};
+ghost use Rattle.ob_waits.specs.Waits.{is_pending, passed, settled};
 
 use crate::bodies::Bodies;
 use crate::live::Live;
@@ -17,7 +17,21 @@ use pin_core::Id;
 
 /// Takes the wait block of each listed object away, as where a pending wait ends by its time or with its thread. An
 /// object whose last block leaves so, and which has no handle, ends.
+#[inline(always)]
 pub fn leave_all<B: Bodies>(bodies: &mut B, ids: &[Id])
+    ensures objects { B.objects bodies.new ≡ without_blocks (B.objects bodies.old) ids.now }
+    ensures rest { B.rest bodies.new ≡ B.rest bodies.old }
+{
+    // Most waits are for one object.
+    if let [id] = ids {
+        bodies.block_left(*id);
+        return;
+    }
+    leave_each(bodies, ids);
+}
+
+#[inline(never)]
+fn leave_each<B: Bodies>(bodies: &mut B, ids: &[Id])
     ensures objects { B.objects bodies.new ≡ without_blocks (B.objects bodies.old) ids.now }
     ensures rest { B.rest bodies.new ≡ B.rest bodies.old }
 {
@@ -26,25 +40,29 @@ pub fn leave_all<B: Bodies>(bodies: &mut B, ids: &[Id])
     }
 }
 
-/// The wait of a number takes effect, if it is ready.
-fn take_effect<B: Bodies>(live: &mut Live, bodies: &mut B, number: u32)
+/// The wait of a number takes effect, if it is ready. Answers whether it is still pending.
+#[inline(always)]
+#[tactic(auto, using(crate::proofs::PassLaws::answered_not_pending))]
+fn take_effect<B: Bodies>(live: &mut Live, bodies: &mut B, number: u32) -> bool
     requires { Fits RECURSION_MAX (B.objects bodies.old).bodies live.old }
+    ensures pending { result ≡ is_pending (slice_index_or live.new number None) }
     ensures rest { B.rest bodies.new ≡ B.rest bodies.old }
     ensures scene { record { objects = B.objects bodies.new; waits = live.new }
         ≡ passed (number ∷ []) (record { objects = B.objects bodies.old; waits = live.old }) }
 {
     let Some(wait) = live.get(number) else {
-        return;
+        return false;
     };
     let State::Pending(mode, ids) = &wait.state else {
-        return;
+        return false;
     };
     let thread = wait.thread;
     let Some(code) = try_now(bodies, thread, *mode, ids.as_slice()) else {
-        return;
+        return true;
     };
     leave_all(bodies, ids.as_slice());
     live.answer(thread, number, code);
+    false
 }
 
 /// The waits of these numbers take effect, in this order, where they are ready when their turn comes.
@@ -58,34 +76,37 @@ pub(crate) fn pass<B: Bodies>(live: &mut Live, bodies: &mut B, numbers: &[u32])
         ≡ settled (record { objects = B.objects bodies.old; waits = live.old }) }
 {
     for number in numbers {
-        take_effect(live, bodies, *number);
+        let _ = take_effect(live, bodies, *number);
     }
 }
 
 /// The waits for an object in the slot take effect where they are ready, in the order of their numbers, until nobody
-/// who waits can have the object any more. Answers how many were looked at.
+/// who waits can have the object any more. Answers how many were looked at, and whether none of these is still pending.
 pub(crate) fn pass_slot<B: Bodies>(
     live: &mut Live,
     bodies: &mut B,
     pending_index: &PendingIndex,
     id: Id,
-) -> usize
+) -> (usize, bool)
     requires fits { Fits RECURSION_MAX (B.objects bodies.old).bodies live.old }
     requires right { IsRight live.old pending_index.now }
     requires ready { IsReadyAt id.slot (B.objects bodies.old).bodies live.old }
     ensures rest { B.rest bodies.new ≡ B.rest bodies.old }
     ensures scene { record { objects = B.objects bodies.new; waits = live.new }
         ≡ settled (record { objects = B.objects bodies.old; waits = live.old }) }
-    ensures bound { result ≤ length (numbers_of pending_index.now.index id.slot) }
+    ensures bound { result.0 ≤ length (numbers_of pending_index.now.index id.slot) }
+    ensures all { result.1 ≡ true → Thins live.new (numbers_of pending_index.now.index id.slot)
+        (drop result.0 (numbers_of pending_index.now.index id.slot)) }
 {
     let numbers = pending_index.numbers(id.slot);
+    let mut all = true;
     for (at, number) in numbers.iter().enumerate() {
         if at > 0 && !is_open(live, bodies, id) {
-            return at;
+            return (at, all);
         }
-        take_effect(live, bodies, *number);
+        all = !take_effect(live, bodies, *number) & all;
     }
-    numbers.len()
+    (numbers.len(), all)
 }
 
 /// The waits for an object in the slots of these take effect where they are ready, in the order of their numbers over
@@ -113,7 +134,7 @@ fn pass_some<B: Bodies>(
         let Some(number) = next_number(live, bodies, pending_index, ids, last) else {
             return true;
         };
-        take_effect(live, bodies, number);
+        let _ = take_effect(live, bodies, number);
         last = number;
     }
     false

@@ -1,7 +1,7 @@
-ghost use Rattle.std.specs.Prelude.{[], ◌≡◌, ◌<◌, ◌≤◌, List, Option, None, false, length, slice_index_or, OnOk};
+ghost use Rattle.std.specs.Prelude.{[], ◌≡◌, ◌<◌, ◌≤◌, List, Option, None, false, true, drop, length, slice_index_or, OnOk};
 ghost use Rattle.ob_waits.specs.declared.wait.Wait.{Wait};
 ghost use Rattle.ob_waits.specs.Waits.{is_pending};
-ghost use Rattle.ob_waits.specs.RisingNumbers.{numbers_of};
+ghost use Rattle.ob_waits.specs.RisingNumbers.{numbers_of, Thins};
 ghost use Rattle.ob_waits.specs.PendingIndex.{IsRight, HasPlace, ThinsIndex};
 
 use crate::index::Index;
@@ -75,7 +75,7 @@ impl PendingIndex {
         ensures { ThinsIndex live.now self.old self.new }
     {
         let count = self.order.as_slice().len();
-        self.order.thin(live, count);
+        self.order.thin(live, count, false);
     }
 
     /// Drops the number of a wait that is not pending, where it is the last.
@@ -86,12 +86,15 @@ impl PendingIndex {
         self.order.forget(number);
     }
 
-    /// Drops, of the first `count` numbers of a slot, those whose waits are not pending.
-    pub(crate) fn thin_slot(&mut self, live: &Live, slot: u32, count: usize)
-        requires { count ≤ length (numbers_of self.old.index slot) }
+    /// Drops, of the first `count` numbers of a slot, those whose waits are not pending: all of them, where that is
+    /// known.
+    pub(crate) fn thin_slot(&mut self, live: &Live, slot: u32, count: usize, all: bool)
+        requires bound { count ≤ length (numbers_of self.old.index slot) }
+        requires all { all ≡ true
+            → Thins live.now (numbers_of self.old.index slot) (drop count (numbers_of self.old.index slot)) }
         ensures { ThinsIndex live.now self.old self.new }
     {
-        self.index.thin(live, slot, count);
+        self.index.thin(live, slot, count, all);
     }
 
     /// Drops the first numbers, as far as their waits are not pending, at the slots of some objects.

@@ -1,4 +1,4 @@
-ghost use Rattle.std.specs.Prelude.{[], ◌≡◌, ◌≤◌, ◌<◌, ◌-◌, ◌++◌, ℕ, List, Option, None, drop, false, filter, length};
+ghost use Rattle.std.specs.Prelude.{[], ◌≡◌, ◌≤◌, ◌<◌, ◌-◌, ◌++◌, ℕ, List, Option, None, drop, false, filter, length, true};
 ghost use Rattle.std.specs.Prelude.{slice_index_or, take, OnOk};
 ghost use Rattle.ob_waits.specs.declared.wait.Wait.{Wait};
 ghost use Rattle.ob_waits.specs.Waits.{is_pending};
@@ -105,6 +105,18 @@ impl RisingNumbers {
         let _ = self.numbers.pop();
     }
 
+    /// Drops so many of the first numbers.
+    fn skip(&mut self, count: usize)
+        requires { count ≤ length self.old }
+        ensures { self.new ≡ drop count self.old }
+    {
+        self.start += count;
+        if self.start == self.numbers.len() {
+            self.numbers.clear();
+            self.start = 0;
+        }
+    }
+
     fn drop_others(&mut self, live: &Live, count: usize)
         requires { count ≤ length self.old }
         ensures { self.new ≡ filter (has_pending live.now) (take count self.old) ++ drop count self.old }
@@ -117,12 +129,17 @@ impl RisingNumbers {
         }
     }
 
-    /// Drops, of the first `count` numbers, those of waits that are not pending.
+    /// Drops, of the first `count` numbers, those of waits that are not pending: all of them, where that is known.
     #[tactic(auto, using(crate::proofs::NumberLaws::thins_front))]
-    pub(crate) fn thin(&mut self, live: &Live, count: usize)
-        requires { count ≤ length self.old }
+    pub(crate) fn thin(&mut self, live: &Live, count: usize, all: bool)
+        requires bound { count ≤ length self.old }
+        requires all { all ≡ true → Thins live.now self.old (drop count self.old) }
         ensures { Thins live.now self.old self.new }
     {
+        if all {
+            self.skip(count);
+            return;
+        }
         self.drop_others(live, count);
     }
 
@@ -153,7 +170,7 @@ impl RisingNumbers {
         ensures { Thins live.now self.old self.new }
     {
         let count = self.numbers.len() - self.start;
-        self.thin(live, count);
+        self.thin(live, count, false);
         self.pack();
         self.due = self.numbers.len().saturating_mul(2).saturating_add(8);
     }

@@ -1,4 +1,4 @@
-ghost use Rattle.std.specs.Prelude.{◌≡◌, ◌<◌, ◌≤◌, true, None, Some, length};
+ghost use Rattle.std.specs.Prelude.{[], ◌∷◌, ◌≡◌, ◌<◌, ◌≤◌, true, None, Some, length};
 ghost use Rattle.std.specs.List.{list_any, list_all};
 ghost use Rattle.std.specs.Option.{IfNone};
 ghost use Rattle.ob_waits.specs.Waits.{is_signaled, is_abandoned, first_signaled, list_ready};
@@ -76,8 +76,25 @@ fn take_all<B: Bodies>(bodies: &mut B, thread: u32, ids: &[Id]) -> bool
     was_abandoned
 }
 
-/// Takes the first object that is signaled, if there is one, and gives the code.
+/// Takes an object, if it is signaled, and gives the code.
 #[inline(always)]
+fn take_one<B: Bodies>(bodies: &mut B, thread: u32, id: Id) -> Option<u32>
+    requires room { HasRoom RECURSION_MAX thread (B.objects bodies.old).bodies (id ∷ []) }
+    ensures code { (mode : Mode) → result ≡ code_now mode thread (B.objects bodies.old).bodies (id ∷ []) }
+    ensures objects { (mode : Mode) → B.objects bodies.new ≡ objects_now mode thread (B.objects bodies.old) (id ∷ []) }
+    ensures rest { B.rest bodies.new ≡ B.rest bodies.old }
+    ensures unready { IfNone result (bodies.new ≡ bodies.old) }
+{
+    if !is_signaled(bodies, thread, id) {
+        return None;
+    }
+    if bodies.acquire(id, thread) {
+        return Some(WAIT_ABANDONED_0);
+    }
+    Some(0)
+}
+
+/// Takes the first object that is signaled, if there is one, and gives the code.
 #[tactic(auto, using(std::proofs::lemmas::List::Sums::passes_at_first))]
 fn take_any<B: Bodies>(bodies: &mut B, thread: u32, ids: &[Id]) -> Option<u32>
     requires at_most { length ids.now ≤ 64 }
@@ -120,7 +137,7 @@ fn take_each<B: Bodies>(bodies: &mut B, thread: u32, ids: &[Id]) -> Option<u32>
 /// for all, 0, or 128 where one is an abandoned mutex (*profile*). Else nothing changes.
 ///
 /// [Wait Functions]: https://learn.microsoft.com/windows/win32/sync/wait-functions
-#[inline]
+#[inline(always)]
 pub fn try_now<B: Bodies>(bodies: &mut B, thread: u32, mode: Mode, ids: &[Id]) -> Option<u32>
     requires waitable { IsWaitable mode ids.now }
     requires room { HasRoom RECURSION_MAX thread (B.objects bodies.old).bodies ids.now }
@@ -129,6 +146,9 @@ pub fn try_now<B: Bodies>(bodies: &mut B, thread: u32, mode: Mode, ids: &[Id]) -
     ensures rest { B.rest bodies.new ≡ B.rest bodies.old }
     ensures unready { IfNone result (bodies.new ≡ bodies.old) }
 {
+    if let [id] = ids {
+        return take_one(bodies, thread, *id);
+    }
     match mode {
         Mode::Any => take_any(bodies, thread, ids),
         Mode::All => take_each(bodies, thread, ids),

@@ -354,8 +354,9 @@ impl Waits {
         ensures room { (limit : ℕ) → WaitsHaveRoom limit (B.objects bodies.old).bodies self.old.waits
             → WaitsHaveRoom limit (B.objects bodies.new).bodies self.new.waits }
     {
-        let looked = pass_slot(&mut self.live, bodies, &self.pending_index, id);
-        self.pending_index.thin_slot(&self.live, id.slot, looked);
+        let (looked, all) = pass_slot(&mut self.live, bodies, &self.pending_index, id);
+        self.pending_index
+            .thin_slot(&self.live, id.slot, looked, all);
     }
 
     /// Settles, as [`settle`](Waits::settle) does, where only waits for one of these objects can be ready, as after

@@ -1,14 +1,15 @@
-use Rattle.std.proofs.Common.{◌≡◌, ◌<◌, ◌∷◌, [], ◌∙◌, List, ℕ, ap, eqb, get_or, length, rules, subst, sym, arith}
+use Rattle.std.proofs.Common.{◌≡◌, ◌<◌, ◌∷◌, [], ◌∙◌, List, None, ℕ, ap, eqb, get_or, length, rules, subst, sym, arith}
 use Rattle.ob_waits.specs.RisingNumbers.{numbers_of}
 use Rattle.ob_waits.specs.Rules.{IsReadyBy, IsSpent}
-use Rattle.ob_waits.specs.Waits.{Scene, passed, settled}
+use Rattle.ob_waits.specs.Waits.{Scene, is_pending, passed, settled}
 use Rattle.ob_waits.proofs.Keeping.{Fade, fade_both, fits_passed, passed_fades}
-use Rattle.ob_waits.proofs.PassLaws.{by_passed, covered_all, covers_slot, settled_spent, steps_on}
+use Rattle.ob_waits.proofs.NumberLaws.{thins_none}
+use Rattle.ob_waits.proofs.PassLaws.{by_passed, covered_all, covers_slot, settled_spent, steps_on, thins_on}
 use Rattle.ob_waits.proofs.Settling.{settled_same}
 use Rattle.ob_waits.proofs.pass.pass_slot.Goals as goal
 
 pub loop-at-init : goal.loop-at-init
-loop-at-init g c = search (arith, covers_slot)
+loop-at-init g c = search (arith, covers_slot, thins_none)
 
 pub loop-at-preserved : goal.loop-at-preserved
 loop-at-preserved g c =
@@ -21,6 +22,8 @@ loop-at-preserved g c =
     let step = steps_on ns c.loop-at.at scene lt (c.requires.right.index_rises.each c.args.id.slot).rising
     c.loop-at.invariant.covers in
     let is : after ≡ next = search rules in
+    let pending : c.take_effect.result ≡ is_pending (get_or c.take_effect.new.live (get_or ns c.loop-at.at 0) None) =
+    search rules in
     record {
       same = ap settled is ∙ step.same ∙ c.loop-at.invariant.same;
       rest = c.take_effect.ensures.rest ∙ c.loop-at.invariant.rest;
@@ -31,6 +34,9 @@ loop-at-preserved g c =
       fade = subst (λ (s : Scene). Fade c.args.live.now s.waits) (sym is)
           (fade_both c.args.live.now scene.waits next.waits c.loop-at.invariant.fade
           (passed_fades (get_or ns c.loop-at.at 0 ∷ []) scene));
+      all = thins_on c.loop-at.live c.take_effect.new.live ns c.loop-at.at c.loop-at.all c.take_effect.result
+          (subst (λ (s : Scene). Fade scene.waits s.waits) (sym is) (passed_fades (get_or ns c.loop-at.at 0 ∷ []) scene))
+          lt pending c.loop-at.invariant.all;
     }
 
 pub returns-then-not-is_open-clause-scene : goal.returns-then-not-is_open-clause-scene

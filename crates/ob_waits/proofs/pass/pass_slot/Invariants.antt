@@ -1,5 +1,5 @@
-use Rattle.std.proofs.Common.{◌≡◌, drop, eqb}
-use Rattle.ob_waits.specs.RisingNumbers.{numbers_of}
+use Rattle.std.proofs.Common.{◌≡◌, drop, eqb, true}
+use Rattle.ob_waits.specs.RisingNumbers.{numbers_of, Thins}
 use Rattle.ob_waits.specs.Waits.{Scene, settled}
 use Rattle.ob_waits.specs.Rules.{Covers, Fits, IsReadyBy}
 use Rattle.ob_waits.proofs.Keeping.{Fade}
@@ -17,4 +17,6 @@ invariant-loop-at g l = record {
   fits : Fits 2147483647 (g.B.Bodies.objects l.bodies).bodies l.live;
   ready : IsReadyBy (λ k. eqb k l.id.slot) (g.B.Bodies.objects l.bodies).bodies l.live;
   fade : Fade l.fn.live l.live;
+  all : l.all ≡ true → Thins l.live (numbers_of l.pending_index.index l.id.slot)
+      (drop l.at (numbers_of l.pending_index.index l.id.slot));
 }
