@@ -37,8 +37,7 @@ use Rattle.ob_store.proofs.KeptLaws.{live_changed}
 -- a slot without an object has no body
 pub bodiless : (s : ObjectsState) (k : ℕ) → object_at s k ≡ None → k < length s.objects → IsAgreed s
     → body_at s k ≡ None
-bodiless s k none room a =
-    search arith
+bodiless s k none room a = search arith
 
 -- the Id that the state gives to the next object of a slot is that of the keeper
 pub next_id : (slots : List Slot) (k : ℕ) → ◌≡◌ {A =
@@ -66,8 +65,7 @@ pub added_state : (p : PartsState) (process slot : ℕ) (rights : Rights) (flags
       rows = rows;
     })
     ≡ with_added (state_of p) process slot rights flags attributes body
-added_state p process slot rights flags attributes body rows =
-    search (arith, next_id, map-set_same)
+added_state p process slot rights flags attributes body rows = search (arith, next_id, map-set_same)
 
 module _ (p : PartsState) (kept : StoreInvariant p) (tied : ObjectsInvariant p.objects)
     (process slot : ℕ) (rights : Rights) (flags : HandleFlags) (attributes : ObjectAttributes) (body : Body)
@@ -104,8 +102,6 @@ module _ (p : PartsState) (kept : StoreInvariant p) (tied : ObjectsInvariant p.o
   pub kept_added : (rows : Rows) → IsListing rows (with_entry_of p.tables.tables process entry)
       (with_object p.objects slot attributes body).objects (p.objects.births + 1) → StoreInvariant (added rows)
   kept_added rows listing =
-      let bodied : slot < length o.seen.bodies = (let a = tied.agreed.length_is in let b = tied.agreed.bodied in
-      omega (arith, within)) in
       let sound = kept.sound in
       record {
         sound = record {

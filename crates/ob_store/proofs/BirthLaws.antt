@@ -1,16 +1,11 @@
 -- How many objects were made, slot by slot, and their numbers.
 use Rattle.ob_codec.proofs.AtPlace.{at_place}
-use Rattle.std.proofs.Common.{◌≡◌, ◌≢◌, ℕ, ◌+◌, ◌<◌, ◌≤◌, List, length, Option, Some, None, ap, ◌∙◌, sym, subst, arith, get_or, set, inl, inr}
+use Rattle.std.proofs.Common.{◌≡◌, ℕ, ◌≢◌, ◌+◌, ◌<◌, ◌≤◌, List, length, Option, Some, None, ◌∙◌, arith, set}
 use Rattle.std.specs.Prelude.{sum_by}
-use Rattle.std.proofs.lemmas.List.{length-set, get_or-set_same, get_or-set_other}
 use Rattle.std.proofs.lemmas.List.Elements.{All-from_get_or}
 use Rattle.std.proofs.lemmas.List.Sums.{sum_by-set, sum_by-le}
-use Rattle.std.proofs.lemmas.Bool.{cases_eq}
 use Rattle.pin_core.specs.declared.word.Phase.{Phase}
-use Rattle.pin_core.specs.declared.word.Phase.TheVariants.{Free}
 use Rattle.pin_core.specs.declared.world.Slot.{Slot}
-use Rattle.pin_core.specs.declared.shape.Shape.{Shape}
-use Rattle.pin_core.specs.Opened.{Opens, SlotOpens}
 use Rattle.pin_core.specs.Worlds.{slot_of, opening_slot}
 use Rattle.ob_store.specs.Objects.{Object}
 use Rattle.ob_store.specs.Agreement.{made_by, made_in, AreBorn}
@@ -19,21 +14,6 @@ use Rattle.ob_store.proofs.EndLaws.{some_set}
 -- each generation is from 1 to the last
 abbrev pub AreAged : ℕ → ℕ → List Slot → Type 0
 AreAged n last slots = (k : ℕ) → k < n → (1 ≤ (slot_of slots k).generation) × ((slot_of slots k).generation ≤ last)
-
-pub aged_set : (n last : ℕ) (slots : List Slot) (i : ℕ) (y : Slot) → i < length slots → 1 ≤ y.generation
-    → y.generation ≤ last → AreAged n last slots → AreAged n last (set slots i y)
-aged_set n last slots i y within first most aged k lt = elim (cases_eq k i) [
-  | inl same ↦ subst (λ (x : Slot). (1 ≤ x.generation)
-      × (x.generation ≤ last)) (sym (ap (slot_of (set slots i y)) same ∙ get_or-set_same slots i y opening_slot within))
-      (first, most)
-  | inr other ↦ subst (λ (x : Slot). (1 ≤ x.generation)
-      × (x.generation ≤ last)) (sym (get_or-set_other slots i k y opening_slot other)) (aged k lt)
-]
-
--- each slot is one that a keeper may begin with
-pub opens_set : (shape : Shape) (slots : List Slot) (i : ℕ) (y : Slot) → SlotOpens shape.max_gen y → Opens shape slots →
-    Opens shape (set slots i y)
-opens_set shape slots i y new old = search (arith, get_or-set_other, get_or-set_same, length-set)
 
 -- a slot that changes and had as many objects as before
 pub made_set : (slots : List Slot) (i : ℕ) (y : Slot) → i < length slots → made_in y ≡ made_in (slot_of slots i)
@@ -46,8 +26,7 @@ pub made_more : (slots : List Slot) (i : ℕ) (y : Slot) → i < length slots �
 made_more slots i y within more = search (arith, sum_by-set)
 
 made_few : (p : Phase) (generation : ℕ) → made_by p generation ≤ generation
-made_few Free generation = omega arith
-made_few p generation = omega arith
+made_few = search arith
 
 -- a slot has no more objects than generations, so a count of 64 bits has room
 pub made_bound : (slots : List Slot) (last : ℕ) → length slots ≤ 65536 → last ≤ 4294967295
@@ -55,7 +34,7 @@ pub made_bound : (slots : List Slot) (last : ℕ) → length slots ≤ 65536 →
 made_bound slots last few most aged =
     let all = All-from_get_or (λ (x : Slot). made_in x ≤ 4294967295) slots opening_slot
     (λ i lt. let x : Slot = slot_of slots i in let y = made_few x.phase x.generation in
-    let z : x.generation ≤ last = (aged i lt).1 in omega arith) in
+    omega arith) in
     let sum = sum_by-le made_in 4294967295 slots all in
     omega arith
 
@@ -68,14 +47,3 @@ born_gone objects births k born = search (arith, some_set)
 pub born_added : (objects : List (Option Object)) (births k : ℕ) (n : Object) → n.birth ≡ births → k < length objects
     → AreBorn objects births → AreBorn (set objects k (Some n)) (births + 1)
 born_added objects births k n first within born = grind (arith, at_place)
-  where
-    number : Option Object → ℕ
-    number None = 0
-    number (Some o) = o.birth
-
-    new : (j : ℕ) (o : Object) → j ≡ k → get_or (set objects k (Some n)) j None ≡ Some o → o.birth ≡ n.birth
-    new j o here is = search (arith, get_or-set_same)
-
-    old : (j : ℕ) (o : Object) → j ≢ k → get_or (set objects k (Some n)) j None ≡ Some o
-        → get_or objects j None ≡ Some o
-    old j o other is = search (arith, get_or-set_other)

@@ -1,42 +1,25 @@
 -- What holds of bodies goes on so: their forms, their owners, the room that waits have, and that none is ready.
-use Rattle.std.proofs.Common.{◌≡◌, ◌⊎◌, ℕ, ◌<◌, List, length, Option, Some, None, refl, ap, ◌∙◌, sym, arith, get_or, set, Bool, true, false, cond, inl, inr}
-use Rattle.std.proofs.lemmas.Option.{same_Some}
+use Rattle.ob_codec.proofs.AtPlace.{at_place}
+use Rattle.std.proofs.lemmas.Bool.Decides.{nat_tests}
+use Rattle.std.proofs.Common.{◌≡◌, ℕ, ◌⊎◌, ◌<◌, List, length, Option, Some, None, ap, ◌∙◌, arith, get_or, set, Bool, true, cond, inl, inr}
 use Rattle.std.specs.Prelude.{is_some}
-use Rattle.std.proofs.lemmas.List.{length-set, get_or_past, get_or-set_same, get_or-set_other}
-use Rattle.std.proofs.lemmas.Bool.{cases_eq}
 use Rattle.ob_body.specs.declared.body.Body.{Body}
 use Rattle.ob_body.specs.Body.{owner_of, is_signaled}
 use Rattle.ob_waits.specs.declared.wait.Wait.{Wait}
 use Rattle.ob_waits.specs.CountedBodies.{CountedBodies, slot_signaled}
-use Rattle.ob_waits.specs.Form.{Form, form_of, slot_due, slot_form, slot_owner, HasWait}
-use Rattle.ob_waits.specs.Rules.{WaitsHaveRoom, thread_of}
+use Rattle.ob_waits.specs.Form.{form_of, slot_form, slot_owner, HasWait}
+use Rattle.ob_waits.specs.Rules.{thread_of}
 use Rattle.ob_waits.specs.Waits.{Scene, settled}
 use Rattle.ob_waits.proofs.Settling.{IsLess}
-use Rattle.ob_waits.proofs.Room.{room_set}
 use Rattle.ob_waits.proofs.Staying.{settled_form, settled_owner, settled_thread}
 use Rattle.ob_store.specs.Objects.{Object}
-use Rattle.ob_store.specs.Kept.{AreFormed, AreOfLive, IsLive, Yields, form_in, unset}
-
--- what stands in a list of which one place changed
-at_set : (bodies : List (Option Body)) (i k : ℕ) (x : Option Body)
-    → (get_or (set bodies i x) k None ≡ get_or bodies k None)
-    ⊎ ((k ≡ i) × (i < length bodies) × (get_or (set bodies i x) k None ≡ x))
-at_set bodies i k x = search (arith, get_or-set_other, get_or-set_same, get_or_past, length-set)
+use Rattle.ob_store.specs.Kept.{AreFormed, AreOfLive, IsLive, Yields, form_in}
 
 -- a place that changes or stays
 pub at_gone : (c : Bool) (bodies : List (Option Body)) (i k : ℕ)
     → (get_or (cond c (set bodies i None) bodies) k None ≡ get_or bodies k None)
     ⊎ (get_or (cond c (set bodies i None) bodies) k None ≡ None)
-at_gone true bodies i k = elim (at_set bodies i k None) [ inl same ↦ inl same | inr gone ↦ inr gone.2 ]
-at_gone false bodies i k = inl refl
-
--- a due moment is a part of the form
-abbrev form_due : Option Form → Option ℕ
-form_due None = None
-form_due (Some f) = f.due
-
-pub due_same : (x y : Option Body) → slot_form x ≡ slot_form y → slot_due x ≡ slot_due y
-due_same x y same = search arith
+at_gone = grind (arith, nat_tests, at_place)
 
 -- bodies that stay of their forms
 pub formed_by : (clock : ℕ) (objects : List (Option Object)) (bodies after : List (Option Body))
@@ -79,9 +62,6 @@ module _ (first : Scene) (after : CountedBodies) (ws' : List (Option Wait))
 
 -- a body goes, or stays
 module _ (c : Bool) (bodies : List (Option Body)) (i : ℕ) where
-  abbrev gone : List (Option Body)
-  gone = cond c (set bodies i None) bodies
-
   pub of_live_gone : (threads : List (Option ℕ)) (ws : List (Option Wait)) → AreOfLive threads bodies ws
       → AreOfLive threads (cond c (set bodies i None) bodies) ws
   of_live_gone threads ws l = search (arith, at_gone)
@@ -92,30 +72,15 @@ module _ (bodies : List (Option Body)) (k : ℕ) (b : Body) where
       → form_of b ≡ form_in o.descr → AreFormed clock objects bodies
       → AreFormed clock (set objects k (Some o)) (set bodies k (Some b))
   formed_added clock objects o within bodied form f = record {
-    each = λ j p c there is. elim (cases_eq j k) [
-      | inl same ↦
-          (let e : b ≡ c = same_Some _ _ (sym (ap (λ i. get_or (set bodies k (Some b)) i None) same
-          ∙ get_or-set_same bodies k (Some b) None bodied) ∙ is) in
-          let d : o ≡ p = same_Some _ _ (sym (ap (λ i. get_or (set objects k (Some o)) i None) same
-          ∙ get_or-set_same objects k (Some o) None within) ∙ there) in
-          ap unset (ap form_of (sym e) ∙ form) ∙ ap (λ (x : Object). form_in x.descr) d)
-      | inr other ↦ search (arith, get_or-set_other)
-    ];
-    later = λ j. elim (at_set bodies k j (Some b)) [
-      | inl same ↦ search arith
-      | inr new ↦ search arith
-    ];
+    each = λ j p c there is. grind (arith, nat_tests, at_place, f.each j p c);
+    later = λ j. grind (arith, nat_tests, at_place, f.later j);
   }
 
   pub of_live_added : (threads : List (Option ℕ)) (ws : List (Option Wait))
       → ((t : ℕ) → owner_of b ≡ Some t → IsLive threads t) → AreOfLive threads bodies ws
       → AreOfLive threads (set bodies k (Some b)) ws
   of_live_added threads ws live l = record {
-    owners = λ j t h. elim (at_set bodies k j (Some b)) [
-      | inl same ↦
-          search arith
-      | inr new ↦ live t (sym (ap slot_owner new.2) ∙ h)
-    ];
+    owners = λ j t h. grind (arith, nat_tests, at_place, l.owners j t, live t);
     waiters = l.waiters;
   }
 
@@ -125,40 +90,21 @@ module _ (bodies : List (Option Body)) (k : ℕ) (old new : Body) (clock : ℕ) 
   pub formed_put : (objects : List (Option Object)) → AreFormed clock objects bodies
       → AreFormed clock objects (set bodies k (Some new))
   formed_put objects f = record {
-    each = λ j o b is here. elim (at_set bodies k j (Some new)) [
-      | inl same ↦ f.each j o b is (sym same ∙ here)
-      | inr put ↦ search arith
-    ];
-    later = λ j. elim (at_set bodies k j (Some new)) [
-      | inl same ↦ search arith
-      | inr put ↦ search arith
-    ];
+    each = λ j o b is here. grind (arith, nat_tests, at_place, f.each j o b, f.each j o old);
+    later = λ j. grind (arith, nat_tests, at_place, f.later j);
   }
 
   pub of_live_put : (threads : List (Option ℕ)) (ws : List (Option Wait)) → AreOfLive threads bodies ws
       → AreOfLive threads (set bodies k (Some new)) ws
   of_live_put threads ws l = record {
-    owners = λ j t h. elim (at_set bodies k j (Some new)) [
-      | inl same ↦ search arith
-      | inr put ↦ l.owners k t (search arith)
-    ];
+    owners = λ j t h. grind (arith, nat_tests, at_place, l.owners j t);
     waiters = l.waiters;
   }
 
-  pub room_put : (limit : ℕ) (ws : List (Option Wait)) → WaitsHaveRoom limit bodies ws
-      → WaitsHaveRoom limit (set bodies k (Some new)) ws
-  room_put limit ws room = search (arith, room_set)
-
   pub less_put : ((t : ℕ) → is_signaled t new ≡ true → is_signaled t old ≡ true)
       → IsLess bodies (set bodies k (Some new))
-  less_put less = record {
-    each = λ t id h. elim (at_set bodies k id.slot (Some new)) [
-      | inl same ↦ sym (ap (slot_signaled t) same) ∙ h
-      | inr put ↦ search arith
-    ];
-  }
+  less_put less = record { each = λ t id h. grind (arith, nat_tests, at_place, less t) }
 
 -- what is signaled is there
 pub signaled_some : (thread : ℕ) (b : Option Body) → slot_signaled thread b ≡ true → is_some b ≡ true
-signaled_some thread None h = absurd (cc)
-signaled_some thread (Some b) h = refl
+signaled_some = search arith

@@ -1,5 +1,5 @@
 -- What holds of each element of a list, and of what stands past its end, holds at each place.
-use Rattle.std.proofs.Common.{◌≡◌, ◌∙◌, ℕ, zero, suc, ◌<◌, Bool, true, List, [], ◌∷◌, ap, length, get_or, replicate, sym, arith}
+use Rattle.std.proofs.Common.{◌≡◌, ℕ, ◌∙◌, zero, suc, ◌<◌, Bool, true, List, [], ◌∷◌, ap, length, get_or, replicate, sym, arith}
 use Rattle.std.proofs.lemmas.List.{get_or-replicate, get_or_past, length-replicate}
 use Rattle.std.proofs.lemmas.Bool.{and_parts}
 use Rattle.std.specs.List.{AllByRecursion, list_all, range_with_len}
@@ -21,8 +21,7 @@ all_from p xs none each = list_all-from_AllPass p xs (All-from_get_or (λ x. p x
 pub all_by_place : {A : Type 0} (P : A → Type 0) (d : A) (xs : List A) → ((k : ℕ) → k < length xs → P (get_or xs k d))
     → AllByRecursion P xs
 all_by_place P d [] each = tt
-all_by_place P d (x ∷ xs) each =
-    (each 0 (omega arith), all_by_place P d xs (λ k lt. each (suc k) (omega arith)))
+all_by_place P d (x ∷ xs) each = (each 0 (omega arith), all_by_place P d xs (λ k lt. each (suc k) (omega arith)))
 
 number_at : (n k : ℕ) → k < n → get_or (range_with_len 0 n) k 0 ≡ k
 number_at n k lt = search (arith, get_or-range_with_len)

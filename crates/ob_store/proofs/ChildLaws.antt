@@ -1,5 +1,7 @@
 -- What is kept is kept where a child comes with what it inherits.
-use Rattle.std.proofs.Common.{◌≡◌, ℕ, ◌+◌, ◌<◌, ◌≤◌, List, [], ◌∷◌, length, Option, Some, None, refl, ap, sym, subst, arith, get_or, eqb}
+use Rattle.std.proofs.lemmas.Bool.Decides.{nat_tests}
+use Rattle.ob_codec.proofs.AtPlace.{at_place}
+use Rattle.std.proofs.Common.{◌≡◌, ℕ, ◌+◌, ◌<◌, ◌≤◌, List, [], ◌∷◌, length, Option, Some, None, refl, ap, arith, get_or}
 use Rattle.std.specs.Prelude.{IfSome, IsSome}
 use Rattle.std.proofs.lemmas.List.{length-append, length-set, length-map, get_or-map, get_or_past}
 use Rattle.std.proofs.Math.Seq.{get_or-append_seam}
@@ -20,7 +22,6 @@ use Rattle.ob_store.specs.State.{Whole, settled, by_slot}
 use Rattle.ob_store.specs.Parts.{PartsState, state_of, whole_of}
 use Rattle.ob_store.specs.Kept.{StoreInvariant, IsNamed}
 use Rattle.ob_store.proofs.BySlot.{recounted, count_few}
-use Rattle.ob_store.proofs.CameLaws.{came_one}
 use Rattle.ob_store.proofs.CountedLaws.{handles_at, handles_long}
 use Rattle.ob_store.proofs.NamedLaws.{entry_counted}
 use Rattle.ob_store.proofs.ListingLaws.{listing_child}
@@ -44,15 +45,11 @@ handles_long_after (Some e ∷ places) s = search (arith, length-set, handles_lo
 pub handles_counted : (places : List (Option Entry)) (s : ObjectsState) (k : ℕ) → k < length s.seen.handles
     → get_or (with_handles_of s places).seen.handles k 0 ≡ get_or s.seen.handles k 0 + slot_handles_in k places
 handles_counted [] s k lt = omega arith
-handles_counted (None ∷ places) s k lt =
-    search (arith, sum_by-cons, handles_counted places s k lt)
+handles_counted (None ∷ places) s k lt = search (arith, sum_by-cons, handles_counted places s k lt)
 handles_counted (Some e ∷ places) s k lt =
-    let rest = handles_counted places (with_handle_at s (Some e)) k
-    (omega (arith, length-set s.seen.handles e.id.slot (get_or s.seen.handles e.id.slot 0 + 1), lt)) in
-    let first = came_one s.seen.handles e.id.slot k lt (eqb e.id.slot k) refl in
     let sum : slot_handles_in k (Some e ∷ places) ≡ one_in k e + slot_handles_in k places =
     sum_by-cons _ (Some e) places in
-    omega (arith, rest, first, sum)
+    grind (arith, nat_tests, at_place, handles_counted places (with_handle_at s (Some e)) k)
 
 module _ (p : PartsState) (kept : StoreInvariant p) (parent : ℕ) (w : Whole) (view : whole_of p ≡ w)
     (table : parent < length w.state.tables) where
@@ -67,15 +64,12 @@ module _ (p : PartsState) (kept : StoreInvariant p) (parent : ℕ) (w : Whole) (
       → child ≡ length p.tables.tables
       → t ≡ record p.tables { tables = tables.with_child p.tables.tables parent }
       → places ≡ inherited (table_of p.tables.tables parent)
-  child_read places t child read last copied =
-      search (arith, get_or-append_seam)
+  child_read places t child read last copied = search (arith, get_or-append_seam)
 
   -- what a child inherits has a body
   pub inherited_live : ObjectsInvariant p.objects → (places : List (Option Entry)) → places ≡ child_table → (i : ℕ) →
       IfSome (get_or places i None) (λ e. IsSome (get_or p.objects.seen.bodies e.id.slot None))
-  inherited_live tied places same i = subst (λ (t : List (Option Entry)).
-      IfSome (get_or t i None) (λ e. IsSome (get_or p.objects.seen.bodies e.id.slot None))) (sym same)
-      (by (get_or child_table i None) refl)
+  inherited_live tied places same i = rw same (by (get_or child_table i None) refl)
     where
       by : (x : Option Entry) → get_or child_table i None ≡ x
           → IfSome x (λ e. IsSome (get_or p.objects.seen.bodies e.id.slot None))
@@ -114,7 +108,7 @@ module _ (p : PartsState) (kept : StoreInvariant p) (parent : ℕ) (w : Whole) (
         (let sum = handles_among-with_child id ts parent in
         let fewer = handles_in-inherited id (table_of ts parent) in
         let among = handles_in-among id ts parent
-        (subst (λ (w : Whole). parent < length w.state.tables) (sym view) table) in
+        (rw (← view) at table) in
         omega (arith, sum, fewer, among, h));
     blocks = kept.sound.named.blocks;
   }

@@ -1,14 +1,14 @@
 -- The slots whose objects ended, while bodies go and objects leave.
 use Rattle.std.proofs.Common.{◌≡◌, ℕ, ◌<◌, List, length, Option, Some, None, refl, ap, ◌∙◌, sym, arith, get_or, set, map, Bool, true, false, cond}
-use Rattle.std.specs.Prelude.{IsSome, is_none, is_some, not, slice_get}
+use Rattle.std.specs.Prelude.{IsSome, is_some, not, slice_get}
 use Rattle.std.proofs.lemmas.List.{length-map}
 use Rattle.std.proofs.lemmas.Option.{slice_get-get_or}
 use Rattle.least.specs.Taken.{is_free_within}
 use Rattle.ob_body.specs.declared.body.Body.{Body}
 use Rattle.ob_waits.specs.CountedBodies.{slot_acquired}
-use Rattle.ob_store.specs.Closing.{is_closing, is_closing_in, is_open}
+use Rattle.ob_store.specs.Closing.{is_closing_in, is_open}
 use Rattle.ob_store.specs.declared.object_header.ObjectHeader.{ObjectHeader}
-use Rattle.ob_store.specs.Objects.{Tag, object_at, objects_in, header_body}
+use Rattle.ob_store.specs.Objects.{Tag, objects_in, header_body}
 use Rattle.ob_store.proofs.LabelLaws.{object_read, header_there}
 use Rattle.ob_store.proofs.OwnerLaws.{some_there}
 use Rattle.ob_store.proofs.HeaderLaws.{read, mapped_same, mapped_set, mapped_stays}
@@ -17,16 +17,7 @@ use Rattle.ob_store.proofs.HeaderLaws.{read, mapped_same, mapped_set, mapped_sta
 pub closing_read : (xs : List (Option ObjectHeader)) (ls : List Tag) (opens : List Bool) (k : ℕ)
     → opens ≡ map is_open xs
     → is_free_within opens k ≡ is_closing_in (objects_in xs ls) (map header_body xs) k
-closing_read xs ls opens k opened =
-    search (arith, object_read, read)
-  where
-    ended : (b : Option Body) → not (is_some b) ≡ is_none b
-    ended None = refl
-    ended (Some b) = refl
-
-    by : (x : Option ObjectHeader) (l : Tag) → not (is_open x) ≡ is_closing (object_at x l) (header_body x)
-    by None l = refl
-    by (Some x) l = ended x.body
+closing_read xs ls opens k opened = search (arith, object_read, read)
 
 -- a slot with an object, by its body
 pub opened_at : (xs : List (Option ObjectHeader)) (opens : List Bool) (k : ℕ) (x : ObjectHeader)
@@ -42,18 +33,14 @@ pub opened_left_at : (xs : List (Option ObjectHeader)) (opens : List Bool) (k : 
     (o : Option Body)
     → opens ≡ map is_open xs → get_or xs k None ≡ Some x → o ≡ cond b x.body None → y.body ≡ cond b None x.body
     → cond (is_some o) (set opens k false) opens ≡ map is_open (set xs k (Some y))
-opened_left_at xs opens k x y true o opened there went none = search (arith, mapped_set, mapped_stays)
-opened_left_at xs opens k x y false o opened there went same =
-    search (arith, mapped_stays)
+opened_left_at = search (arith, mapped_set, mapped_stays)
 
 -- a body that goes was there
 pub gone_was_there : (xs : List (Option ObjectHeader)) (opens : List Bool) (k : ℕ) (x : ObjectHeader) (b : Bool)
     (o : Option Body)
     → opens ≡ map is_open xs → get_or xs k None ≡ Some x → o ≡ cond b x.body None → is_some o ≡ true
     → slice_get opens k ≡ Some true
-gone_was_there xs opens k x true o opened there went some =
-    search (arith, opened_at)
-gone_was_there xs opens k x false o opened there went some = search arith
+gone_was_there = search (arith, opened_at)
 
 -- an object comes to a vacant slot, ended or not
 pub vacant_open : (xs : List (Option ObjectHeader)) (opens : List Bool) (k : ℕ) → opens ≡ map is_open xs
@@ -78,8 +65,7 @@ bodied xs k x there some = search (arith, read)
 
 -- a body that is acquired stays
 pub body_stays : (thread : ℕ) (b : Option Body) → is_some (slot_acquired thread b) ≡ is_some b
-body_stays thread None = refl
-body_stays thread (Some b) = refl
+body_stays = search arith
 
 -- an object without a body
 pub ended_here : (xs : List (Option ObjectHeader)) (ls : List Tag) (opens : List Bool) (k : ℕ) → opens ≡ map is_open xs

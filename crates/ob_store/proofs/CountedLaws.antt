@@ -100,14 +100,13 @@ module _ (seen : CountedBodies) (n : ℕ) (ts : List (List (Option Entry))) (ws 
         handles = ap (λ (s : Scene). s.objects.handles) value ∙ (sizes_settled first).handles ∙ counted.handles;
         blocks = recounted seen.blocks after.blocks n (λ k. slot_blocks k ws) (λ k. slot_blocks k ws') counted.blocks
             (ap (λ (s : Scene). length s.objects.blocks) value ∙ (sizes_settled first).blocks)
-            (λ k lt.
-            let at = blocks_at k lt in
-            let c = (settled_counts first).each k (omega arith) in
-            let x : get_or after.blocks k 0 ≡ get_or (settled first).objects.blocks k 0 =
-            ap (λ (s : Scene). get_or s.objects.blocks k 0) value in
-            let y : slot_blocks k ws' ≡ slot_blocks k (settled first).waits =
-            ap (λ (s : Scene). slot_blocks k s.waits) value in
-            omega arith);
+            (λ k lt. omega (
+              arith,
+              blocks_at k lt,
+              (settled_counts first).each k (let at = blocks_at k lt in omega arith),
+              ap (λ (s : Scene). get_or s.objects.blocks k 0) value,
+              ap (λ (s : Scene). slot_blocks k s.waits) value,
+            ));
       }
 
 -- nothing refers to anything yet

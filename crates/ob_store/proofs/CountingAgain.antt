@@ -1,5 +1,5 @@
 -- What is counted in a store that is kept is counted again, so that what it saves isn't refused.
-use Rattle.std.proofs.Common.{◌≡◌, ℕ, ◌+◌, ◌<◌, ◌≤◌, Bool, true, cond, List, [], ◌∷◌, length, Option, Some, None, Ok, Err, refl, sym, ap, ◌∙◌, subst, arith}
+use Rattle.std.proofs.Common.{◌≡◌, ℕ, ◌+◌, ◌<◌, ◌≤◌, Bool, true, cond, List, [], ◌∷◌, length, Option, Some, None, Ok, Err, refl, sym, ap, ◌∙◌, arith}
 use Rattle.ob_store.proofs.ByPlace.{replicate_at}
 use Rattle.std.proofs.lemmas.Bool.{and_from, lt-ltb}
 use Rattle.std.proofs.lemmas.List.{ext_get_or, length-replicate}
@@ -25,12 +25,10 @@ abbrev Again : Places → List (List (Option Entry)) → Type 0
 Again p tables = (q : Places) × (counting_all p tables ≡ Ok q)
 
 pub its_id : (x : Option Object) (id : Id) → id_in x ≡ Some id → is_its id x ≡ true
-its_id None id e = absurd cc
-its_id (Some o) id e = search (arith, same_Some, same_id-same, o.id)
+its_id = search (arith, same_Some, same_id-same)
 
 may-again : (p : Places) (id : Id) → IsThere p.objects id → handles_at p id.slot < 4294967295 → may_count p id ≡ true
-may-again p id there room =
-    search (arith, its_id, and_from, lt-ltb, id.slot, p.objects)
+may-again p id there room = search (arith, its_id, and_from, lt-ltb, id.slot, p.objects)
 
 in-again : (p : Places) (places : List (Option Entry)) → IsWide p →
     ((k : ℕ) → handles_at p k + slot_handles_in k places ≤ 4294967295) →
@@ -72,8 +70,7 @@ all-again p (table ∷ tables) wide few named =
     let rest = all-again a.0 tables (still_wide p a.0 _ _ c wide)
     (λ k. (let s = sum_by-cons (slot_handles_in k) table tables in let f = few k in let h = c.handles k in
     omega (arith, s, f, h)))
-    (λ id h. subst (λ (z : Places). IsThere z.objects id) (sym c.same)
-    (named id (let s = sum_by-cons (handles_in id) table tables in omega (arith, s, h)))) in
+    (λ id h. rw c.same (named id (let s = sum_by-cons (handles_in id) table tables in omega (arith, s, h)))) in
     (rest.0, ap (λ r. r >>= λ (z : Places). counting_all z tables) a.1 ∙ rest.1)
 
 pub counting_again : (p : Places) (processes limit : ℕ) (tables : List (List (Option Entry)))

@@ -1,10 +1,9 @@
 -- What counting leaves: all is as it was but for the handles, which are more by the entries that name a slot.
-use Rattle.std.proofs.Common.{◌≡◌, ℕ, zero, suc, ◌+◌, ◌<◌, Bool, true, false, cond, List, [], ◌∷◌, length, get_or, Option, Some, None, Ok, sym, ap, ◌∙◌, subst, arith}
+use Rattle.std.proofs.Common.{◌≡◌, ℕ, ◌+◌, ◌<◌, true, cond, List, [], ◌∷◌, length, get_or, Option, Some, Ok, sym, ap, ◌∙◌, arith}
 use Rattle.std.proofs.lemmas.List.{length-set, get_or-set_same, get_or-set_other}
 use Rattle.std.proofs.lemmas.List.Sums.{sum_by-cons}
 use Rattle.pin_core.specs.declared.id.Id.{Id}
-use Rattle.ob_codec.specs.declared.fault.TextFault.TheVariants.{Value}
-use Rattle.ob_codec.specs.Steps.{bind_ok, guard_passed}
+use Rattle.ob_codec.specs.Steps.{bind_ok}
 use Rattle.ob_tables.specs.declared.entry.Entry.{Entry}
 use Rattle.ob_tables.specs.Counts.{names, names_slot, handles_in, handles_among, slot_handles_in, slot_handles}
 use Rattle.ob_tables.proofs.Counting.{one_id}
@@ -31,24 +30,16 @@ pub still_wide : (p q : Places) (more : ℕ → ℕ) (Named : Id → Type 0) →
 still_wide p q more Named c wide = ap (λ (z : Places). length z.objects) c.same ∙ wide ∙ sym c.length_is
 
 pub its_there : (x : Option Object) (id : Id) → is_its id x ≡ true → id_in x ≡ Some id
-its_there None id e = absurd cc
-its_there (Some o) id e = ap Some (one_id o.id id e)
+its_there = search (arith, one_id)
 
 -- one handle more of the slot of an entry
 pub one_counts : (p : Places) (e : Entry) → IsWide p → may_count p e.id ≡ true →
     Counts p (with_handle p e.id.slot) (λ k. cond (names_slot k (Some e)) 1 0) (λ id. names id (Some e) ≡ true)
-one_counts p e wide may =
-    search (arith, its_there, get_or-set_other, get_or-set_same, length-set, there_within)
+one_counts p e wide may = search (arith, its_there, get_or-set_other, get_or-set_same, length-set, there_within)
 
 place_counts : (p q : Places) (place : Option Entry) → IsWide p → counting p place ≡ Ok q →
     Counts p q (λ k. cond (names_slot k place) 1 0) (λ id. names id place ≡ true)
-place_counts p q None wide e =
-    search arith
-place_counts p q (Some entry) wide e =
-    let g = guard_passed (may_count p entry.id) Value (with_handle p entry.id.slot) q e in
-    subst (λ (z : Places). Counts p z (λ k. cond (names_slot k (Some entry)) 1 0) (λ id. names id (Some entry) ≡
-    true)) g.1
-    (one_counts p entry wide g.0)
+place_counts = search (arith, one_counts)
 
 -- one count behind another
 then_counts : (p q r : Places) (more more' all : ℕ → ℕ) (Named Named' All : Id → Type 0) → Counts p q more Named →
@@ -61,8 +52,7 @@ then_counts p q r more more' all Named Named' All c d sum either = grind arith
 
 pub table_counts : (p q : Places) (places : List (Option Entry)) → IsWide p → counting_in p places ≡ Ok q →
     Counts p q (λ k. slot_handles_in k places) (λ id. 0 < handles_in id places)
-table_counts p q [] wide e =
-    search arith
+table_counts p q [] wide e = search arith
 table_counts p q (place ∷ places) wide e =
     let b = bind_ok (counting p place) (λ (z : Places). counting_in z places) q e in
     let c = place_counts p b.0 place wide b.1 in
@@ -72,17 +62,10 @@ table_counts p q (place ∷ places) wide e =
     c (table_counts b.0 q places (still_wide p b.0 _ _ c wide) b.2)
     (search (arith, sum_by-cons))
     (search arith)
-  where
-    either : (id : Id) (t : Bool) → names id place ≡ t → 0 < cond t 1 0 + handles_in id places →
-        (names id place ≡ true → IsThere p.objects id) → (0 < handles_in id places → IsThere p.objects id) →
-        IsThere p.objects id
-    either id true is h first later = first is
-    either id false is h first later = later (omega arith)
 
 pub tables_count : (p q : Places) (tables : List (List (Option Entry))) → IsWide p → counting_all p tables ≡ Ok q →
     Counts p q (λ k. slot_handles k tables) (λ id. 0 < handles_among id tables)
-tables_count p q [] wide e =
-    search arith
+tables_count p q [] wide e = search arith
 tables_count p q (table ∷ tables) wide e =
     let b = bind_ok (counting_in p table) (λ (z : Places). counting_all z tables) q e in
     let c = table_counts p b.0 table wide b.1 in
@@ -92,9 +75,3 @@ tables_count p q (table ∷ tables) wide e =
     c (tables_count b.0 q tables (still_wide p b.0 _ _ c wide) b.2)
     (search (arith, sum_by-cons))
     (search arith)
-  where
-    either : (id : Id) (n : ℕ) → handles_in id table ≡ n → 0 < n + handles_among id tables →
-        (0 < handles_in id table → IsThere p.objects id) → (0 < handles_among id tables → IsThere p.objects id) →
-        IsThere p.objects id
-    either id zero is h first later = later (omega arith)
-    either id (suc n) is h first later = first (omega arith)

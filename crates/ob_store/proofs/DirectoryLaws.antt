@@ -1,9 +1,9 @@
 -- How the rows of the directory change with the handles and with the objects, and whose rows they are.
-use Rattle.std.proofs.Common.{◌≡◌, ◌≢◌, ℕ, zero, suc, ◌<◌, List, [], ◌∷◌, ◌++◌, length, Option, Some, None, refl, ap, ◌∙◌, arith, get_or, set, Bool, true, false, cond, not, ◌&&◌, ltb, inl, inr}
+use Rattle.std.proofs.Common.{◌≡◌, ℕ, ◌≢◌, zero, suc, ◌<◌, List, [], ◌∷◌, ◌++◌, length, Option, Some, None, refl, ap, ◌∙◌, arith, get_or, set, Bool, true, false, cond, not, ◌&&◌, ltb, inl, inr}
 use Rattle.std.specs.List.{All, Contains, cons_option, filter, filter_map}
 use Rattle.std.proofs.lemmas.Bool.{cases_eq}
 use Rattle.std.proofs.lemmas.List.{get_or-set_other, get_or-set_same, length-set, set-get_or, set-set}
-use Rattle.std.proofs.lemmas.List.Elements.{All-append, All-cons, All-nil, All-tail, Contains-append_left, Contains-append_right, filter-append}
+use Rattle.std.proofs.lemmas.List.Elements.{All-append, All-nil, All-tail, Contains-append_left, Contains-append_right, filter-append}
 use Rattle.pin_core.specs.declared.id.Id.{Id}
 use Rattle.pin_core.specs.Holds.{same_id}
 use Rattle.ob_name.specs.Names.{ObjectName}
@@ -63,8 +63,7 @@ module _ {A B : Type 0} (f : Option A → Option B) where
   -- what is picked is picked of a slot
   picked_cons : (P : B → Type 0) (o : Option B) (ys : List B) → ((y : B) → o ≡ Some y → P y) → All P ys
       → All P (cons_option o ys)
-  picked_cons P None ys here rest = rest
-  picked_cons P (Some y) ys here rest = All-cons P y ys (here y refl) rest
+  picked_cons = search arith
 
   picked_all : (P : B → Type 0) (xs : List (Option A)) → ((k : ℕ) (y : B) → f (get_or xs k None) ≡ Some y → P y)
       → All P (filter_map f xs)
@@ -73,7 +72,7 @@ module _ {A B : Type 0} (f : Option A → Option B) where
 
   picked_later : (o : Option B) (ys : List B) (y : B) → Contains ys y → Contains (cons_option o ys) y
   picked_later None ys y there = there
-  picked_later (Some z) ys y there = let less = there.1 in (suc there.0, omega arith, there.2)
+  picked_later (Some z) ys y there = (suc there.0, omega arith, there.2)
 
   picked_there : (xs : List (Option A)) (k : ℕ) (x : A) (y : B) → get_or xs k None ≡ Some x → f (Some x) ≡ Some y
       → Contains (filter_map f xs) y
@@ -102,16 +101,13 @@ is_of_other id row = not (same_id row.1 id)
 
 filtered_first : (id : Id) (row : Row) (rows : Rows) (b : Bool) → same_id row.1 id ≡ b
     → filter (is_of_other id) (row ∷ rows) ≡ cond b (filter (is_of_other id) rows) (row ∷ filter (is_of_other id) rows)
-filtered_first id row rows true is = search arith
-filtered_first id row rows false is = search arith
+filtered_first = search arith
 
 row_gone : (ts ts' : Tables) (id : Id) (b : ℕ) (x : Option Object) (rows rows' : Rows)
     → ((o : Object) → has_handles o.id ts' ≡ (not (same_id o.id id) && has_handles o.id ts))
     → rows' ≡ filter (is_of_other id) rows
     → cons_option (row_of ts' b x) rows' ≡ filter (is_of_other id) (cons_option (row_of ts b x) rows)
-row_gone ts ts' id b None rows rows' gone rest = rest
-row_gone ts ts' id b (Some o) rows rows' gone rest =
-    search arith
+row_gone = search arith
 
 pub rows_gone : (ts ts' : Tables) (id : Id) (xs : ObjectSlots) (n : ℕ)
     → ((o : Object) → has_handles o.id ts' ≡ (not (same_id o.id id) && has_handles o.id ts))
@@ -139,12 +135,7 @@ others_stay id (row ∷ rows) apart =
 pub first_goes : (id : Id) (row : Row) (rows rest : Rows) (b : Bool) → same_id row.1 id ≡ b
     → (b ≡ true → filter (is_of_other id) rows ≡ rows) → rest ≡ filter (is_of_other id) rows
     → cond b rows (row ∷ rest) ≡ filter (is_of_other id) (row ∷ rows)
-first_goes id row rows rest true is stay same = search arith
-first_goes id row rows rest false is stay same = search arith
-
--- an object of another birth has no row, and none has one without handles
-pub other_birth : (ts : Tables) (b : ℕ) (o : Object) → o.birth ≢ b → row_of ts b (Some o) ≡ None
-other_birth ts b o other = search arith
+first_goes = search arith
 
 own_birth : (ts : Tables) (b : ℕ) (o : Object) → o.birth ≡ b → has_handles o.id ts ≡ true
     → row_of ts b (Some o) ≡ named_row o.id o.name

@@ -1,10 +1,10 @@
 -- The entries of a table leave one after another.
-use Rattle.std.proofs.Common.{◌≡◌, ℕ, zero, suc, add-one, ◌+◌, ◌*◌, ◌<◌, List, [], ◌∷◌, length, Option, Some, None, refl, ap, ◌∙◌, sym, subst, arith, get_or, set, set-set, Bool, false, cond, eqb, ltb}
+use Rattle.std.proofs.Common.{◌≡◌, ℕ, zero, suc, add-one, ◌+◌, ◌*◌, ◌<◌, List, [], ◌∷◌, length, Option, Some, None, refl, ap, ◌∙◌, sym, subst, arith, get_or, set, set-set, Bool, eqb}
 use Rattle.std.proofs.Math.Nat.{mul-div_cancel_left}
 use Rattle.std.proofs.lemmas.List.{get_or-set_same, length-set, set-get_or}
 use Rattle.std.proofs.lemmas.Bool.Decides.{nat_tests}
 use Rattle.ob_tables.specs.declared.entry.Entry.{Entry}
-use Rattle.ob_tables.specs.Table.{entry_at, place_of, without_entry}
+use Rattle.ob_tables.specs.Table.{entry_at, place_of}
 use Rattle.ob_tables.specs.Tables.{HandleTables, table_of, without_entries, without_entry_of}
 use Rattle.ob_tables.proofs.Counting.{without_found}
 use Rattle.std.specs.Prelude.{IsSome}
@@ -17,7 +17,7 @@ use Rattle.ob_store.specs.Moves.{rows_left}
 use Rattle.ob_store.specs.Objects.{ObjectsState, name_in, without_handle_of}
 use Rattle.ob_store.specs.Parts.{PartsState}
 use Rattle.ob_store.specs.State.{State}
-use Rattle.ob_store.specs.UnderWay.{AreLeft, IsEnding, IsUnderWay, tables_left, with_left, without_first}
+use Rattle.ob_store.specs.UnderWay.{IsEnding, tables_left, with_left, without_first}
 use Rattle.ob_store.proofs.EndingLaws.{ending_process}
 use Rattle.ob_store.proofs.EnoughLaws.{enough_left}
 use Rattle.ob_store.proofs.LeavingLaws.{bodies_left, held, has_object, sound_left, way_left}
@@ -27,9 +27,7 @@ place_is : (place : ℕ) → place_of (4 * (place + 1)) ≡ place
 place_is place = omega (arith, mul-div_cancel_left (place + 1) {n = 4} (omega arith))
 
 at_place : (t : List (Option Entry)) (place : ℕ) → entry_at t (4 * (place + 1)) ≡ get_or t place None
-at_place t place =
-    let high : ltb (4 * (place + 1)) 4 ≡ false = grind (arith, nat_tests) in
-    ap (λ b. cond b None (get_or t (place_of (4 * (place + 1))) None)) high ∙ ap (λ k. get_or t k None) (place_is place)
+at_place t place = grind (arith, nat_tests, place_is place)
 
 -- the entry of the next place still stands there
 left_here : (places : List (Option Entry)) (n : ℕ) → get_or (without_first n places) n None ≡ get_or places n None
@@ -46,7 +44,7 @@ left_suc (place ∷ places) zero = refl
 left_suc (place ∷ places) (suc n) = ap (λ (t : List (Option Entry)). None ∷ t) (left_suc places n)
 
 left_more : (places : List (Option Entry)) (n : ℕ) → set (without_first n places) n None ≡ without_first (n + 1) places
-left_more places n = left_suc places n ∙ ap (λ k. without_first k places) (sym (add-one n))
+left_more places n = rw (add-one n) (left_suc places n)
 
 -- in the end none is left
 pub none_left : (places : List (Option Entry)) (k : ℕ) → get_or (without_first (length places) places) k None ≡ None
@@ -65,25 +63,22 @@ module _ (ts : List (List (Option Entry))) (p : ℕ) (places : List (Option Entr
   -- the entry of the next place is that of its value
   pub left_entry : p < length ts → entry_at (table_of (tables_left ts p places n) p) (4 * (n + 1))
       ≡ get_or places n None
-  left_entry within = at_place (table_of now p) n ∙ ap (λ (t : List (Option Entry)). get_or t n None)
-      (left_table within) ∙ left_here places n
+  left_entry within = rw (at_place (table_of now p) n, left_table within) (left_here places n)
 
   -- there is one, and it leaves
   pub left_some : p < length ts → (e : Entry) → get_or places n None ≡ Some e
       → without_entry_of (tables_left ts p places n) p (4 * (n + 1)) ≡ tables_left ts p places (n + 1)
   left_some within e is =
-      set-set ts p (without_first n places) (without_entry (table_of now p) (4 * (n + 1)))
-      ∙ ap (λ (t : List (Option Entry)). set ts p t)
-      (without_found (table_of now p) (4 * (n + 1)) e (left_entry within ∙ is)
-      ∙ ap (λ k. set (table_of now p) k None) (place_is n)
-      ∙ ap (λ (t : List (Option Entry)). set t n None) (left_table within)
-      ∙ left_more places n)
+      rw (
+        without_found (table_of now p) (4 * (n + 1)) e (left_entry within ∙ is),
+        place_is n,
+        left_table within,
+        left_more places n,
+      ) (set-set ts p (without_first n places) (without_first (n + 1) places))
 
   -- there is none
   pub left_none : get_or places n None ≡ None → tables_left ts p places n ≡ tables_left ts p places (n + 1)
-  left_none is = ap (λ (t : List (Option Entry)). set ts p t)
-      (sym (set-get_or (without_first n places) n None) ∙ ap (set (without_first n places) n) (left_here places n ∙ is)
-      ∙ left_more places n)
+  left_none is = rw (← left_more places n, ← is, ← left_here places n, set-get_or (without_first n places) n None) refl
 
 -- the entry of the next place leaves
 module _ (p : PartsState) (process : ℕ) (places : List (Option Entry)) (n : ℕ) (e : Entry)
@@ -111,47 +106,36 @@ module _ (p : PartsState) (process : ℕ) (places : List (Option Entry)) (n : �
       (is : q ≡ without_handle_of p.objects e.id.slot)
       (last : was_last ≡ eqb (get_or p.objects.seen.handles e.id.slot 0) 1)
       (names : rows ≡ rows_left p.rows was_last (name_in (get_or q.objects e.id.slot None))) where
-    abbrev after : List (List (Option Entry)) → PartsState
-    after tables = record p { tables = record p.tables { tables = tables }; objects = q; rows = rows }
-
     pub next_sound : IsSound (with_left (record p { objects = q; rows = rows }) process places (n + 1))
-    next_sound = subst (λ (t : List (List (Option Entry))). IsSound (after t))
-        (left_some p.tables.tables process places n within e here)
-        (sound_left before process value e sound tied found was_last q rows is last names)
+    next_sound = rw (left_some p.tables.tables process places n within e here)
+        at (sound_left before process value e sound tied found was_last q rows is last names)
 
     pub next_ending : ObjectsInvariant q → (first : KeeperState) (s : State)
         → IsEnding first (with_left p process places n) s
         → IsEnding first (with_left (record p { objects = q; rows = rows }) process places (n + 1))
         (record s { tables = tables_left p.tables.tables process places (n + 1) })
     next_ending done first s ending = record {
-      under_way = subst (λ (t : List (List (Option Entry))). IsUnderWay first (after t) (record s { tables = t }))
-          (left_some p.tables.tables process places n within e here)
-          (way_left before process value e sound tied found was_last q rows is last names
+      under_way = rw (left_some p.tables.tables process places n within e here)
+          at (way_left before process value e sound tied found was_last q rows is last names
           done first s ending.under_way);
       enough = enough_left p.signaled p.objects.seen.bodies q.seen.bodies p.waits.waits
-          (subst (λ (x : ObjectsState). AreLeft p.objects.seen.bodies x.seen.bodies) (sym is)
-          (bodies_left before process value e sound tied found)) ending.enough;
+          (rw is (bodies_left before process value e sound tied found)) ending.enough;
     }
 
 -- no entry left
 pub same_ending : (first : KeeperState) (p : PartsState) (s : State) (tables : List (List (Option Entry)))
     → p.tables.tables ≡ tables → IsEnding first p s
     → IsEnding first (record p { tables = record p.tables { tables = tables } }) (record s { tables = tables })
-same_ending first p s tables is ending = subst (λ (t : List (List (Option Entry))). IsEnding first
-    (record p { tables = record p.tables { tables = t } }) (record s { tables = t })) is
-    (subst (λ (x : State). IsEnding first p x) (λ i. record s {
-      tables =
-          ap (λ (x : State). x.tables) (sym ending.under_way.rest) i;
-    }) ending)
+same_ending first p s tables is ending =
+    rw (← is) (subst (λ (t : List (List (Option Entry))). IsEnding first p (record s { tables = t }))
+    (ap (λ (x : State). x.tables) (sym ending.under_way.rest)) ending)
 
 -- the entries of a process are taken out: before the first of them leaves the tables are what they were
 pub taken_out : (ts new : HandleTables) (process : ℕ) (places : List (Option Entry))
     → new ≡ record ts { tables = without_entries ts.tables process } → places ≡ table_of ts.tables process
     → record new { tables = tables_left new.tables process places 0 } ≡ ts
 taken_out ts new process places is taken =
-    (λ i. record (is i) { tables = tables_left (is i).tables process (taken i) 0 })
-    ∙ ap (λ (t : List (List (Option Entry))). record ts { tables = t })
-    (set-set ts.tables process [] (table_of ts.tables process) ∙ set-get_or ts.tables process [])
+    rw (is, taken, set-set ts.tables process [] (table_of ts.tables process), set-get_or ts.tables process []) refl
 
 -- once all have left the process ends
 module _ (first : KeeperState) (p : PartsState) (s : State) (process : ℕ) (places : List (Option Entry))
@@ -175,14 +159,12 @@ module _ (first : KeeperState) (p : PartsState) (s : State) (process : ℕ) (pla
 
   none : (k : ℕ) → get_or (table_of (tables_left (without_entries p.tables.tables process) process places
       (length places)) process) k None ≡ None
-  none k = ap (λ (t : List (Option Entry)). get_or t k None)
-      (left_table out process places (length places) (omega (arith, length-set p.tables.tables process [], within)))
-      ∙ none_left places k
+  none k = rw (left_table out process places (length places)
+      (omega (arith, length-set p.tables.tables process [], within))) (none_left places k)
 
   gone : without_entries (tables_left (without_entries p.tables.tables process) process places (length places)) process
       ≡ without_entries p.tables.tables process
-  gone = set-set (without_entries p.tables.tables process) process (without_first (length places) places) []
-      ∙ set-set p.tables.tables process [] []
+  gone = set-set out process (without_first (length places) places) [] ∙ set-set p.tables.tables process [] []
 
   pub ending_emptied : (new : HandleTables) → new ≡ record p.tables { tables = without_entries p.tables.tables process }
       → IsEnding first (with_left (record p { tables = new }) process places (length places))
@@ -195,23 +177,6 @@ module _ (first : KeeperState) (p : PartsState) (s : State) (process : ℕ) (pla
         tables = new;
       }) (process_ended s process)
   ending_emptied new is ending =
-      subst (λ (t : HandleTables). IsEnding first (record p {
-        processes =
-            record p.processes { processes = set p.processes.processes process None };
-        tables = t;
-      })
-      (process_ended s process)) (sym is)
-      (subst (λ (z : List (List (Option Entry)) × List (List (Option Entry))). IsEnding first
-      (record p {
-        processes = record p.processes { processes = set p.processes.processes process None };
-        tables = record p.tables { tables = z.0 };
-      }) (record s {
-        tables = z.1;
-        processes = set s.processes process None;
-      }))
-      (λ i. (gone i, (gone ∙ ap (λ (t : List (List (Option Entry))). without_entries t process) same) i))
-      (ending_process first (record p { tables = record p.tables { tables = last } })
-      (record s { tables = last }) process
-      (subst (λ (t : HandleTables). IsEnding first (with_left (record p { tables = t }) process places (length places))
-      (record s { tables = tables_left t.tables process places (length places) })) is ending)
-      table none alone))
+      let done = ending_process first (record p { tables = record p.tables { tables = last } })
+      (record s { tables = last }) process (rw is at ending) table none alone in
+      rw (is, ← same, ← gone) done

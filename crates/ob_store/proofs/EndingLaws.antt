@@ -1,11 +1,10 @@
 -- Threads and processes end: what is sound stays so, and is on its way to the settled state.
-use Rattle.std.proofs.Common.{◌≡◌, ◌≢◌, ℕ, ◌<◌, List, length, Option, Some, None, refl, ap, ◌∙◌, sym, subst, arith, get_or, set, map, true, inl, inr}
+use Rattle.std.proofs.Common.{◌≡◌, ℕ, ◌≢◌, ◌<◌, List, length, Option, Some, None, refl, ap, ◌∙◌, arith, get_or, set, map, true}
 use Rattle.std.specs.Prelude.{is_some, sum_by}
 use Rattle.std.proofs.lemmas.List.{length-set, length-map, get_or-set_other, get_or-set_same}
 use Rattle.pin_core.specs.declared.id.Id.{Id}
 use Rattle.pin_words.specs.Keepers.{KeeperState}
 use Rattle.ob_body.specs.declared.body.Body.{Body}
-use Rattle.ob_body.specs.declared.body.Body.TheVariants.{Mutex}
 use Rattle.ob_body.specs.Body.{owner_of, after_abandon}
 use Rattle.ob_tables.specs.declared.entry.Entry.{Entry}
 use Rattle.ob_tables.specs.Tables.{table_of, without_entries}
@@ -46,12 +45,10 @@ left_mapped : (t : ℕ) (bodies after : List (Option Body)) → AreLeft bodies a
 left_mapped t bodies after l = search (arith, length-map, read)
 
 body_owner : (u t : ℕ) (b : Body) → owner_of (after_abandon u b) ≡ Some t → (owner_of b ≡ Some t) × (t ≢ u)
-body_owner u t (Mutex m) h = search arith
-body_owner u t b h = absurd (cc)
+body_owner = search arith
 
 owner_left_by : (u t : ℕ) (x : Option Body) → slot_owner (slot_left_by u x) ≡ Some t → (slot_owner x ≡ Some t) × (t ≢ u)
-owner_left_by u t None h = absurd (cc)
-owner_left_by u t (Some b) h = body_owner u t b h
+owner_left_by = search (arith, body_owner)
 
 -- whose wait is left is another's
 waiter_left : (t u : ℕ) (w : Option Wait) → thread_of (unless_of t w) ≡ Some u → (thread_of w ≡ Some u) × (u ≢ t)
@@ -84,9 +81,6 @@ module _ (p : PartsState) (q r : ObjectsState) (a : SignaledState) (t : ℕ)
     signaled = a;
   }
 
-  abbrev limit : ℕ
-  limit = p.limits.max_recursion
-
   rests : kept_rest r ≡ kept_rest p.objects
   rests = seen_rest ∙ blocks_rest
 
@@ -97,7 +91,7 @@ module _ (p : PartsState) (q r : ObjectsState) (a : SignaledState) (t : ℕ)
   body_is k = search (arith, read)
 
   fewer : AreLeft p.objects.seen.bodies q.seen.bodies
-  fewer = subst (λ (x : CountedBodies). AreLeft p.objects.seen.bodies x.bodies) (sym blocks) (left_blocks ids p.objects.seen)
+  fewer = rw blocks (left_blocks ids p.objects.seen)
 
   form_at : (k : ℕ) → is_some (get_or r.seen.bodies k None) ≡ true
       → slot_form (get_or r.seen.bodies k None) ≡ slot_form (get_or p.objects.seen.bodies k None)
@@ -105,14 +99,8 @@ module _ (p : PartsState) (q r : ObjectsState) (a : SignaledState) (t : ℕ)
 
   owner_at : (k u : ℕ) → slot_owner (get_or r.seen.bodies k None) ≡ Some u
       → (slot_owner (get_or p.objects.seen.bodies k None) ≡ Some u) × (u ≢ t)
-  owner_at k u h =
-      let own = owner_left_by t u (get_or q.seen.bodies k None) (sym (ap slot_owner (body_is k)) ∙ h) in (
-        elim (fewer.each k) [
-          | inl same ↦ sym (ap slot_owner same) ∙ own.0
-          | inr none ↦ absurd (let e = ap slot_owner none in let f = own.0 in cc (e, f))
-        ],
-        own.1,
-      )
+  owner_at k u h = let own = owner_left_by t u (get_or q.seen.bodies k None) (rw (body_is k) at h) in
+      grind (arith, own, fewer.each k)
 
   way_thread : ObjectsInvariant r → (first : KeeperState) (s : State) → IsUnderWay first p s
       → IsUnderWay first without (thread_ended s t)
@@ -127,7 +115,7 @@ module _ (p : PartsState) (q r : ObjectsState) (a : SignaledState) (t : ℕ)
           owners = λ k u h. let own = owner_at k u h in
               live_still p.processes.threads t u own.1 (way.sound.of_live.owners k u own.0);
           waiters = λ n u h. let own = waiter_left t u (get_or p.waits.waits n None)
-              (sym (ap thread_of (read (unless_of t) p.waits.waits n)) ∙ h) in
+              (rw (read (unless_of t) p.waits.waits n) at h) in
               live_still p.processes.threads t u own.1 (way.sound.of_live.waiters n u own.0);
         })
         (search (arith, body_is, fewer, room_dropped));
@@ -137,8 +125,7 @@ module _ (p : PartsState) (q r : ObjectsState) (a : SignaledState) (t : ℕ)
           bodies = r.seen.bodies;
           waits = map (unless_of t) x.waits;
         }) way.rest;
-    bodies = subst (λ (x : List (Option Body)). AreLeft (map (slot_left_by t) s.bodies) x) (sym bodies_are)
-        (left_mapped t s.bodies q.seen.bodies (search (arith, fewer)));
+    bodies = rw bodies_are (left_mapped t s.bodies q.seen.bodies (search (arith, fewer)));
     keeper = ap (λ (x : KeptRest). x.keeper) rests ∙ way.keeper;
   }
     where
@@ -149,14 +136,12 @@ module _ (p : PartsState) (q r : ObjectsState) (a : SignaledState) (t : ℕ)
             ∙ recounted p.objects.seen.blocks q.seen.blocks (length p.objects.objects)
             (λ k. slot_blocks k p.waits.waits) (λ k. slot_blocks k dropped) way.sound.counted.blocks
             (ap (λ (x : CountedBodies). length x.blocks) blocks ∙ (sizes_left ids p.objects.seen).blocks)
-            (λ k lt.
-            let at = blocks_at p.objects.seen (length p.objects.objects) p.tables.tables p.waits.waits way.sound.counted
-            k lt in
-            let x : get_or q.seen.blocks k 0 ≡ get_or (without_blocks p.objects.seen ids).blocks k 0 =
-            ap (λ (z : CountedBodies). get_or z.blocks k 0) blocks in
-            let y = left_all ids p.objects.seen k in
-            let z = slot_dropped k t p.waits.waits alone in
-            omega arith);
+            (λ k lt. rw blocks (omega (
+              arith,
+              blocks_at p.objects.seen (length p.objects.objects) p.tables.tables p.waits.waits way.sound.counted k lt,
+              left_all ids p.objects.seen k,
+              slot_dropped k t p.waits.waits alone,
+            )));
       }
 
   pub ending_thread : ObjectsInvariant r → KeepsEnough p.signaled q.seen.bodies a r.seen.bodies
@@ -184,12 +169,10 @@ module _ (first : KeeperState) (p : PartsState) (s : State) (process : ℕ)
   way = ending.under_way
 
   slots_same : (k : ℕ) → slot_handles k (without_entries p.tables.tables process) ≡ slot_handles k p.tables.tables
-  slots_same k =
-      search (arith, none_counted, slot_handles-without_entries)
+  slots_same k = search (arith, none_counted, slot_handles-without_entries)
 
   ids_same : (id : Id) → handles_among id (without_entries p.tables.tables process) ≡ handles_among id p.tables.tables
-  ids_same id =
-      search (arith, none_counted, handles_among-without_entries)
+  ids_same id = search (arith, none_counted, handles_among-without_entries)
 
   pub ending_process : IsEnding first (record p {
     processes =

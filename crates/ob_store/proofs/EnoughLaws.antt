@@ -1,5 +1,5 @@
 -- The slots by which it is enough to settle, while bodies and waits go and mutexes are abandoned.
-use Rattle.std.proofs.Common.{◌≡◌, ℕ, List, [], ◌∷◌, ◌++◌, Option, None, ap, ◌∙◌, sym, subst, arith, get_or, set, map, true, false}
+use Rattle.std.proofs.Common.{◌≡◌, ℕ, List, [], ◌∷◌, ◌++◌, Option, None, ap, ◌∙◌, sym, arith, get_or, set, map, true, false}
 use Rattle.std.proofs.lemmas.List.{get_or-set_other}
 use Rattle.pin_core.specs.declared.id.Id.{Id}
 use Rattle.ob_body.specs.declared.body.Body.{Body}
@@ -21,15 +21,14 @@ enough_settled a bodies ws settled = search arith
 pub enough_left : (a : SignaledState) (bodies after : List (Option Body)) (ws : List (Option Wait))
     → AreLeft bodies after → IsEnough a bodies ws → IsEnough a after ws
 enough_left a bodies after ws left enough = record {
-  each = λ whole. let e = enough.each whole in search arith;
+  each = λ whole. search arith;
 }
 
 -- a thread's wait leaves
 pub enough_dropped : (a : SignaledState) (bodies : List (Option Body)) (ws : List (Option Wait)) (t : ℕ)
     → IsEnough a bodies ws → IsEnough a bodies (map (unless_of t) ws)
 enough_dropped a bodies ws t enough = record {
-  each = λ whole. let e = enough.each whole in
-      search (arith, settled_dropped);
+  each = λ whole. search (arith, settled_dropped);
 }
 
 -- a slot that isn't listed with one more
@@ -38,7 +37,7 @@ not_listed : (ids : List Id) (id : Id) (k : ℕ) → has_slot (ids ++ id ∷ [])
 not_listed [] id k h = search arith
 not_listed (x ∷ ids) id k h =
     let rest = not_listed ids id k (grind arith) in
-    let none = rest.0 in (grind arith, rest.1)
+    (grind arith, rest.1)
 
 -- a slot was noted, and its body changed
 pub enough_added : (a b : SignaledState) (p q : CountedBodies) (slot : ℕ) (x : Option Body)
@@ -62,6 +61,5 @@ enough_added a b p q slot x is added before ws enough = record {
 pub enough_unwaited : (a : SignaledState) (o p : CountedBodies) (ws : List (Option Wait)) (t : ℕ) (ids : List Id)
     → p ≡ without_blocks o ids → IsEnough a o.bodies ws → IsEnough a p.bodies (map (unless_of t) ws)
 enough_unwaited a o p ws t ids blocks enough =
-    let fewer : AreLeft o.bodies p.bodies = subst (λ (x : CountedBodies). AreLeft o.bodies x.bodies) (sym blocks)
-    (left_blocks ids o) in
+    let fewer : AreLeft o.bodies p.bodies = rw blocks (left_blocks ids o) in
     search (arith, enough_dropped)

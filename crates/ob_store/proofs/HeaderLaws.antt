@@ -1,5 +1,5 @@
 -- One header changed: what becomes of the lists that are read off the headers.
-use Rattle.std.proofs.Common.{◌≡◌, ℕ, ◌-◌, ◌+◌, ◌<◌, List, length, Option, Some, None, ap, ◌∙◌, sym, subst, arith, get_or, set, map, replicate, Bool, true, false, cond, eqb}
+use Rattle.std.proofs.Common.{◌≡◌, ℕ, ◌-◌, ◌+◌, ◌<◌, List, length, Option, Some, None, ap, ◌∙◌, sym, arith, get_or, set, map, replicate, Bool, true, false, cond, eqb}
 use Rattle.std.specs.Prelude.{IfSome, IsSome}
 use Rattle.std.proofs.Math.Seq.{map-set_same}
 use Rattle.std.proofs.lemmas.List.{length-map, get_or-map, get_or_past, get_or-set_same, map-set, set-get_or}
@@ -64,8 +64,7 @@ module _ (xs : List (Option ObjectHeader)) (k : ℕ) (x : ObjectHeader) (is : ge
         bodies = set (map header_body xs) k
             (slot_acquired thread (get_or (map header_body xs) k None));
       }
-  seen_acquired thread =
-      search (arith, handles_same, blocks_same, body_here, map-set)
+  seen_acquired thread = search (arith, handles_same, blocks_same, body_here, map-set)
 
   pub seen_put : (b : Body) → seen_in (set xs k (Some (record x { body = Some b }))) ≡ record (seen_in xs) {
     bodies =
@@ -75,8 +74,7 @@ module _ (xs : List (Option ObjectHeader)) (k : ℕ) (x : ObjectHeader) (is : ge
 
   pub seen_block_left : seen_in (set xs k (Some (header_block_left x)))
       ≡ without_block (seen_in xs) (record { slot = k; generation = 0 })
-  seen_block_left =
-      search (arith, handles_at, blocks_at, handles_same, bodies_same, map-set)
+  seen_block_left = search (arith, handles_at, blocks_at, handles_same, bodies_same, map-set)
 
   -- all that is read off the headers
   module _ (retired : List Bool) (ls : List Tag) where
@@ -103,8 +101,7 @@ module _ (xs : List (Option ObjectHeader)) (k : ℕ) (x : ObjectHeader) (is : ge
 
     pub places_handle_fewer : 1 < get_or (map header_handles xs) k 0 → after (record x { handles = x.handles - 1 })
         ≡ without_handle before k
-    places_handle_fewer more =
-        search (arith, handles_at, places_handle_left)
+    places_handle_fewer more = search (arith, handles_at, places_handle_left)
 
     -- what waits leave as it is
     pub rest_same : (y z : ObjectHeader) → y ≡ z → ((l : Tag) → object_of z l ≡ object_of x l) → z.handles ≡ x.handles
@@ -115,21 +112,18 @@ module _ (xs : List (Option ObjectHeader)) (k : ℕ) (x : ObjectHeader) (is : ge
 pub header_of : (s : Slots ObjectHeader) (ls : List Tag) (p : Places) (k : ℕ) → places_of s ls ≡ p
     → IsSome (get_or p.objects k None) → IsSome (get_or s.bodies k None)
 header_of s ls p k view there = header_there s.bodies ls k
-    (subst (λ (q : Places). IsSome (get_or q.objects k None)) (sym view) there)
+    (rw (← view) at there)
 
 -- vacancy is that of the arena
 pub vacant_same : (s : Slots ObjectHeader) (ls : List Tag) (k : ℕ)
     → is_vacant_at (vacancy (places_of s ls)) k ≡ is_vacant_at s k
-vacant_same s ls k =
-    search (arith, object_read, objects_length)
+vacant_same s ls k = search (arith, object_read, objects_length)
 
 pub least_same : (s : Slots ObjectHeader) (ls : List Tag) → least_vacant s ≡ least_vacant (vacancy (places_of s ls))
-least_same s ls =
-    search (arith, vacant_same, objects_length)
+least_same s ls = search (arith, vacant_same, objects_length)
 
 pub least_is : (s : Slots Object) (r : Option ℕ) → r ≡ least_vacant s → IfSome r (λ slot. is_vacant_at s slot ≡ true)
-least_is s None is = tt
-least_is s (Some slot) is = vacant_least s slot (sym is)
+least_is = search (arith, vacant_least)
 
 -- an object that comes to a vacant slot
 pub places_added : (s : Slots ObjectHeader) (ls : List Tag) (k : ℕ) (y : ObjectHeader) (m : Tag) (body : Option Body)
@@ -155,8 +149,7 @@ pub seen_absent : (xs : List (Option ObjectHeader)) (id : Id) → get_or xs id.s
 seen_absent xs id none =
     let handles : get_or (map header_handles xs) id.slot 0 ≡ 0 = search (arith, read) in
     let blocks : get_or (map header_blocks xs) id.slot 0 ≡ 0 = search (arith, read) in
-    let less : get_or (map header_blocks xs) id.slot 0 ≡ get_or (map header_blocks xs) id.slot 0 - 1 =
-    omega arith in
+    let less : get_or (map header_blocks xs) id.slot 0 ≡ get_or (map header_blocks xs) id.slot 0 - 1 = omega arith in
     let counts : get_or (map header_handles xs) id.slot 0 + (get_or (map header_blocks xs) id.slot 0 - 1) ≡ 0 =
     omega arith in
     λ i. record {

@@ -1,8 +1,6 @@
 -- What holds of objects and their keeper holds over another keeper that begins with the same slots.
-use Rattle.std.proofs.Common.{List, arith}
+use Rattle.std.proofs.Common.{arith}
 use Rattle.std.proofs.lemmas.List.{get_or_past}
-use Rattle.pin_core.specs.declared.shape.Shape.{Shape}
-use Rattle.pin_core.specs.declared.world.Slot.{Slot}
 use Rattle.pin_core.specs.Opened.{shown_from}
 use Rattle.pin_core.proofs.Openings.{shown-once}
 use Rattle.pin_words.specs.Keepers.{KeeperState, IsFreshWith}
@@ -12,12 +10,7 @@ use Rattle.ob_store.specs.Objects.{ObjectsState}
 pub all_shown : (s : ObjectsState) → IsAgreed s → IsListed (shown_from 0 s.keeper.slots) s.objects
 all_shown s a = search (arith, shown-once, get_or_past)
 
--- a keeper with the shape and the slots of another
-abbrev alike : KeeperState → Shape × List Slot → KeeperState
-alike k z = record k { shape = z.0; slots = z.1 }
-
 pub tied_over : (s : ObjectsState) (k : KeeperState) → IsFreshWith k s.keeper.shape s.keeper.slots
     → ObjectsInvariant s →
     ObjectsInvariant (record s { keeper = k })
-tied_over s k fresh h =
-    search (arith, all_shown)
+tied_over s k fresh h = search (arith, all_shown)

@@ -1,8 +1,7 @@
 -- What is kept is kept by each change of a store, and the state after it is the settled one.
 use Rattle.ob_codec.proofs.AtPlace.{at_place}
-use Rattle.std.proofs.Common.{◌≡◌, ℕ, zero, suc, ◌+◌, ◌<◌, ◌≤◌, List, [], ◌∷◌, ◌++◌, length, Option, Some, None, refl, ap, ◌∙◌, sym, subst, arith, get_or, map, true, inl, inr, ltb, set}
+use Rattle.std.proofs.Common.{◌≡◌, ℕ, zero, suc, ◌+◌, ◌<◌, ◌≤◌, List, [], ◌∷◌, ◌++◌, length, Option, Some, None, refl, ap, ◌∙◌, sym, subst, arith, get_or, map, true, ltb, set}
 use Rattle.std.specs.Prelude.{IsSome}
-use Rattle.std.proofs.Math.Seq.{get_or-append_seam}
 use Rattle.std.proofs.lemmas.List.{length-append}
 use Rattle.std.proofs.lemmas.Bool.Decides.{nat_tests}
 use Rattle.pin_core.specs.declared.id.Id.{Id}
@@ -202,13 +201,6 @@ kept_process p session w view kept processes threads = record {
   populated = populated_process p.processes.processes p.processes.threads session kept.populated;
   settled = kept.settled;
 }
-  where
-    live_after : (t q : ℕ) → get_or (p.processes.threads ++ Some (length p.processes.processes) ∷ []) t None ≡ Some q
-        → IsLive (p.processes.processes ++ Some session ∷ []) q
-    live_after t q h = elim (live_more p.processes.threads (length p.processes.processes) t q h) [
-      | inl old ↦ live_pushed p.processes.processes (Some session) q (kept.sound.processes_kept.live t q old.1)
-      | inr new ↦ search (arith, get_or-append_seam)
-    ]
 
 -- a thread comes
 abbrev pub with_thread : PartsState → ℕ → PartsState

@@ -1,6 +1,6 @@
 -- The objects that are read off the headers and their tags, and the tags that are read off labels and names.
 use Rattle.std.proofs.Common.{◌≡◌, ℕ, zero, suc, ◌∷◌, [], ◌<◌, List, length, Option, Some, None, refl, ap, ◌∙◌, sym, arith, get_or, set, replicate, false, cond}
-use Rattle.std.specs.Prelude.{is_none, IsSome}
+use Rattle.std.specs.Prelude.{IsSome}
 use Rattle.std.proofs.lemmas.List.{get_or_default}
 use Rattle.ob_name.specs.Names.{ObjectName}
 use Rattle.ob_store.specs.declared.label.Label.{Label}
@@ -52,10 +52,6 @@ objects_none zero ls = refl
 objects_none (suc n) [] = ap (λ t. None ∷ t) (objects_none n [])
 objects_none (suc n) (l ∷ ls) = ap (λ t. None ∷ t) (objects_none n ls)
 
-pub none_object : (x : Option ObjectHeader) (l : Tag) → is_none (object_at x l) ≡ is_none x
-none_object None l = refl
-none_object (Some x) l = refl
-
 -- the object of a slot with a header
 pub object_here : (xs : List (Option ObjectHeader)) (ls : List Tag) (k : ℕ) (x : ObjectHeader) (l : Tag)
     → get_or xs k None ≡ Some x
@@ -67,10 +63,6 @@ object_here xs ls k x l header label within = object_read xs ls k ∙ ap (λ z. 
 pub header_there : (xs : List (Option ObjectHeader)) (ls : List Tag) (k : ℕ) → IsSome (get_or (objects_in xs ls) k None)
     → IsSome (get_or xs k None)
 header_there xs ls k there = search (arith, object_read)
-  where
-    by : (x : Option ObjectHeader) (l : Tag) → IsSome (object_at x l) → IsSome x
-    by None l there = there
-    by (Some x) l there = there
 
 pub tags_length : (ls : List Label) (ns : List (Option ObjectName)) → length (tags_in ls ns) ≡ length ls
 tags_length [] ns = refl
@@ -108,9 +100,6 @@ tags_plain [] ns k l plain = refl
 tags_plain (m ∷ ls) [] zero l plain = refl
 tags_plain (m ∷ ls) [] (suc k) l plain = ap (λ t. tag_of m None ∷ t) (tags_plain ls [] k l plain)
 tags_plain (m ∷ ls) (n ∷ ns) zero l plain = search arith
-  where
-    plain_tag : (l : Label) (n : Option ObjectName) → l.is_named ≡ false → tag_of l n ≡ tag_of l None
-    plain_tag l n plain = search arith
 tags_plain (m ∷ ls) (n ∷ ns) (suc k) l plain = ap (λ t. tag_of m n ∷ t) (tags_plain ls ns k l plain)
 
 pub tags_named : (ls : List Label) (ns : List (Option ObjectName)) (k : ℕ) (l : Label) (n : Option ObjectName)

@@ -1,6 +1,6 @@
 -- The entry of a handle leaves: what is sound stays so, and is on its way to the settled state.
 use Rattle.ob_codec.proofs.AtPlace.{at_place}
-use Rattle.std.proofs.Common.{◌≡◌, ℕ, ◌+◌, ◌<◌, List, length, Option, Some, None, refl, ap, ◌∙◌, sym, subst, arith, get_or, Bool, true, false, cond, eqb, []}
+use Rattle.std.proofs.Common.{◌≡◌, ℕ, ◌+◌, ◌<◌, List, length, Option, Some, None, refl, ap, ◌∙◌, sym, arith, get_or, Bool, true, false, cond, eqb, []}
 use Rattle.std.specs.Prelude.{is_some, IsSome}
 use Rattle.std.proofs.lemmas.Bool.Decides.{nat_tests}
 use Rattle.pin_words.specs.Keepers.{KeeperState}
@@ -108,8 +108,7 @@ module _ (p : PartsState) (process value : ℕ) (e : Entry)
       (last : was_last ≡ eqb (get_or p.objects.seen.handles e.id.slot 0) 1)
       (names : rows ≡ rows_left p.rows was_last (name_in (get_or q.objects e.id.slot None))) where
     listing_left : IsListing rows (without_entry_of p.tables.tables process value) p.objects.objects p.objects.births
-    listing_left = subst (λ (r : Rows). IsListing r tables_after o.objects o.births) (sym names)
-        (by was_last (sym last))
+    listing_left = rw names (by was_last (sym last))
       where
         its_name : name_in (get_or q.objects e.id.slot None) ≡ (there_some o.objects e.id there).0.name
         its_name = ap (λ (x : ObjectsState). name_in (get_or x.objects e.id.slot None)) is
@@ -120,8 +119,7 @@ module _ (p : PartsState) (process value : ℕ) (e : Entry)
             (without_entry_of p.tables.tables process value) p.objects.objects p.objects.births
         by true one =
             let x = there_some o.objects e.id there in
-            subst (λ (n : Option ObjectName). IsListing (rows_without p.rows n) tables_after o.objects o.births)
-            (sym its_name) (listing_zero x.0 x.1 x.2
+            rw its_name (listing_zero x.0 x.1 x.2
             (let h : get_or p.objects.seen.handles e.id.slot 0 ≡ 1 = grind arith in
             let were = handles_were in omega arith) x.0.name refl)
         by false more = search (arith, handles_were, listing_removed)

@@ -1,10 +1,10 @@
 -- Bodies that went, as references left.
-use Rattle.std.proofs.Common.{◌≡◌, ◌⊎◌, ℕ, List, [], ◌∷◌, Option, None, get_or, set, Bool, true, cond, arith}
+use Rattle.std.proofs.Common.{◌≡◌, ℕ, ◌⊎◌, List, [], ◌∷◌, Option, None, get_or, set, Bool, cond, arith}
 use Rattle.std.proofs.lemmas.List.{length-set}
 use Rattle.pin_core.specs.declared.id.Id.{Id}
 use Rattle.ob_body.specs.declared.body.Body.{Body}
 use Rattle.ob_waits.specs.Ends.{slot_ended, ended}
-use Rattle.ob_waits.specs.CountedBodies.{CountedBodies, slot_room, without_block, without_blocks}
+use Rattle.ob_waits.specs.CountedBodies.{CountedBodies, without_block, without_blocks}
 use Rattle.ob_waits.specs.Rules.{HasBodies}
 use Rattle.ob_waits.proofs.EndsLast.{is_ended}
 use Rattle.ob_waits.proofs.Settling.{IsLess}
@@ -24,8 +24,7 @@ left_gone c bodies i = search (arith, at_gone, length-set)
 
 pub left_blocks : (ids : List Id) (o : CountedBodies) → AreLeft o.bodies (without_blocks o ids).bodies
 left_blocks [] o = left_same o.bodies
-left_blocks (id ∷ ids) o =
-    search (arith, left_gone, left_blocks ids (without_block o id))
+left_blocks (id ∷ ids) o = search (arith, left_gone, left_blocks ids (without_block o id))
 
 -- they signal nothing
 pub less_gone : (bodies after : List (Option Body)) → AreLeft bodies after → IsLess bodies after
@@ -37,11 +36,6 @@ less_gone bodies after left = record {
 pub formed_left : (clock : ℕ) (objects : List (Option Object)) (bodies after : List (Option Body))
     → AreLeft bodies after → AreFormed clock objects bodies → AreFormed clock objects after
 formed_left clock objects bodies after left = search arith
-
--- and have the room that they had
-pub room_left_at : (limit t : ℕ) (bodies after : List (Option Body)) (k : ℕ) → AreLeft bodies after
-    → slot_room limit t (get_or bodies k None) ≡ true → slot_room limit t (get_or after k None) ≡ true
-room_left_at limit t bodies after k left h = search arith
 
 -- where bodies went that were to go, all that was to end has ended
 gone_ended : (after : CountedBodies) (bodies : List (Option Body)) (k : ℕ) → HasBodies after

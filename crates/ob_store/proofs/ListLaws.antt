@@ -17,13 +17,8 @@ pub listed_set : (ps : List (Id × Descr)) (objects : List (Option Object)) (s :
     → IsListed ps objects → IsListed ps (set objects s x)
 listed_set ps objects s x new old = search (arith, get_or-set_other, get_or-set_same, get_or_past, length-set)
 
-pub listed_gone : (ps : List (Id × Descr)) (objects : List (Option Object)) (s : ℕ) → IsListed ps objects
-    → IsListed ps (set objects s None)
-listed_gone ps objects s old = listed_set ps objects s None tt old
-
 more : (ps : List (Id × Descr)) (p : Id × Descr) (x : Option Object) → Listed ps x → Listed (ps ++ p ∷ []) x
-more ps p None old = tt
-more ps p (Some o) old = search (arith, count-snoc)
+more = search (arith, count-snoc)
 
 new_one : (ps : List (Id × Descr)) (p : Id × Descr) (o : Object) → p ≡ (o.id, o.descr) → Listed (ps ++ p ∷ []) (Some o)
 new_one ps p o is = search (arith, count-snoc)

@@ -1,5 +1,5 @@
 -- The names that are entered go on being the directory, and distinct, as handles and objects come and leave.
-use Rattle.std.proofs.Common.{◌≡◌, ℕ, ◌+◌, ◌<◌, ◌≤◌, [], ◌∷◌, ◌++◌, length, replicate, Option, Some, None, refl, ap, ◌∙◌, sym, subst, arith, get_or, set, Bool, true, false, not, ◌&&◌, ltb, is_some, inl, inr}
+use Rattle.std.proofs.Common.{◌≡◌, ℕ, ◌+◌, ◌<◌, ◌≤◌, [], ◌∷◌, ◌++◌, length, replicate, Some, None, refl, ap, ◌∙◌, sym, subst, arith, get_or, set, Bool, true, false, not, ◌&&◌, ltb, is_some, inl, inr}
 use Rattle.std.specs.Cmp.{both_ways}
 use Rattle.std.specs.List.{All, Contains, IsDistinct, filter}
 use Rattle.std.specs.Map.{keys_of}
@@ -24,8 +24,7 @@ use Rattle.ob_tables.specs.Table.{entry_at}
 use Rattle.ob_tables.specs.Tables.{table_of, with_child, with_entry_of, with_flags_of, with_process, without_entry_of}
 use Rattle.ob_tables.proofs.Counting.{found_counts, handles_among-with_child, handles_among-with_entry, handles_among-with_flags, handles_among-with_process, handles_among-without_entry, handles_in-among, handles_in-inherited, one_of, some_within}
 use Rattle.ob_store.specs.Objects.{Object, ObjectsState}
-use Rattle.pin_core.specs.Worlds.{slot_of}
-use Rattle.ob_store.specs.Agreement.{Agrees, AreBorn, IsAgreed}
+use Rattle.ob_store.specs.Agreement.{AreBorn, IsAgreed}
 use Rattle.ob_store.specs.Directory.{rows_of}
 use Rattle.ob_store.specs.Kept.{IsListing}
 use Rattle.ob_store.proofs.DirectoryLaws.{IsRow, ObjectSlots, Tables, first_goes, has_handles, is_of_other, others_stay, row_there, rows_added, rows_are, rows_gone, rows_left, rows_same}
@@ -49,18 +48,13 @@ child_has id ts from =
 still_has : (more fewer : Tables) (e : Entry) (id : Id) (b : Bool) → same_id id e.id ≡ b
     → handles_among id fewer + one_of id e ≡ handles_among id more → 0 < handles_among e.id fewer
     → has_handles id fewer ≡ has_handles id more
-still_has more fewer e id true is sum some =
-    search arith
-still_has more fewer e id false is sum some =
-    search arith
+still_has = search arith
 
 -- else its object alone has none any more
 none_left : (more fewer : Tables) (e : Entry) (id : Id) (b : Bool) → same_id id e.id ≡ b
     → handles_among id fewer + one_of id e ≡ handles_among id more → handles_among e.id fewer ≡ 0
     → has_handles id fewer ≡ (not b && has_handles id more)
-none_left more fewer e id true is sum none = search arith
-none_left more fewer e id false is sum none =
-    search arith
+none_left = search arith
 
 -- a name that isn't there comes last
 pub distinct_with : (rows : Rows) (name : ObjectName) (id : Id) → AreDistinct rows → find_name name rows ≡ None
@@ -141,11 +135,6 @@ module _ (rows : Rows) (ts : Tables) (objects : ObjectSlots) (births : ℕ)
   listing_alike : (ts' : Tables) → ((k : ℕ) (o : Object) → get_or objects k None ≡ Some o
       → has_handles o.id ts' ≡ has_handles o.id ts) → IsListing rows ts' objects births
   listing_alike ts' same = search (arith, rows_same)
-
-  -- each Id has as many handles as before
-  pub listing_counts : (ts' : Tables) → ((id : Id) → handles_among id ts' ≡ handles_among id ts)
-      → IsListing rows ts' objects births
-  listing_counts ts' same = listing_alike ts' (λ k o at. ap (λ n. ltb 0 n) (same o.id))
 
   -- a process comes, without entries or with those that it inherits
   pub listing_process : IsListing rows (with_process ts) objects births
@@ -262,9 +251,7 @@ listing_opening slots = record { same = refl; distinct = tt }
 
 -- objects that agree with their keeper are placed
 pub placed_agreed : (s : ObjectsState) → IsAgreed s → ArePlaced s.objects
-placed_agreed s agreed k o at =
-    let within : k < length s.objects = some_within s.objects k o at in
-    let long = agreed.length_is in
-    let own = subst (λ (x : Option Object). Agrees k x (get_or s.seen.bodies k None) (get_or s.retired k false)
-    (slot_of s.keeper.slots k)) at (agreed.each k (omega arith)) in
+placed_agreed s agreed k o there =
+    let within = some_within s.objects k o there in
+    let own = rw there at (agreed.each k (omega (arith, within, agreed.length_is))) in
     ap (λ (i : Id). i.slot) own.0

@@ -1,25 +1,14 @@
 -- A held Id has its object.
-use Rattle.std.proofs.Common.{◌≡◌, ◌<◌, Bool, true, Option, Some, None, slice_index_or, arith}
+use Rattle.std.proofs.Common.{◌≡◌, ◌<◌, true, None, slice_index_or, arith}
 use Rattle.pin_core.specs.declared.id.Id.{Id}
-use Rattle.pin_core.specs.declared.world.Slot.{Slot}
 use Rattle.pin_core.specs.Safety.{may_be_held}
 use Rattle.pin_core.specs.Worlds.{slot_of}
 use Rattle.pin_words.specs.declared.view.ReaderView.{ReaderView}
 use Rattle.pin_words.specs.Plays.{Show}
 use Rattle.pin_words.specs.Views.{id_of}
-use Rattle.ob_body.specs.declared.body.Body.{Body}
-use Rattle.ob_store.specs.Agreement.{Agrees, ObjectsInvariant}
+use Rattle.ob_store.specs.Agreement.{ObjectsInvariant}
 use Rattle.ob_store.specs.Meetings.{IsFound}
-use Rattle.ob_store.specs.Objects.{Object, ObjectsState}
-
-pub found_in : (id : Id) (r : ReaderView) (x : Option Object) (body : Option Body) (retired : Bool) (slot : Slot)
-    → Agrees id.slot x body retired slot
-    → id ≡ record { slot = id.slot; generation = slot.generation } → may_be_held slot.phase ≡ true
-    → Show id slot.descr r.notes → IsFound id r x
-found_in id r None body retired slot agrees same held show =
-    search arith
-found_in id r (Some o) body retired slot agrees same held show =
-    search arith
+use Rattle.ob_store.specs.Objects.{ObjectsState}
 
 -- what the keeper says of the slot of a held Id is what the object there has
 pub held_found : (s : ObjectsState) (r : ReaderView) (id : Id) → ObjectsInvariant s → id.slot < s.keeper.shape.slots

@@ -1,6 +1,6 @@
 -- Each Id that is named goes on being that of an object; and what a slot counts is what its object's Id counts.
 use Rattle.ob_codec.proofs.AtPlace.{at_place}
-use Rattle.std.proofs.Common.{◌≡◌, ◌≢◌, ℕ, suc, ◌<◌, ◌≤◌, List, [], ◌∷◌, length, Option, Some, None, refl, ap, ◌∙◌, arith, get_or, set, Bool, true, false, cond, eqb}
+use Rattle.std.proofs.Common.{◌≡◌, ℕ, ◌≢◌, suc, ◌<◌, ◌≤◌, List, [], ◌∷◌, length, Option, Some, None, refl, ap, ◌∙◌, arith, get_or, set, Bool, cond, eqb}
 use Rattle.std.specs.Prelude.{sum_by}
 use Rattle.std.proofs.lemmas.List.{get_or_past, get_or-set_same, get_or-set_other}
 use Rattle.std.proofs.lemmas.List.Sums.{sum_by-cons, get_or-le-sum_by}
@@ -35,8 +35,7 @@ there_within objects id h = let o = there_some objects id h in some_within objec
 -- a slot has one object
 pub one_there : (objects : List (Option Object)) (a b : Id) → IsThere objects a → IsThere objects b → a.slot ≡ b.slot
     → a ≡ b
-one_there objects a b ha hb same =
-    search arith
+one_there objects a b ha hb same = search arith
 
 pub sum_same : {X : Type 0} (f g : X → ℕ) (d : X) (xs : List X)
     → ((i : ℕ) → i < length xs → f (get_or xs i d) ≡ g (get_or xs i d)) → sum_by f xs ≡ sum_by g xs
@@ -64,10 +63,7 @@ module _ (objects : List (Option Object)) (ts : List (List (Option Entry))) (ws 
   placed_entry : (objects' : List (Option Object)) (p : ℕ) (e : Entry) → p < length ts → IsThere objects' e.id
       → ((id : Id) → IsThere objects id → IsThere objects' id)
       → (id : Id) (c : Bool) → same_id e.id id ≡ c → 0 < handles_among id (with_entry_of ts p e) → IsThere objects' id
-  placed_entry objects' p e table there stays id true is h =
-      search arith
-  placed_entry objects' p e table there stays id false is h =
-      search (arith, handles_among-with_entry)
+  placed_entry = search (arith, handles_among-with_entry)
 
   pub named_placed : (p : ℕ) (e : Entry) → p < length ts → 0 < handles_among e.id ts
       → IsNamed objects (with_entry_of ts p e) ws
@@ -78,8 +74,7 @@ module _ (objects : List (Option Object)) (ts : List (List (Option Entry))) (ws 
       → get_or objects e.id.slot None ≡ None → e.id.slot < length objects
       → IsNamed (set objects e.id.slot (Some o)) (with_entry_of ts p e) ws
   named_added p e o table own none within =
-      let here : IsThere (set objects e.id.slot (Some o)) e.id =
-      search (arith, get_or-set_same) in
+      let here : IsThere (set objects e.id.slot (Some o)) e.id = search (arith, get_or-set_same) in
       let stays : (id : Id) → IsThere objects id → IsThere (set objects e.id.slot (Some o)) id = (λ id there.
       let apart : id.slot ≢ e.id.slot = (λ same. let x = ap (λ k. id_in (get_or objects k None)) same in
       let y = ap id_in none in absurd (cc (x, y, there))) in
@@ -93,8 +88,8 @@ module _ (objects : List (Option Object)) (ts : List (List (Option Entry))) (ws 
   -- an entry leaves
   pub named_removed : (p value : ℕ) (e : Entry) → entry_at (table_of ts p) value ≡ Some e
       → IsNamed objects (without_entry_of ts p value) ws
-  named_removed p value e found = named_fewer objects ts (without_entry_of ts p value) ws ws (λ id. let x =
-      handles_among-without_entry id ts p value e found in omega arith) (λ id. omega arith) named
+  named_removed p value e found = named_fewer objects ts (without_entry_of ts p value) ws ws
+      (λ id. omega (arith, handles_among-without_entry id ts p value e found)) (λ id. omega arith) named
 
   -- an entry has other flags
   pub named_flags : (p value : ℕ) (e : Entry) (flags : HandleFlags) → entry_at (table_of ts p) value ≡ Some e
@@ -116,8 +111,7 @@ module _ (objects : List (Option Object)) (ts : List (List (Option Entry))) (ws 
 
   -- what stands in a table is counted
   pub entry_counted : (p i : ℕ) (e : Entry) → at (table_of ts p) i ≡ Some e → 0 < handles_among e.id ts
-  entry_counted p i e is =
-      search (arith, get_or_past, get_or-le-sum_by)
+  entry_counted p i e is = search (arith, get_or_past, get_or-le-sum_by)
 
   -- the handles of an object's slot are its own
   pub handles_are : (id : Id) → IsThere objects id → slot_handles id.slot ts ≡ handles_among id ts
@@ -160,9 +154,6 @@ pub named_left : (objects : List (Option Object)) (ts : List (List (Option Entry
     → IsThere objects id → handles_among id ts ≡ 0 → blocks_among id ws ≡ 0 → IsNamed objects ts ws
     → IsNamed (set objects id.slot None) ts ws
 named_left objects ts ws id there handles blocks n = grind (arith, at_place)
-  where
-    stays : (x : Id) → IsThere objects x → (x ≡ id → ⊥) → IsThere (set objects id.slot None) x
-    stays x hx other = search (arith, get_or-set_other)
 
 -- nothing is named yet
 pub named_opening : (objects : List (Option Object)) → IsNamed objects ([] ∷ []) (None ∷ [])

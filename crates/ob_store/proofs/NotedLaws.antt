@@ -1,5 +1,5 @@
 -- What is noted beside the headers, while one of them changes.
-use Rattle.std.proofs.Common.{arith, ◌≡◌, ◌∙◌, ℕ, ◌<◌, List, length, Option, Some, None, ap, refl, sym, get_or, map, set, Bool, false, cond}
+use Rattle.std.proofs.Common.{ℕ, arith, ◌≡◌, ◌∙◌, ◌<◌, List, length, Option, Some, None, ap, refl, sym, get_or, map, set, Bool, false, cond}
 use Rattle.std.specs.Prelude.{is_some, not}
 use Rattle.std.proofs.lemmas.List.{length-set}
 use Rattle.ob_body.specs.declared.body.Body.{Body}

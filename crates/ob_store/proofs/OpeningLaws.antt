@@ -59,8 +59,7 @@ module _ (limits : Limits) (keeper : KeeperState) (fresh : IsFresh keeper (shape
 
   -- and is the opening one
   pub opening_is : ◌≡◌ {A = Whole} (whole_of no_parts) (record { state = opening limits; keeper = keeper })
-  opening_is =
-      search (arith, map-replicate)
+  opening_is = search (arith, map-replicate)
 
 none_made : (n : ℕ) → sum_by made_in (replicate n opening_slot) ≡ 0
 none_made zero = refl

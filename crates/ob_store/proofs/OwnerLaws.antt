@@ -6,7 +6,6 @@ use Rattle.std.proofs.lemmas.List.{length-set, length-map, length-replicate, get
 use Rattle.std.proofs.lemmas.List.Sums.{sum_by-set, get_or-le-sum_by, count_by-le-length}
 use Rattle.std.proofs.lemmas.Bool.{cases_lt}
 use Rattle.ob_body.specs.declared.body.Body.{Body}
-use Rattle.ob_body.specs.declared.body.Body.TheVariants.{Mutex}
 use Rattle.ob_body.specs.Mutex.{is_owner}
 use Rattle.ob_arena.specs.Slots.{Slots, is_vacant_at}
 use Rattle.ob_waits.specs.Form.{slot_owner}
@@ -23,13 +22,11 @@ one_of t o = cond (is_owner t o) 1 0
 
 pub at_left : (xs : List ℕ) (o : Option ℕ) (t : ℕ) → t < length xs
     → get_or (owned_left xs o) t 0 ≡ get_or xs t 0 - one_of t o
-at_left xs None t lt = omega arith
-at_left xs (Some u) t lt = search (arith, get_or-set_other, get_or-set_same)
+at_left = search (arith, get_or-set_other, get_or-set_same)
 
 pub at_came : (xs : List ℕ) (o : Option ℕ) (t : ℕ) → t < length xs
     → get_or (owned_came xs o) t 0 ≡ get_or xs t 0 + one_of t o
-at_came xs None t lt = omega arith
-at_came xs (Some u) t lt = search (arith, get_or-set_other, get_or-set_same)
+at_came = search (arith, get_or-set_other, get_or-set_same)
 
 -- no more after one left
 pub few_left : (xs : List ℕ) (o : Option ℕ) → ((t : ℕ) → get_or xs t 0 ≤ 65536) → (t : ℕ)
@@ -72,8 +69,7 @@ pub owned_set : (xs : List (Option ObjectHeader)) (counts : List ℕ) (k : ℕ) 
     (before after : Option ℕ)
     → IsOwned xs counts → get_or xs k None ≡ Some x → before ≡ slot_owner x.body → after ≡ slot_owner y.body
     → IsOwned (set xs k (Some y)) (owned_moved counts before after)
-owned_set xs counts k x y before after owned there was now =
-    grind (arith, at_place, moved_owned)
+owned_set xs counts k x y before after owned there was now = grind (arith, at_place, moved_owned)
 
 pub owned_stays : (xs : List (Option ObjectHeader)) (counts : List ℕ) (k : ℕ) (x y : ObjectHeader) → IsOwned xs counts
     → get_or xs k None ≡ Some x → y.body ≡ x.body → IsOwned (set xs k (Some y)) counts
@@ -86,8 +82,7 @@ pub owned_left_at : (xs : List (Option ObjectHeader)) (counts : List ℕ) (k : �
     → IsOwned (set xs k (Some y)) (owned_left counts (slot_owner o))
 owned_left_at xs counts k x y true o owned there went none =
     owned_set xs counts k x y (slot_owner o) None owned there (ap slot_owner went) (sym (ap slot_owner none))
-owned_left_at xs counts k x y false o owned there went same =
-    grind (arith, at_place, owned_stays)
+owned_left_at xs counts k x y false o owned there went same = grind (arith, at_place, owned_stays)
 
 -- an object without a body leaves
 pub owned_removed : (xs : List (Option ObjectHeader)) (counts : List ℕ) (k : ℕ) → IsOwned xs counts
@@ -116,13 +111,11 @@ none_owned xs counts t owned lt none k = ap (λ x. is_owner t (slot_owner x)) at
 
 -- what the thread doesn't own stays
 pub left_by_other : (t : ℕ) (x : Option Body) → is_owner t (slot_owner x) ≡ false → slot_left_by t x ≡ x
-left_by_other t (Some (Mutex m)) h = search arith
-left_by_other t x h = refl
+left_by_other = search arith
 
 -- what a thread left it doesn't own, so it leaves it again as it is
 pub left_twice : (t : ℕ) (x : Option Body) → slot_left_by t (slot_left_by t x) ≡ slot_left_by t x
-left_twice t (Some (Mutex m)) = search arith
-left_twice t x = refl
+left_twice = search arith
 
 -- a vacant slot has no header
 pub vacant_header : (s : Slots ObjectHeader) (tags : List Tag) (p : Places) (k : ℕ) → places_of s tags ≡ p

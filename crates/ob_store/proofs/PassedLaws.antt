@@ -1,24 +1,22 @@
 -- Numbers that no live thread of a process has are passed by.
-use Rattle.std.proofs.Common.{◌≡◌, ℕ, zero, suc, ◌+◌, ◌-◌, ◌<◌, ◌≤◌, length, Option, Some, None, refl, ap, ◌∙◌, sym, subst, arith, get_or, Bool, true, false, cond}
+use Rattle.std.proofs.Common.{◌≡◌, ℕ, zero, suc, ◌+◌, ◌-◌, ◌<◌, ◌≤◌, length, Option, Some, None, refl, ap, ◌∙◌, sym, arith, get_or, Bool, true, false, cond}
 use Rattle.std.proofs.lemmas.List.{length-set, get_or_past}
 use Rattle.pin_words.specs.Keepers.{KeeperState}
 use Rattle.ob_store.specs.Parts.{PartsState}
-use Rattle.ob_store.specs.UnderWay.{IsEnding, IsUnderWay}
+use Rattle.ob_store.specs.UnderWay.{IsEnding}
 use Rattle.ob_store.specs.Ends.{thread_ended, threads_ended}
 use Rattle.ob_store.specs.Processes.{is_of}
 use Rattle.ob_store.specs.State.{State}
 
 is_of_none : (p : ℕ) (x : Option ℕ) → (x ≡ Some p → ⊥) → is_of p x ≡ false
-is_of_none p None other = refl
-is_of_none p (Some q) other = search arith
+is_of_none = search arith
 
 -- nothing of the process is between
 pub passed : (s : State) (p a d : ℕ) → ((t : ℕ) → a ≤ t → t < a + d
     → get_or (threads_ended s p a).threads t None ≡ Some p → ⊥) → threads_ended s p (a + d) ≡ threads_ended s p a
 passed s p a zero none = search arith
 passed s p a (suc d) none =
-    let rest : threads_ended s p (a + d) ≡ threads_ended s p a =
-    passed s p a d (search arith) in
+    let rest : threads_ended s p (a + d) ≡ threads_ended s p a = passed s p a d (search arith) in
     let at = ap (λ (x : State). get_or x.threads (a + d) None) rest in
     let other = is_of_none p (get_or (threads_ended s p (a + d)).threads (a + d) None)
     (λ h. none (a + d) (omega arith) (omega arith) (sym at ∙ h)) in
@@ -33,24 +31,17 @@ passed_to s p a b le none =
     let is : a + (b - a) ≡ b = omega arith in
     search (arith, passed)
 
--- what is under way says which threads are live
-pub way_threads : (first : KeeperState) (p : PartsState) (s : State) (t process : ℕ) → IsUnderWay first p s
-    → get_or s.threads t None ≡ Some process → get_or p.processes.threads t None ≡ Some process
-way_threads first p s t process way h = ap (λ (x : State). get_or x.threads t None) way.rest ∙ h
-
 -- the parts are on their way as well to where no thread between has ended
 pub ending_passed : (first : KeeperState) (p : PartsState) (s : State) (process a b : ℕ) → a ≤ b
     → ((t : ℕ) → a ≤ t → t < b → get_or p.processes.threads t None ≡ Some process → ⊥)
     → IsEnding first p (threads_ended s process a) → IsEnding first p (threads_ended s process b)
-ending_passed first p s process a b le none ending =
-    search (arith, passed_to)
+ending_passed first p s process a b le none ending = search (arith, passed_to)
 
 -- or on their way back
 pub ending_unpassed : (first : KeeperState) (p : PartsState) (s : State) (process a b : ℕ) → a ≤ b
     → length s.threads ≤ a → IsEnding first p (threads_ended s process b) → IsEnding first p (threads_ended s process a)
 ending_unpassed first p s process a b le past ending =
-    subst (λ (x : State). IsEnding first p x)
-    (passed_to s process a b le (λ t above below h. let e =
+    rw (← passed_to s process a b le (λ t above below h. let e =
     get_or_past (threads_ended s process a).threads t None (let long = threads_long s process a in
     omega arith) in cc (e, h))) ending
   where

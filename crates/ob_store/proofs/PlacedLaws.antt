@@ -1,10 +1,10 @@
 -- What a slot counts refers to its object; and a thread's process has its table.
+use Rattle.std.proofs.lemmas.Bool.Decides.{nat_tests}
 use Rattle.ob_codec.proofs.AtPlace.{at_place}
-use Rattle.std.proofs.Common.{◌≡◌, ℕ, ◌<◌, List, length, Option, Some, None, ap, ◌∙◌, sym, subst, arith, get_or}
-use Rattle.std.specs.Prelude.{is_some, IfSome, OnSome}
+use Rattle.std.proofs.Common.{◌≡◌, ℕ, ◌<◌, List, length, Option, Some, None, ap, ◌∙◌, sym, arith, get_or}
+use Rattle.std.specs.Prelude.{IfSome, OnSome}
 use Rattle.std.specs.Option.{option_map}
 use Rattle.std.proofs.lemmas.List.{get_or_past}
-use Rattle.pin_core.specs.declared.shape.Shape.{Shape}
 use Rattle.ob_tables.specs.Counts.{handles_among}
 use Rattle.ob_waits.specs.Waits.{blocks_among}
 use Rattle.ob_tables.specs.declared.entry.Entry.{Entry}
@@ -23,8 +23,7 @@ use Rattle.ob_store.proofs.ListingLaws.{placed_agreed}
 -- nothing refers to a slot without a body
 pub unreferenced : (s : ObjectsState) (k : ℕ) → body_at s k ≡ None → ObjectsInvariant s
     → (get_or s.seen.handles k 0 ≡ 0) × (get_or s.seen.blocks k 0 ≡ 0)
-unreferenced s k none tied =
-    search arith
+unreferenced s k none tied = search arith
 
 -- a slot's object has an Id of that slot
 pub placed_there : (s : ObjectsState) → ObjectsInvariant s → (k : ℕ) (o : Object) → get_or s.objects k None ≡ Some o
@@ -71,9 +70,7 @@ module _ (p : PartsState) (sound : IsSound p) (tied : ObjectsInvariant p.objects
   pub seen_within : (x : Option Found) → get_or p.objects.objects k None
       ≡ option_map (λ (found : Found). object_of found.header.now (tag_of found.label.now found.name.now)) x
       → IfSome x (λ (found : Found). k < p.limits.slots)
-  seen_within None at = tt
-  seen_within (Some found) at = subst (λ (shape : Shape). k < shape.slots) sound.limited.shape_is
-      (object_within p.objects k (ap is_some at) tied.agreed)
+  seen_within = grind (arith, nat_tests, at_place, object_within)
 
 -- a live number is one of those given
 pub live_within : (numbers : List (Option ℕ)) (n : ℕ) → IsLive numbers n → n < length numbers
@@ -87,14 +84,11 @@ live_tabled limits l tables process kept live = search (arith, live_within)
 pub process_tabled : (limits : Limits) (l : ProcessesState) (tables : List (List (Option Entry))) (process : ℕ)
     (x : Option ℕ) → ProcessesKept limits l tables → x ≡ get_or l.processes process None
     → OnSome x (process < length tables)
-process_tabled limits l tables process None kept is = tt
-process_tabled limits l tables process (Some s) kept is =
-    grind (arith, at_place)
+process_tabled = grind (arith, nat_tests, at_place)
 
 -- the process of a live thread has its table
 pub thread_tabled : (limits : Limits) (l : ProcessesState) (tables : List (List (Option Entry))) (thread : ℕ)
     (x : Option ℕ) → ProcessesKept limits l tables → x ≡ get_or l.threads thread None
     → IfSome x (λ p. p < length tables)
 thread_tabled limits l tables thread None kept is = tt
-thread_tabled limits l tables thread (Some p) kept is =
-    live_tabled limits l tables p kept (kept.live thread p (sym is))
+thread_tabled limits l tables thread (Some p) kept is = live_tabled limits l tables p kept (kept.live thread p (sym is))

@@ -1,6 +1,6 @@
 -- Each live process has a live thread: as a test of what is read, and as it is kept.
 use Rattle.ob_codec.proofs.AtPlace.{at_place}
-use Rattle.std.proofs.Common.{◌≡◌, ◌≢◌, ℕ, zero, suc, ◌||◌, Bool, true, false, cond, List, [], ◌∷◌, ◌++◌, length, Option, Some, None, refl, ap, ◌∙◌, arith, get_or, set, inl, inr}
+use Rattle.std.proofs.Common.{◌≡◌, ℕ, ◌≢◌, zero, suc, ◌||◌, Bool, true, false, cond, List, [], ◌∷◌, ◌++◌, length, Option, Some, None, refl, ap, ◌∙◌, arith, get_or, set, inl, inr}
 use Rattle.std.specs.Prelude.{IsSome, is_none}
 use Rattle.std.specs.List.{list_any}
 use Rattle.std.proofs.lemmas.Bool.{cases_eq, eq-eqb}
@@ -56,8 +56,7 @@ thread_left s p t its besides q other live = still s.threads t its ∙ besides q
 -- or all of them below a number
 threads_left : (s : State) (p n : ℕ) → Besides p s → Besides p (threads_ended s p n)
 threads_left s p zero besides = besides
-threads_left s p (suc n) besides =
-    search (arith, thread_left, threads_left s p n besides)
+threads_left s p (suc n) besides = search (arith, thread_left, threads_left s p n besides)
 
 -- so each has one where that one ends
 process_left : (s : State) (p : ℕ) → Besides p s
@@ -66,8 +65,7 @@ process_left s p besides q live = grind (arith, at_place)
 
 pub populated_exited : (s : State) (p : ℕ) → IsPopulated s.processes s.threads
     → IsPopulated (exited s p).processes (exited s p).threads
-populated_exited s p populated =
-    search (arith, threads_left, process_left)
+populated_exited s p populated = search (arith, threads_left, process_left)
 
 -- a thread ends, and its process with its last one
 pub populated_thread_ended : (s : State) (p t : ℕ) → get_or s.threads t None ≡ Some p

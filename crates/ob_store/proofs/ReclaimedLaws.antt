@@ -1,6 +1,6 @@
 -- An ended object leaves its slot, to which nothing refers.
 use Rattle.ob_codec.proofs.AtPlace.{at_place}
-use Rattle.std.proofs.Common.{◌≡◌, ℕ, ◌+◌, ◌<◌, ◌≤◌, List, Option, Some, None, refl, ap, ◌∙◌, sym, subst, arith, get_or, set, map, Bool, true, false, ltb}
+use Rattle.std.proofs.Common.{◌≡◌, ℕ, ◌+◌, ◌<◌, ◌≤◌, List, Option, Some, None, ap, ◌∙◌, sym, arith, get_or, set, map, Bool, true}
 use Rattle.std.specs.Prelude.{is_some}
 use Rattle.std.proofs.Math.ListN.{get_or-map}
 use Rattle.std.proofs.Math.Seq.{map-set_same}
@@ -28,8 +28,7 @@ use Rattle.ob_store.proofs.PlacedLaws.{placed_there, own_handles, own_blocks, un
 
 -- the object of a slot
 found : (x : Option Object) → is_some x ≡ true → (o : Object) × (x ≡ Some o)
-found None there = absurd (cc there)
-found (Some o) there = (o, refl)
+found = search arith
 
 module _ (p : PartsState) (kept : StoreInvariant p) (tied : ObjectsInvariant p.objects)
     (k : ℕ) (w : Whole) (view : whole_of p ≡ w) (there : is_some (get_or w.state.objects k None) ≡ true)
@@ -38,11 +37,11 @@ module _ (p : PartsState) (kept : StoreInvariant p) (tied : ObjectsInvariant p.o
   o = p.objects
 
   ended : get_or p.objects.seen.bodies k None ≡ None
-  ended = subst (λ (v : Whole). get_or v.state.bodies k None ≡ None) (sym view) bodiless
+  ended = rw (← view) at bodiless
 
   is_object : (q : Object) × (get_or p.objects.objects k None ≡ Some q)
   is_object = found (get_or o.objects k None)
-      (subst (λ (v : Whole). is_some (get_or v.state.objects k None) ≡ true) (sym view) there)
+      (rw (← view) at there)
 
   abbrev object : Object
   object = is_object.0
@@ -66,10 +65,9 @@ module _ (p : PartsState) (kept : StoreInvariant p) (tied : ObjectsInvariant p.o
   -- what is kept, whatever the answer is
   pub kept_reclaimed : (answer : Reclaim) (q : ObjectsState) → Reclaimed p.objects k answer q
       → StoreInvariant (record p { objects = q })
-  kept_reclaimed Freed q h = subst (λ (z : ObjectsState). StoreInvariant (record p { objects = z })) (sym h.0)
-      (kept_left o.retired q.keeper (ap (λ (z : KeeperState). z.shape) h.1.0))
-  kept_reclaimed Retired q h = subst (λ (z : ObjectsState). StoreInvariant (record p { objects = z })) (sym h.0)
-      (kept_left (set o.retired k true) q.keeper (ap (λ (z : KeeperState). z.shape) h.1.0))
+  kept_reclaimed Freed q h = rw h.0 (kept_left o.retired q.keeper (ap (λ (z : KeeperState). z.shape) h.1.0))
+  kept_reclaimed Retired q h =
+      rw h.0 (kept_left (set o.retired k true) q.keeper (ap (λ (z : KeeperState). z.shape) h.1.0))
   kept_reclaimed (Held n) q h = grind (arith, nat_tests, at_place, h.0, h.1.0, kept.populated, kept.settled, kept.sound.counted, kept.sound.formed, kept.sound.limited.handles_are, kept.sound.limited.processes_are)
 
   abbrev max_gen : ℕ
@@ -81,7 +79,6 @@ module _ (p : PartsState) (kept : StoreInvariant p) (tied : ObjectsInvariant p.o
       ≡ set (map generation_of p.objects.keeper.slots) k (get_or (map generation_of p.objects.keeper.slots) k 1 + 1)
   aged below =
       let x : Slot = slot_at o k in
-      let test : ltb x.generation max_gen ≡ true = grind (arith, nat_tests, below) in
       let next : generation_of (reclaimed max_gen x) ≡ x.generation + 1 =
       search (arith, phase.Free, phase.Retired, x.generation) in
       map-set generation_of o.keeper.slots k (reclaimed max_gen x)
@@ -91,26 +88,9 @@ module _ (p : PartsState) (kept : StoreInvariant p) (tied : ObjectsInvariant p.o
   -- and one that is given up keeps its own
   unaged : max_gen ≤ (slot_at p.objects k).generation
       → map generation_of (opened_again p.objects.keeper k).slots ≡ map generation_of p.objects.keeper.slots
-  unaged last =
-      let x : Slot = slot_at o k in
-      let test : ltb x.generation max_gen ≡ false = grind (arith, nat_tests, last) in
-      let same : generation_of (reclaimed max_gen x) ≡ x.generation =
-      search (arith, phase.Free, phase.Retired, x.generation) in
-      search (arith, map-set_same, o.keeper.slots)
+  unaged last = search (arith, map-set_same, o.keeper.slots)
 
   -- the state, whatever the answer is
   pub reclaimed_state : (answer : Reclaim) (t : ObjectsState) → Reclaimed p.objects k answer t
       → state_of (record p { objects = t }) ≡ after_reclaim (state_of p) k answer
-  reclaimed_state Freed t h =
-      let ages : map generation_of t.keeper.slots ≡ set (map generation_of o.keeper.slots) k
-      (get_or (map generation_of o.keeper.slots) k 1 + 1) =
-      ap (λ (z : KeeperState). map generation_of z.slots) h.1.0 ∙ aged h.1.1 in
-      search (arith, set-get_or, h.0)
-  reclaimed_state Retired t h =
-      let ages : map generation_of t.keeper.slots ≡ map generation_of o.keeper.slots =
-      ap (λ (z : KeeperState). map generation_of z.slots) h.1.0 ∙ unaged h.1.1 in
-      search (arith, set-get_or, h.0)
-  reclaimed_state (Held n) t h =
-      let ages : map generation_of t.keeper.slots ≡ map generation_of o.keeper.slots =
-      ap (λ (z : KeeperState). map generation_of z.slots) h.1.0 in
-      search (arith, h.0)
+  reclaimed_state = search (arith, aged, unaged, set-get_or)

@@ -1,13 +1,12 @@
 -- Objects that are kept are read again as they were written.
-use Rattle.std.proofs.Common.{◌≡◌, ℕ, ◌<◌, Bool, false, List, [], ◌∷◌, ◌++◌, length, get_or, map, Option, Some, None, Ok, Err, cond, refl, sym, ap, ◌∙◌, subst, arith}
+use Rattle.std.proofs.Common.{◌≡◌, ℕ, ◌<◌, Bool, false, List, [], ◌∷◌, ◌++◌, length, get_or, map, Option, None, Ok, refl, sym, ap, ◌∙◌, subst, arith}
 use Rattle.std.specs.Prelude.{replicate, sum_by}
 use Rattle.std.specs.List.{AllByRecursion, range_with_len}
 use Rattle.std.proofs.lemmas.List.{ext_get_or, get_or-map, length-map}
 use Rattle.std.proofs.lemmas.List.FromFn.{get_or-map-range_with_len, length-map-range_with_len, get_or-range_with_len, length-range_with_len}
 use Rattle.std.proofs.lemmas.List.Sums.{sum_by-cons}
 use Rattle.ob_codec.specs.Codecs.{items_again}
-use Rattle.ob_codec.specs.declared.fault.TextFault.TheVariants.{Value}
-use Rattle.ob_codec.specs.Reading.{◌>>=◌, Read, items_at}
+use Rattle.ob_codec.specs.Reading.{◌>>=◌}
 use Rattle.pin_core.specs.declared.shape.Shape.{Shape}
 use Rattle.pin_core.specs.declared.world.Slot.{Slot}
 use Rattle.pin_core.specs.Worlds.{opening_slot, slot_of}
@@ -24,8 +23,8 @@ use Rattle.ob_store.specs.Kept.{AreOfLive, IsCounted, IsListing, IsNamed, IsQuie
 use Rattle.ob_store.specs.Objects.{Object, ObjectsState, Places, places_in}
 use Rattle.ob_store.specs.SavedNames.{names_in}
 use Rattle.ob_store.specs.SavedObjects.{begun_over, object_saved, objects_at, objects_text, slot_saved, slots_saved, whole_at, whole_objects, with_slots}
-use Rattle.ob_store.specs.SavedWaits.{all_stand, with_blocks}
-use Rattle.ob_store.specs.SavedSlots.{SlotFits, body_from, body_in, is_retired, keeper_slot, objects_from, places_from, slot_at, slots_at, slots_from}
+use Rattle.ob_store.specs.SavedWaits.{with_blocks}
+use Rattle.ob_store.specs.SavedSlots.{SlotFits, body_from, body_in, is_retired, keeper_slot, objects_from, places_from, slots_at}
 use Rattle.ob_store.specs.State.{shape_of}
 use Rattle.ob_store.proofs.BySlot.{zero_counts}
 use Rattle.ob_store.proofs.CountingAgain.{counting_again}
@@ -43,8 +42,7 @@ sum_map f g (x ∷ xs) = search (arith, sum_by-cons, sum_map f g xs)
 
 one-body : (k : ℕ) (x : Option Object) (b : Option Body) (r : Bool) (y : Slot) → Agrees k x b r y →
     body_in (object_saved x b) ≡ b
-one-body k None b r y a = sym a.0
-one-body k (Some o) b r y a = refl
+one-body = search arith
 
 module _ (s : ObjectsState) (tied : ObjectsInvariant s) where
   abbrev n : ℕ
@@ -113,13 +111,7 @@ module _ (s : ObjectsState) (tied : ObjectsInvariant s) where
 
     slots-again : slots_at limits.slots limits.max_gen list.clock (objects_text s ++ rest) ≡
         Ok ((uncounted bare, map keeper_slot xs), rest)
-    slots-again =
-        let items : items_at (slot_at limits.max_gen list.clock) limits.slots (objects_text s ++ rest) ≡
-        Ok (xs, rest) =
-        ap (λ (m : ℕ). items_at (slot_at limits.max_gen list.clock) m (objects_text s ++ rest)) (sym wide) ∙
-        items_again (slot_codec limits.max_gen list.clock) xs rest fits in
-        ap (λ r. r >>= λ (z : List SavedSlot × List ℕ). Ok (slots_from z.0, z.1)) items
-        ∙ ap (λ (p : Places). Ok ((p, map keeper_slot xs), rest)) places-back
+    slots-again = rw (← wide, items_again (slot_codec limits.max_gen list.clock) xs rest fits, places-back) refl
 
     handles-again : counting_all (uncounted bare) tables ≡ Ok bare
     handles-again = counting_again bare processes limit tables (None ∷ [])
@@ -135,8 +127,7 @@ module _ (s : ObjectsState) (tied : ObjectsInvariant s) where
         let slots = map keeper_slot xs in
         let born = births_again s.objects (sum_by made_in slots) (subst (AreBorn s.objects) (sym births-back) tied.born)
         in
-        let named : names_in born.0 (places_in s) ≡ Ok rows =
-        search (arith, births-back, names_complete) in
+        let named : names_in born.0 (places_in s) ≡ Ok rows = search (arith, births-back, names_complete) in
         let whole : whole_objects limits slots (places_in s) ≡ Ok (with_slots (places_in s) limits slots, rows) =
         rw (born.1, bodied_again s.seen (length s.objects) tied.bodied, named) refl in
         let read : whole_at limits tables list (objects_text s ++ rest) ≡ Ok (
@@ -148,10 +139,4 @@ module _ (s : ObjectsState) (tied : ObjectsInvariant s) where
 
     pub objects_again : objects_at limits threads tables list (objects_text s ++ rest) ≡
         Ok ((record s { keeper = begun_over (shape_of limits) (map keeper_slot xs) }, rows), rest)
-    objects_again =
-        let again : (ObjectsState × Rows) × List ℕ =
-        ((record s { keeper = begun_over (shape_of limits) (map keeper_slot xs) }, rows), rest) in
-        ap (λ (r : Read (ObjectsState × Rows)). r >>= λ (a : (ObjectsState × Rows) × List ℕ).
-        cond (all_stand limits.max_recursion threads list.waits a.0.0) (Ok a) (Err Value)) whole-again
-        ∙ ap (λ (b : Bool). cond b (Ok again) (Err Value))
-        (all_taken limits.max_recursion threads s tables list.waits named live quiet)
+    objects_again = rw (whole-again, all_taken limits.max_recursion threads s tables list.waits named live quiet) refl

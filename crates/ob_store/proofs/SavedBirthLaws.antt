@@ -1,15 +1,12 @@
 -- Births that were ordered are distinct, and below their count.
-use Rattle.std.proofs.Common.{◌≡◌, ◌≢◌, ℕ, zero, suc, ◌<◌, ◌&&◌, Bool, true, false, cond, ltb, List, [], ◌∷◌, get_or, Option, Some, None, Ok, refl, sym, ap, ◌∙◌, subst, arith, eq-eqb, ne_eqb}
-use Rattle.std.specs.Prelude.{is_none}
+use Rattle.std.proofs.Common.{◌≡◌, ℕ, ◌≢◌, zero, suc, ◌<◌, ◌&&◌, true, false, cond, List, [], ◌∷◌, get_or, Option, Some, None, Ok, refl, sym, ap, ◌∙◌, arith, eq-eqb, ne_eqb}
 use Rattle.std.specs.BTreeMap.{insert_entry, is_at}
 use Rattle.std.specs.Cmp.{unsigned_tied}
 use Rattle.std.specs.Map.{lookup}
 use Rattle.std.specs.declared.cmp.Ordering.TheVariants.{Less, Greater}
 use Rattle.std.specs.Ordering.{nat_cmp}
-use Rattle.std.proofs.lemmas.Bool.{and_parts}
 use Rattle.std.proofs.lemmas.Option.{same_Some}
-use Rattle.ob_codec.specs.declared.fault.TextFault.TheVariants.{Value}
-use Rattle.ob_codec.specs.Steps.{bind_ok, guard_passed}
+use Rattle.ob_codec.specs.Steps.{bind_ok}
 use Rattle.ob_store.specs.Agreement.{AreBorn}
 use Rattle.ob_store.specs.Objects.{Object}
 use Rattle.ob_store.specs.SavedBirths.{Births, births_from, with_birth}
@@ -40,17 +37,10 @@ pub taken_inserted : (es : Births) (b slot c : ℕ) →
 taken_inserted [] b slot c = refl
 taken_inserted (x ∷ es) b slot c = search (arith, taken_inserted es b slot c)
 
-pub none_first : (t : Bool) (slot : ℕ) (rest : Option ℕ) → t ≡ false → rest ≡ None → cond t (Some slot) rest ≡ None
-none_first t slot rest e none = search arith
-
 -- a birth that isn't there once another came wasn't there before, and is another one
 not-taken : (es : Births) (b slot c : ℕ) → taken (insert_entry nat_cmp es b slot) c ≡ None → (c ≢ b) ×
     (taken es c ≡ None)
 not-taken es b slot c e = search (arith, taken_inserted)
-
-pub none-is : {A : Type 0} (x : Option A) → is_none x ≡ true → x ≡ None
-none-is None e = refl
-none-is (Some y) e = absurd (cc e)
 
 module _ (births : ℕ) (order : Births) where
   -- one object more
@@ -61,9 +51,7 @@ module _ (births : ℕ) (order : Births) where
   births_step slot so_far x objects e =
       let b = bind_ok (with_birth births so_far x.birth slot)
       (λ (more : Births). births_from births more (suc slot) objects) order e in
-      let g = guard_passed (ltb x.birth births && is_none (taken so_far x.birth)) Value
-      (insert_entry nat_cmp so_far x.birth slot) b.0 b.1 in
-      let new = and_parts (ltb x.birth births) (is_none (taken so_far x.birth)) g.0 in search arith
+      search arith
 
   -- each birth is below the count, and not among those so far
   each-new : (slot : ℕ) (so_far : Births) (objects : List (Option Object)) → births_from births so_far slot objects ≡
@@ -74,7 +62,7 @@ module _ (births : ℕ) (order : Births) where
   each-new slot so_far (None ∷ objects) e (suc k) o is = each-new (suc slot) so_far objects e k o is
   each-new slot so_far (Some x ∷ objects) e zero o is =
       let s = births_step slot so_far x objects e in
-      subst (λ (z : Object). (z.birth < births) × (taken so_far z.birth ≡ None)) (same_Some x o is) (s.0, s.1)
+      rw (← same_Some x o is) (s.0, s.1)
   each-new slot so_far (Some x ∷ objects) e (suc k) o is =
       let later = each-new (suc slot) (insert_entry nat_cmp so_far x.birth slot) objects
       (births_step slot so_far x objects e).2 k o is in

@@ -1,5 +1,5 @@
 -- Slots are read as they were spelled, and the objects that are read were spelled so.
-use Rattle.std.proofs.Common.{◌≡◌, ℕ, ◌<◌, false, List, length, get_or, Option, Some, None, Ok, refl, sym, ap, ◌∙◌, subst, arith}
+use Rattle.std.proofs.Common.{◌≡◌, ℕ, ◌<◌, false, List, length, get_or, Option, None, Ok, refl, sym, ap, ◌∙◌, subst, arith}
 use Rattle.std.specs.List.{flat_map}
 use Rattle.std.proofs.lemmas.List.{ext_get_or}
 use Rattle.std.proofs.lemmas.List.FromFn.{get_or-map-range_with_len, length-map-range_with_len}
@@ -7,8 +7,7 @@ use Rattle.ob_codec.specs.Codecs.{as_codec, both_codec, flag_codec, items_take, 
 use Rattle.ob_codec.specs.Laws.{IsCodec, Takes}
 use Rattle.ob_codec.specs.Reading.{items_at}
 use Rattle.ob_codec.specs.Spelling.{AreBytes}
-use Rattle.ob_codec.specs.Steps.{bind_ok, guard_passed, ok_is}
-use Rattle.ob_codec.specs.declared.fault.TextFault.TheVariants.{Value}
+use Rattle.ob_codec.specs.Steps.{bind_ok, ok_is}
 use Rattle.ob_name.specs.SpellingLaws.{name_codec}
 use Rattle.ob_rights.specs.SpellingLaws.{rights_codec}
 use Rattle.pin_core.specs.SpellingLaws.{descr_codec}
@@ -29,7 +28,7 @@ use Rattle.ob_store.specs.declared.saved_slot.SavedObject.{SavedObject}
 use Rattle.ob_store.specs.declared.saved_slot.SavedSlot.{SavedSlot}
 use Rattle.ob_store.specs.Objects.{ObjectsState, Places}
 use Rattle.ob_store.specs.SavedObjects.{object_saved, objects_at, objects_text, slot_saved, slots_saved, whole_at, with_slots}
-use Rattle.ob_store.specs.SavedWaits.{all_stand, with_blocks}
+use Rattle.ob_store.specs.SavedWaits.{with_blocks}
 use Rattle.ob_store.specs.SavedSlots as saved
 use Rattle.ob_store.specs.SavedSlots.{ObjectFits, SlotFits, object_at, object_parts, object_text, slot_at, slot_parts, slot_stands, slot_text, slots_from}
 
@@ -46,8 +45,7 @@ slot_codec max_gen clock = where_codec
 
 -- an object that was put into its slot is saved as it was
 saved-back : (id : Id) (o : Option SavedObject) → object_saved (saved.object_in_slot id o) (saved.body_in o) ≡ o
-saved-back id None = refl
-saved-back id (Some o) = refl
+saved-back = search arith
 
 module _ (n max_gen clock : ℕ) (p : Places) (slots : List Slot) (r : AreRead n max_gen clock p slots) (q : Places)
     (more : ℕ → ℕ) (Named : Id → Type 0) (counts : Counts p q more Named) (limits : Limits) (wide : n ≡
@@ -58,8 +56,7 @@ module _ (n max_gen clock : ℕ) (p : Places) (slots : List Slot) (r : AreRead n
       let generation : (slot_of slots k).generation ≡ x.generation =
       ap (λ (y : Slot). y.generation) (slot-here n max_gen clock p slots r q more Named counts k lt) ∙
       slot_generation x in
-      let retired : get_or q.retired k false ≡ x.retired =
-      search (arith, retired-here) in
+      let retired : get_or q.retired k false ≡ x.retired = search (arith, retired-here) in
       let object : object_saved (get_or q.objects k None) (get_or q.seen.bodies k None) ≡ x.object =
       (λ i. object_saved (object-here n max_gen clock p slots r q more Named counts k lt i)
       (body-here n max_gen clock p slots r q more Named counts k lt i))
@@ -105,7 +102,4 @@ whole_take limits tables list bytes s rows rest are e =
 pub objects_take : (limits : Limits) (threads : List (Option ℕ)) (tables : List (List (Option Entry)))
     (list : WaitList) (bytes : List ℕ) (s : ObjectsState) (rows : Rows) (rest : List ℕ) → AreBytes bytes →
     objects_at limits threads tables list bytes ≡ Ok ((s, rows), rest) → Takes bytes (objects_text s) rest
-objects_take limits threads tables list bytes s rows rest are e =
-    let a = bind_ok (whole_at limits tables list bytes) _ ((s, rows), rest) e in
-    let g = guard_passed (all_stand limits.max_recursion threads list.waits a.0.0.0) Value a.0 ((s, rows), rest) a.2 in
-    search (arith, whole_take)
+objects_take limits threads tables list bytes s rows rest are e = search (arith, whole_take)

@@ -6,7 +6,7 @@ use Rattle.std.specs.Prelude.{count_by, sum_by}
 use Rattle.std.proofs.lemmas.List.{get_or-map, length-map}
 use Rattle.std.proofs.lemmas.List.Sums.{AllPass-from_list_all}
 use Rattle.ob_codec.specs.Reading.{◌>>=◌}
-use Rattle.ob_codec.specs.Steps.{bind_ok, ok_is}
+use Rattle.ob_codec.specs.Steps.{bind_ok}
 use Rattle.pin_core.specs.Holds.{same_id}
 use Rattle.pin_core.specs.declared.id.Id.{Id}
 use Rattle.pin_core.specs.declared.world.Slot.{Slot}
@@ -65,10 +65,6 @@ whole_steps limits tables list bytes s rows rest e =
     b.2 in
     let d = bind_ok (births_from (sum_by made_in slots) [] 0 q.objects)
     (λ (order : Births). bodied_names order q >>= λ (names : Rows). Ok (with_slots q limits slots, names)) c.0 c.1 in
-    let f = bind_ok (bodied_names d.0 q) (λ (names : Rows). Ok (with_slots q limits slots, names)) c.0 d.2 in
-    let same = ok_is (c.0, a.0.1) ((s, rows), rest) c.2 in
-    let both = ok_is (with_slots q limits slots, f.0) c.0 f.2 ∙
-    ap (λ (z : (ObjectsState × Rows) × List ℕ). z.0) same in
     grind arith
 
 -- what waits that can be there keep
@@ -81,8 +77,7 @@ module _ (limit : ℕ) (threads : List (Option ℕ)) (s : ObjectsState) where
   ids-there t id [] all some = absurd (omega arith)
   ids-there t id (x ∷ ids) all some =
       let a = and_parts (may_wait_for limit s t x) (list_all (may_wait_for limit s t) ids) all in
-      let here : IsThere s.objects x =
-      search arith in
+      let here : IsThere s.objects x = search arith in
       by (same_id id x) refl here (λ later. ids-there t id ids a.1 later)
       (search arith)
     where
@@ -94,14 +89,10 @@ module _ (limit : ℕ) (threads : List (Option ℕ)) (s : ObjectsState) where
 
   state-there : (t : ℕ) (id : Id) (x : State) → state_stands limit s t x ≡ true →
       0 < count_by (same_id id) (state_ids x) → IsThere s.objects id
-  state-there t id (Pending mode ids) e some =
-      search (arith, ids-there)
-  state-there t id (Answered code) e some = absurd (omega arith)
+  state-there = search (arith, ids-there)
 
   wait-there : (id : Id) (w : Option Wait) → stands w ≡ true → 0 < blocks_in id w → IsThere s.objects id
-  wait-there id None e some = absurd (omega arith)
-  wait-there id (Some w) e some =
-      search (arith, state-there)
+  wait-there = search (arith, state-there)
 
   pub waits_there : (waits : List (Option Wait)) → waits_stand limit threads waits s ≡ true → (id : Id) →
       0 < blocks_among id waits → IsThere s.objects id
@@ -126,12 +117,10 @@ module _ (limit : ℕ) (threads : List (Option ℕ)) (s : ObjectsState) where
   state-room t (Answered code) e = search arith
 
   wait-room : (w : Option Wait) → stands w ≡ true → WaitHasRoom limit s.seen.bodies w
-  wait-room None e = tt
-  wait-room (Some w) e = search (arith, state-room)
+  wait-room = search (arith, state-room)
 
   wait-unready : (w : Option Wait) → stands w ≡ true → is_ready s.seen.bodies w ≡ false
-  wait-unready None e = refl
-  wait-unready (Some w) e = search arith
+  wait-unready = search arith
 
   -- a wait that is kept so is one that can be there
   state-taken : (t : ℕ) (x : State) →
@@ -149,9 +138,7 @@ module _ (limit : ℕ) (threads : List (Option ℕ)) (s : ObjectsState) where
   wait-taken : (w : Option Wait) → ((t : ℕ) → thread_of w ≡ Some t → IsLive threads t) →
       ((i : ℕ) → i < length (ids_of w) → IsThere s.objects (get_or (ids_of w) i nowhere)) →
       WaitHasRoom limit s.seen.bodies w → is_ready s.seen.bodies w ≡ false → stands w ≡ true
-  wait-taken None live there room unready = refl
-  wait-taken (Some w) live there room unready =
-      search (arith, state-taken)
+  wait-taken = search (arith, state-taken)
 
   module _ (waits : List (Option Wait)) (all : all_stand limit threads waits s ≡ true) where
     fits : waits_stand limit threads waits s ≡ true
@@ -192,11 +179,7 @@ blocks_counted s tables waits tied named =
         Agrees k x (get_or s.seen.bodies k None) (get_or s.retired k false) (slot_of s.keeper.slots k) →
         object_blocks waits x ≡ slot_blocks k waits
     by k None is agrees = search (arith, blocks_vacant)
-    by k (Some o) is agrees =
-        let own : o.id.slot ≡ k = ap (λ (id : Id). id.slot) agrees.0 in
-        let there : IsThere s.objects o.id =
-        search arith in
-        search (arith, blocks_are)
+    by k (Some o) is agrees = search (arith, blocks_are)
 
 -- what was read
 module _ (limits : Limits) (tables : List (List (Option Entry))) (list : WaitList) (bytes : List ℕ)
@@ -209,12 +192,11 @@ module _ (limits : Limits) (tables : List (List (Option Entry))) (list : WaitLis
   whole_shape = ap (λ (z : ObjectsState). z.keeper.shape) (sym steps.is)
 
   pub whole_formed : AreFormed list.clock s.objects s.seen.bodies
-  whole_formed = subst (λ (z : ObjectsState). AreFormed list.clock z.objects z.seen.bodies) steps.is
+  whole_formed = rw (← steps.is)
       (formed_read limits list.clock tables bytes steps.p steps.q steps.slots rest steps.read steps.counted)
 
   pub whole_entries : (id : Id) → 0 < handles_among id tables → IsThere s.objects id
-  whole_entries id some = subst (λ (z : ObjectsState). IsThere z.objects id) steps.is
-      (search (arith, entries_read))
+  whole_entries id some = rw (← steps.is) (search (arith, entries_read))
 
   pub whole_counted : ObjectsInvariant s → IsNamed s.objects tables list.waits →
       IsCounted s.seen (length s.objects) tables list.waits

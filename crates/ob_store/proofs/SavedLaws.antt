@@ -1,17 +1,16 @@
 -- Slots that are read one after the other.
-use Rattle.std.proofs.Common.{◌≡◌, ℕ, zero, suc, ◌+◌, ◌-◌, ◌<◌, ◌≤◌, Bool, true, false, List, [], ◌∷◌, ◌++◌, length, get_or, set, map, Option, Some, None, Ok, refl, sym, ap, ◌∙◌, append_assoc, arith, length-append}
+use Rattle.std.proofs.Common.{◌≡◌, ℕ, zero, suc, ◌+◌, ◌-◌, ◌<◌, ◌≤◌, Bool, true, false, List, [], ◌∷◌, ◌++◌, length, get_or, set, map, Option, None, Ok, refl, sym, ap, ◌∙◌, append_assoc, arith, length-append}
 use Rattle.std.specs.Prelude.{is_none, replicate}
 use Rattle.std.proofs.lemmas.List.{set_at, map-append, length-map, append-nil, set-get_or, get_or-replicate, length-replicate}
 use Rattle.ob_arena.specs.Slots.{is_vacant_at}
 use Rattle.ob_codec.specs.declared.fault.ReadFault.{ReadFault}
-use Rattle.ob_codec.specs.declared.fault.ReadFault.TheVariants.{Memory, Text}
 use Rattle.ob_codec.specs.Reading.{◌>>=◌, Fails, Read, items_at}
 use Rattle.ob_codec.proofs.Loop.{with_front, goes_on, ends, is_done}
 use Rattle.pin_core.specs.declared.world.Slot.{Slot}
 use Rattle.ob_store.specs.declared.saved_slot.SavedObject.{SavedObject}
 use Rattle.ob_store.specs.declared.saved_slot.SavedSlot.{SavedSlot}
 use Rattle.ob_store.specs.Objects.{Places, vacancy, vacant_places}
-use Rattle.ob_store.specs.SavedSlots.{body_from, is_retired, keeper_slot, object_from, objects_from, places_from, slot_at, slots_at, slots_from, with_saved}
+use Rattle.ob_store.specs.SavedSlots.{body_from, is_retired, keeper_slot, object_from, objects_from, slot_at, slots_at, slots_from, with_saved}
 
 -- a list of which the first places are written
 abbrev pub begun : {A : Type 0} → A → ℕ → ℕ → List A → List A
@@ -23,9 +22,8 @@ module _ {A : Type 0} (none : A) (n i : ℕ) (done : List A) (long : length done
 
   set-next : (x : A) → i < n → set (begun none n i done) i x ≡ begun none n (i + 1) (done ++ x ∷ [])
   set-next x lt =
-      ap (λ (r : List A). set (done ++ r) i x) (next-left lt)
-      ∙ (set_at done none (replicate (n - (i + 1)) none) x i long ∙
-      sym (append_assoc done (x ∷ []) (replicate (n - (i + 1)) none)))
+      rw (next-left lt, set_at done none (replicate (n - (i + 1)) none) x i long)
+      (sym (append_assoc done (x ∷ []) (replicate (n - (i + 1)) none)))
 
   length-begun : i ≤ n → length (begun none n i done) ≡ n
   length-begun le =
@@ -50,8 +48,7 @@ objects-long k (x ∷ xs) = ap suc (objects-long (suc k) xs)
 objects-more : (k i : ℕ) (xs : List SavedSlot) (x : SavedSlot) → k + length xs ≡ i →
     objects_from k (xs ++ x ∷ []) ≡ objects_from k xs ++ object_from i x ∷ []
 objects-more k i [] x is = search arith
-objects-more k i (y ∷ ys) x is =
-    search (arith, objects-more (suc k) i ys x (omega arith))
+objects-more k i (y ∷ ys) x is = search (arith, objects-more (suc k) i ys x (omega arith))
 
 -- the slots so far, and nothing in those that come
 abbrev pub so_far : ℕ → ℕ → List SavedSlot → Places
@@ -84,11 +81,7 @@ record IsEmptyAt (p : Places) (i : ℕ) : Type 0 where
 saved-is : (p : Places) (i generation : ℕ) (retired : Bool) (o : Option SavedObject) → IsEmptyAt p i →
     (let x : SavedSlot = record { generation = generation; retired = retired; object = o } in
     (retired ≡ true → is_none o ≡ true) → with_saved p i generation retired o ≡ written p i x)
-saved-is p i generation true (Some o) at apart = absurd (let e = apart refl in cc e)
-saved-is p i generation true None at apart = search (arith, set-get_or)
-saved-is p i generation false None at apart = search (arith, set-get_or)
-saved-is p i generation false (Some o) at apart =
-    search (arith, set-get_or)
+saved-is = search (arith, set-get_or)
 
 module _ (n i : ℕ) (xs : List SavedSlot) (long : length xs ≡ i) (lt : i < n) where
   objects-are : length (objects_from 0 xs) ≡ i
@@ -108,8 +101,7 @@ module _ (n i : ℕ) (xs : List SavedSlot) (long : length xs ≡ i) (lt : i < n)
 
   -- the next slot is vacant
   pub vacant-next : is_vacant_at (vacancy (so_far n i xs)) i ≡ true
-  vacant-next =
-      search (arith, length-begun, objects-are, empty-at)
+  vacant-next = search (arith, length-begun, objects-are, empty-at)
 
   pub written-next : (x : SavedSlot) → written (so_far n i xs) i x ≡ so_far n (i + 1) (xs ++ x ∷ [])
   written-next x = search (arith, set-next, kept-at, objects-more, objects-are, bodies-are, retired-are, zero-at, map-append)
@@ -124,8 +116,7 @@ pub record HasRead (n max_gen clock i : ℕ) (first from : List ℕ) (p : Places
 
 pub read_begins : (n max_gen clock : ℕ) (first : List ℕ) (p : Places) (slots : List Slot) → p ≡ vacant_places n →
     slots ≡ [] → HasRead n max_gen clock 0 first first p slots
-read_begins n max_gen clock first p slots vacant none =
-    search arith
+read_begins n max_gen clock first p slots vacant none = search arith
 
 module _ (n max_gen clock i : ℕ) (first from : List ℕ) (p : Places) (slots : List Slot)
     (h : HasRead n max_gen clock i first from p slots) where
@@ -136,23 +127,21 @@ module _ (n max_gen clock i : ℕ) (first from : List ℕ) (p : Places) (slots :
       HasRead n max_gen clock (i + 1) first after (with_saved p i x.generation x.retired x.object) (slots
       ++ keeper_slot x ∷ [])
   read_goes_on x after lt is =
-      let apart : x.retired ≡ true → is_none x.object ≡ true =
-      search arith in
+      let apart : x.retired ≡ true → is_none x.object ≡ true = search arith in
       record {
         read = h.read ++ x ∷ [];
-        length_is = length-append h.read (x ∷ []) ∙ (let l = h.length_is in omega arith);
+        length_is = length-append h.read (x ∷ []) ∙ (omega arith);
         total = goes_on (slot_at max_gen clock) h.read n i from x after
             (items_at (slot_at max_gen clock) n first) lt is h.total;
-        places = ap (λ (z : Places). with_saved z i x.generation x.retired x.object) h.places
-            ∙ (saved-is (so_far n i h.read) i x.generation x.retired x.object (empty-at n i h.read h.length_is lt) apart
-            ∙ written-next n i h.read h.length_is lt x);
-        begun_slots = ap (λ (z : List Slot). z ++ keeper_slot x ∷ []) h.begun_slots ∙
-            sym (map-append keeper_slot h.read (x ∷ []));
+        places = rw (
+          h.places,
+          saved-is (so_far n i h.read) i x.generation x.retired x.object (empty-at n i h.read h.length_is lt) apart,
+        ) (written-next n i h.read h.length_is lt x);
+        begun_slots = rw h.begun_slots (sym (map-append keeper_slot h.read (x ∷ [])));
       }
 
   fails-as : {A B : Type 0} (e : ReadFault) (r : Read A) (f : A × List ℕ → Read B) → Fails e r → Fails e (r >>= f)
-  fails-as Memory r f fails = tt
-  fails-as {A = A} (Text fault) r f fails = ap (λ (z : Read A). z >>= f) fails
+  fails-as = search arith
 
   pub read_ends : (e : ReadFault) → i < n → Fails e (slot_at max_gen clock from) →
       Fails e (slots_at n max_gen clock first)
@@ -163,14 +152,8 @@ module _ (n max_gen clock i : ℕ) (first from : List ℕ) (p : Places) (slots :
   read_done le ge =
       let done = is_done (slot_at max_gen clock) h.read n i from (items_at (slot_at max_gen clock) n first) le h.total
       in
-      let none : n - i ≡ 0 = omega arith in
-      let full : length h.read ≡ n = let l = h.length_is in omega arith in
-      let objects : begun None n i (objects_from 0 h.read) ≡ objects_from 0 h.read =
-      search (arith, append-nil) in
-      let bodies : begun None n i (map body_from h.read) ≡ map body_from h.read =
-      search (arith, append-nil) in
-      let retired : begun false n i (map is_retired h.read) ≡ map is_retired h.read =
-      search (arith, append-nil) in
-      let all : so_far n i h.read ≡ places_from h.read = search arith in
+      let objects : begun None n i (objects_from 0 h.read) ≡ objects_from 0 h.read = search (arith, append-nil) in
+      let bodies : begun None n i (map body_from h.read) ≡ map body_from h.read = search (arith, append-nil) in
+      let retired : begun false n i (map is_retired h.read) ≡ map is_retired h.read = search (arith, append-nil) in
       ap (λ (z : Read (List SavedSlot)). z >>= λ (xs : List SavedSlot × List ℕ). Ok (slots_from xs.0, xs.1)) done
       ∙ (search arith)

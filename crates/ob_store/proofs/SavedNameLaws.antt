@@ -1,5 +1,5 @@
 -- The names that a load enters are the directory, where no name stands twice.
-use Rattle.std.proofs.Common.{◌≡◌, ℕ, zero, suc, ◌+◌, ◌≤◌, ◌&&◌, Bool, false, cond, ltb, List, [], ◌∷◌, ◌++◌, length, get_or, is_none, Option, Some, None, Ok, refl, sym, ap, ◌∙◌, subst, arith, inl, inr, eq-eqb}
+use Rattle.std.proofs.Common.{◌≡◌, ℕ, zero, suc, ◌+◌, ◌≤◌, ◌&&◌, Bool, false, cond, ltb, List, [], ◌∷◌, ◌++◌, length, get_or, Option, Some, None, Ok, refl, sym, ap, ◌∙◌, subst, arith, inl, inr, eq-eqb}
 use Rattle.std.specs.BTreeMap.{is_at}
 use Rattle.std.specs.List.{AllByRecursion, IsDistinct, cons_option, filter_map}
 use Rattle.std.specs.Map.{keys_of, values_of}
@@ -7,9 +7,8 @@ use Rattle.std.specs.Ordering.{nat_cmp}
 use Rattle.std.proofs.lemmas.Bool.{cases_eq}
 use Rattle.std.proofs.lemmas.List.{append-nil, append_assoc}
 use Rattle.std.proofs.lemmas.Map.Keys.{IsDistinct-head, IsDistinct-tail}
-use Rattle.ob_codec.specs.declared.fault.TextFault.TheVariants.{Value}
 use Rattle.ob_codec.specs.Reading.{◌>>=◌}
-use Rattle.ob_codec.specs.Steps.{bind_ok, guard_passed, ok_is}
+use Rattle.ob_codec.specs.Steps.{bind_ok, ok_is}
 use Rattle.ob_name.specs.Names.{ObjectName}
 use Rattle.ob_name.specs.Listing.{AreDistinct, Rows, find_name, same_name}
 use Rattle.ob_name.specs.Order.{Row}
@@ -31,8 +30,7 @@ use Rattle.ob_store.proofs.SavedBirthLaws.{at_other, at_same, taken}
 use Rattle.ob_store.proofs.SavedOrderLaws.{IsOrder, Rises, is_order, none_below}
 
 cons_end : {A : Type 0} (xs ys : List A) (o : Option A) → xs ++ cons_option o [] ++ ys ≡ xs ++ cons_option o ys
-cons_end xs ys None = ap (λ l. l ++ ys) (append-nil xs)
-cons_end xs ys (Some a) = append_assoc xs (a ∷ []) ys
+cons_end = search (arith, append-nil, append_assoc)
 
 -- in the order of births stand just the rows of the directory, where what is stored of handles is what is counted
 module _ (ts : Tables) (p : Places) (births : ℕ) (order : Births) (is : IsOrder p.objects births order)
@@ -83,14 +81,12 @@ module _ (ts : Tables) (p : Places) (births : ℕ) (order : Births) (is : IsOrde
   unfolding Rises
   rows-on zero low [] r same =
       ap (rows_of ts p.objects) (let e : low + 0 ≡ low = omega arith in e) ∙ sym (append-nil (rows_of ts p.objects low))
-  rows-on zero low (e ∷ es) r same = absurd (let from = r.0 in let below = r.1 in omega arith)
+  rows-on zero low (e ∷ es) r same = absurd (omega arith)
   rows-on (suc n) low [] r same =
       before-none low n [] (sym (same low (omega arith)))
       (rows-on n (suc low) [] tt (λ b from. same b (omega arith)))
   rows-on (suc n) low (e ∷ es) r same =
       let up : low + suc n ≡ suc low + n = omega arith in
-      let from = r.0 in
-      let below = r.1 in
       elim (cases_eq e.0 low) [
         | inl here ↦
             before-one low n e.1 (filter_map (slot_row p) (values_of es))
@@ -121,13 +117,7 @@ module _ (ts : Tables) (p : Places) (births : ℕ) (order : Births) (is : IsOrde
 module _ (p : Places) where
   one-entered : (rows more : Rows) (r : Option Row) → with_row rows r ≡ Ok more →
       (rows ++ cons_option r [] ≡ more) × (AreDistinct rows → AreDistinct more)
-  one-entered rows more None e =
-      let same = ok_is rows more e in (append-nil rows ∙ same, search arith)
-  one-entered rows more (Some row) e =
-      let g = guard_passed (is_none (find_name row.0 rows)) Value (rows ++ row ∷ []) more e in (
-        g.1,
-        search (arith, distinct_with),
-      )
+  one-entered = search (arith, append-nil, distinct_with)
 
   all-entered : (rows out : Rows) (slots : List ℕ) → named_from p rows slots ≡ Ok out →
       (rows ++ filter_map (slot_row p) slots ≡ out) × (AreDistinct rows → AreDistinct out)

@@ -1,7 +1,7 @@
 -- Objects that were read are tied to a keeper that begins with their slots.
 use Rattle.std.proofs.lemmas.Bool.Decides.{nat_tests}
 use Rattle.ob_codec.proofs.AtPlace.{at_place}
-use Rattle.std.proofs.Common.{◌≡◌, ℕ, zero, suc, ◌+◌, ◌<◌, Bool, true, false, cond, ltb, List, [], ◌∷◌, length, get_or, map, Option, Some, None, Ok, refl, sym, ap, ◌∙◌, subst, arith, inl, inr}
+use Rattle.std.proofs.Common.{◌≡◌, ℕ, zero, suc, ◌+◌, ◌<◌, Bool, true, false, cond, ltb, List, [], ◌∷◌, length, get_or, map, Option, Some, None, Ok, refl, sym, ap, ◌∙◌, arith, inl, inr}
 use Rattle.std.specs.Prelude.{is_none, is_some, sum_by}
 use Rattle.std.proofs.lemmas.Bool.{cases_lt}
 use Rattle.std.proofs.lemmas.List.{get_or-map, get_or-replicate, get_or_past, length-map, length-replicate}
@@ -59,8 +59,7 @@ pub object-at : (j k : ℕ) (xs : List SavedSlot) → k < length xs → get_or (
     object_from (j + k) (get_or xs k none_saved)
 object-at j k [] lt = absurd (omega arith)
 object-at j zero (x ∷ xs) lt = search arith
-object-at j (suc k) (x ∷ xs) lt =
-    search (arith, object-at (suc j) k xs (omega arith))
+object-at j (suc k) (x ∷ xs) lt = search (arith, object-at (suc j) k xs (omega arith))
 
 -- the slots that were read, and what is counted of them
 pub record AreRead (n max_gen clock : ℕ) (p : Places) (slots : List Slot) : Type 0 where
@@ -151,8 +150,7 @@ module _ (n max_gen clock : ℕ) (p : Places) (slots : List Slot) (r : AreRead n
   -- the stored counts are the numbers of entries
   pub read_handles : q.seen.handles ≡ by_slot (length q.objects) more
   read_handles = is_by_slot q.seen.handles (length q.objects) more (handles-long ∙ sym objects-long-here)
-      (λ k lt. (let c = counts.handles k in
-      let z : get_or p.seen.handles k 0 ≡ 0 = ap (λ (y : Places). get_or y.seen.handles k 0) r.places ∙
+      (λ k lt. (let z : get_or p.seen.handles k 0 ≡ 0 = ap (λ (y : Places). get_or y.seen.handles k 0) r.places ∙
       get_or-replicate {A = ℕ} (length r.xs) k 0 0 (omega (arith, objects-long-here)) in
       omega arith))
 
@@ -180,8 +178,7 @@ module _ (limits : Limits) (clock : ℕ) (tables : List (List (Option Entry))) (
   pub tied_read : (order : Births) → births_from (sum_by made_in slots) [] 0 q.objects ≡ Ok order →
       (waits : List (Option Wait)) → are_bodied (with_blocks waits q).seen (length q.objects) ≡ true →
       ObjectsInvariant (with_slots (with_blocks waits q) limits slots)
-  tied_read order ordered waits bodied =
-      search (arith, read_tied, are, counts)
+  tied_read order ordered waits bodied = search (arith, read_tied, are, counts)
 
   pub formed_read : AreFormed clock q.objects q.seen.bodies
   formed_read = search (arith, read_formed, are, counts)
@@ -190,7 +187,7 @@ module _ (limits : Limits) (clock : ℕ) (tables : List (List (Option Entry))) (
   handles_read = search (arith, read_handles, are, counts)
 
   pub entries_read : (id : Id) → 0 < handles_among id tables → IsThere q.objects id
-  entries_read id some = subst (λ (z : Places). IsThere z.objects id) (sym counts.same) (counts.named id some)
+  entries_read id some = rw counts.same (counts.named id some)
 
   pub wide_read : length q.seen.blocks ≡ length q.objects
   wide_read = search (arith, read_wide, are, counts)

@@ -1,5 +1,5 @@
 -- The order of births rises, and has the births of the objects, each with its slot, and no others.
-use Rattle.std.proofs.Common.{◌≡◌, ◌⊎◌, ℕ, zero, suc, ◌+◌, ◌<◌, ◌≤◌, Bool, true, false, cond, List, [], ◌∷◌, get_or, Option, Some, None, Ok, refl, sym, ap, ◌∙◌, arith, inl, inr}
+use Rattle.std.proofs.Common.{◌≡◌, ℕ, ◌⊎◌, zero, suc, ◌+◌, ◌<◌, ◌≤◌, Bool, true, false, cond, List, [], ◌∷◌, get_or, Option, Some, None, Ok, refl, sym, ap, ◌∙◌, arith, inl, inr}
 use Rattle.std.specs.BTreeMap.{insert_entry, is_at}
 use Rattle.std.specs.declared.cmp.Ordering.{Ordering}
 use Rattle.std.specs.declared.cmp.Ordering.TheVariants.{Less, Equal, Greater}
@@ -65,19 +65,13 @@ module _ (births : ℕ) (order : Births) where
       let s = births_step births order slot so_far x objects e in
       taken-still (suc slot) (insert_entry nat_cmp so_far x.birth slot) objects s.2 b k
       (search (arith, taken_inserted))
-    where
-      by : (t : Bool) → is_at (nat_cmp b) x.birth ≡ t → taken so_far x.birth ≡ None →
-          cond t (Some slot) (taken so_far b) ≡ Some k
-      by true it none = search arith
-      by false it none = is
 
   each-taken : (slot : ℕ) (so_far : Births) (objects : List (Option Object)) →
       births_from births so_far slot objects ≡ Ok order →
       (k : ℕ) (o : Object) → get_or objects k None ≡ Some o → taken order o.birth ≡ Some (slot + k)
   each-taken slot so_far [] e k o is = absurd cc
   each-taken slot so_far (None ∷ objects) e zero o is = absurd cc
-  each-taken slot so_far (None ∷ objects) e (suc k) o is =
-      search (arith, each-taken (suc slot) so_far objects e k o is)
+  each-taken slot so_far (None ∷ objects) e (suc k) o is = search (arith, each-taken (suc slot) so_far objects e k o is)
   each-taken slot so_far (Some x ∷ objects) e zero o is =
       let s = births_step births order slot so_far x objects e in
       let here : taken (insert_entry nat_cmp so_far x.birth slot) x.birth ≡ Some slot =
@@ -95,15 +89,14 @@ module _ (births : ℕ) (order : Births) where
       Came so_far (suc slot) objects b k → Came so_far slot (x ∷ objects) b k
   came-later slot so_far x objects b k came = elim came [
     | inl before ↦ inl before
-    | inr c ↦ inr (suc c.0, c.1, c.2, c.3, (let e = c.4 in omega arith))
+    | inr c ↦ inr (suc c.0, c.1, c.2, c.3, (omega arith))
   ]
 
   came : (slot : ℕ) (so_far : Births) (objects : List (Option Object)) →
       births_from births so_far slot objects ≡ Ok order →
       (b k : ℕ) → taken order b ≡ Some k → Came so_far slot objects b k
   came slot so_far [] e b k is = search arith
-  came slot so_far (None ∷ objects) e b k is =
-      search (arith, came-later, came (suc slot) so_far objects e b k is)
+  came slot so_far (None ∷ objects) e b k is = search (arith, came-later, came (suc slot) so_far objects e b k is)
   came slot so_far (Some x ∷ objects) e b k is =
       let s = births_step births order slot so_far x objects e in
       elim (came (suc slot) (insert_entry nat_cmp so_far x.birth slot) objects s.2 b k is) [

@@ -24,8 +24,7 @@ module _ (ps : List (Option ℕ)) where
   live_at o e p is = search arith
 
   pub live_from : (o : Option ℕ) → ((p : ℕ) → o ≡ Some p → IsLive ps p) → is_of_live ps o ≡ true
-  live_from None each = refl
-  live_from (Some p) each = each p refl
+  live_from = search arith
 
   live_pass : (ts : List (Option ℕ)) → ((t p : ℕ) → get_or ts t None ≡ Some p → IsLive ps p)
       → are_of_live (ps, ts) ≡ true

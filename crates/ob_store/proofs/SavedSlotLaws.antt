@@ -1,8 +1,5 @@
 -- What is known of slots that were read.
-use Rattle.std.proofs.Common.{◌≡◌, ℕ, zero, suc, ◌<◌, ◌≤◌, ◌&&◌, Bool, true, false, leb, List, [], ◌∷◌, length, get_or, Option, Some, None, Ok, sym, ap, ◌∙◌, subst, arith}
-use Rattle.std.specs.Prelude.{is_none}
-use Rattle.std.proofs.lemmas.Bool.{and_parts, ltb-true}
-use Rattle.std.proofs.lemmas.Option.{same_Some}
+use Rattle.std.proofs.Common.{◌≡◌, ℕ, zero, suc, ◌<◌, ◌≤◌, ◌&&◌, Bool, true, List, [], ◌∷◌, length, get_or, Option, Some, None, Ok, sym, ap, ◌∙◌, subst, arith}
 use Rattle.ob_codec.specs.declared.fault.TextFault.TheVariants.{Value}
 use Rattle.ob_codec.specs.Reading.{◌>>=◌, Read, as_at, both_at, given_at, items_at, number_at, option_at, some_at}
 use Rattle.ob_codec.specs.Reading as reading
@@ -14,19 +11,12 @@ use Rattle.ob_body.specs.Spelling.{body_at}
 use Rattle.ob_rights.specs.declared.rights.Rights.{Rights}
 use Rattle.ob_rights.specs.Spelling.{rights_at}
 use Rattle.pin_core.specs.declared.descr.Descr.{Descr}
-use Rattle.pin_core.specs.declared.word.Phase.TheVariants.{Retired}
-use Rattle.pin_core.specs.Descrs.{IsGiven, decoded, same_descr}
-use Rattle.pin_core.specs.Opened.{SlotOpens}
+use Rattle.pin_core.specs.Descrs.{IsGiven, decoded}
 use Rattle.pin_core.specs.Spelling.{descr_at}
 use Rattle.ob_body.specs.declared.body.Body.{Body}
-use Rattle.ob_body.specs.Body.{due_of}
-use Rattle.ob_waits.specs.Form.{IsAfter, form_of, slot_due}
 use Rattle.ob_store.specs.declared.saved_slot.SavedObject.{SavedObject}
 use Rattle.ob_store.specs.declared.saved_slot.SavedSlot.{SavedSlot}
-use Rattle.ob_store.specs.Agreement.{Agrees, phase_of}
-use Rattle.ob_store.specs.Kept.{form_in, unset}
-use Rattle.ob_store.specs.Objects.{Object}
-use Rattle.ob_store.specs.SavedSlots.{any_slot_at, body_from, body_in, body_stands, descr_of, is_after, keeper_slot, keeper_slot_with, may_retire, object_at, object_from, object_in_slot, object_of, object_stands, slot_at, slot_of, slot_stands, stored_object}
+use Rattle.ob_store.specs.SavedSlots.{any_slot_at, keeper_slot, may_retire, object_at, object_of, object_stands, slot_at, slot_of, slot_stands}
 
 -- what was read in parts
 module _ {A B : Type 0} where
@@ -78,7 +68,7 @@ object-given bytes o rest e =
     let b = both-split (number_at w64) (both_at descr_at behind_descr) bytes a.0 rest a.1 in
     let c = both-split descr_at behind_descr b.0 a.0.1 rest b.2 in
     let d = some-split decoded (number_at w64) b.0 a.0.1.0 c.0 c.1 in
-    subst (λ (z : SavedObject). IsGiven z.descr) a.2 (decoded-given d.0 a.0.1.0 d.1)
+    rw (← a.2) (decoded-given d.0 a.0.1.0 d.1)
 
 abbrev pub Given : Option SavedObject → Type 0
 Given None = Unit {0}
@@ -118,7 +108,7 @@ slot_sound max_gen clock bytes rest x e =
     (record {
       stands = g.0;
       given =
-          subst (λ (z : SavedSlot). Given z.object) a.2 (option-given d.0 a.0.1.1 b.0.1 d.2);
+          rw (← a.2) (option-given d.0 a.0.1.1 b.0.1 d.2);
     })
 
 -- so many items, each of which is so
@@ -137,11 +127,6 @@ items_all {A = A} at P pass d (suc n) bytes xs rest e =
     let b = bind_ok (items_at at n a.0.1) (λ (ys : List A × List ℕ). Ok (a.0.0 ∷ ys.0, ys.1)) (xs, rest) a.2 in
     let ih = items_all at P pass d n a.0.1 b.0.0 b.0.1 b.1 in
     grind arith
-  where
-    here : (x : A) (ys : List A) → P x → ((k : ℕ) → k < n → P (get_or ys k d)) → (k : ℕ) → k < suc n →
-        P (get_or (x ∷ ys) k d)
-    here x ys first others zero lt = first
-    here x ys first others (suc k) lt = others k (omega arith)
 
 -- one slot
 
@@ -152,70 +137,8 @@ module _ (max_gen clock : ℕ) (x : SavedSlot) (sound : IsSlotSound max_gen cloc
   abbrev rest : Bool
   rest = may_retire max_gen x && object_stands clock x.object
 
-  parts : ((leb 1 x.generation && leb x.generation max_gen) ≡ true) × (rest ≡ true)
-  parts = search arith
-
   pub slot_aged : (1 ≤ x.generation) × (x.generation ≤ max_gen)
-  slot_aged = let a = and_parts (leb 1 x.generation) (leb x.generation max_gen) parts.0 in
-      search arith
-
-  pub slot_retires : x.retired ≡ true → (x.generation ≡ max_gen) × (is_none x.object ≡ true)
-  slot_retires = search arith
+  slot_aged = search arith
 
   stands : object_stands clock x.object ≡ true
   stands = search arith
-
-  pub slot_agrees : (k : ℕ) → Agrees k (object_from k x) (body_from x) x.retired (keeper_slot x)
-  slot_agrees k = search arith
-
-  pub slot_opens : SlotOpens max_gen (keeper_slot x)
-  slot_opens = by x.object x.retired sound.given (λ r. (slot_retires r).0)
-    where
-      apart : (b : Option Body) → phase_of b ≡ Retired → ⊥
-      apart None e = cc
-      apart (Some b) e = cc
-
-      by : (o : Option SavedObject) (r : Bool) → Given o → (r ≡ true → x.generation ≡ max_gen) →
-          SlotOpens max_gen (keeper_slot_with x.generation r o)
-      by None true given last = search arith
-      by None false given last = search arith
-      by (Some o) r given last = search arith
-
-  body-formed : (d : Descr) (b : Body) → body_stands clock d (Some b) ≡ true → (unset (form_of b) ≡ form_in d) ×
-      IsAfter clock (due_of b)
-  body-formed d b e =
-      let t = and_parts (same_descr (descr_of b) d) (is_after clock (due_of b)) e in
-      search arith
-    where
-      later : (due : Option ℕ) → is_after clock due ≡ true → IsAfter clock due
-      later None e = tt
-      later (Some due) e = ltb-true clock due e
-
-  -- a body is what the object's descriptor says
-  pub slot_formed : (k : ℕ) (o : Object) (b : Body) → object_from k x ≡ Some o → body_from x ≡ Some b →
-      unset (form_of b) ≡ form_in o.descr
-  slot_formed k o b is has = by x.object stands is has
-    where
-      by : (s : Option SavedObject) → object_stands clock s ≡ true →
-          object_in_slot (record { slot = k; generation = x.generation }) s ≡ Some o → body_in s ≡ Some b →
-          unset (form_of b) ≡ form_in o.descr
-      by None stands is has = absurd cc
-      by (Some s) stands is has =
-          let same : s.descr ≡ o.descr =
-          ap (λ (z : Object). z.descr) (same_Some (stored_object (record {
-            slot = k;
-            generation =
-                x.generation;
-          }) s) o is) in
-          search arith
-
-  pub slot_later : IsAfter clock (slot_due (body_from x))
-  slot_later = by x.object stands
-    where
-      of : (d : Descr) (b : Option Body) → body_stands clock d b ≡ true → IsAfter clock (slot_due b)
-      of d None e = tt
-      of d (Some b) e = (body-formed d b e).1
-
-      by : (s : Option SavedObject) → object_stands clock s ≡ true → IsAfter clock (slot_due (body_in s))
-      by None e = tt
-      by (Some s) e = of s.descr s.body e

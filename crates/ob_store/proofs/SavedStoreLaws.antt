@@ -7,7 +7,6 @@ use Rattle.std.proofs.lemmas.List.{ext_get_or, get_or-map, length-append, length
 use Rattle.ob_codec.specs.Codecs.{u64_codec, where_codec}
 use Rattle.ob_codec.specs.Laws.{IsCodec, Takes}
 use Rattle.ob_codec.specs.Reading.{has_at, list_at, where_at}
-use Rattle.ob_codec.specs.Sparse.{sparse_at}
 use Rattle.ob_codec.specs.Spelling.{AreBytes}
 use Rattle.ob_codec.specs.Steps.{bind_ok, guard_passed, ok_is}
 use Rattle.ob_codec.specs.declared.fault.TextFault.TheVariants.{Value}
@@ -18,7 +17,7 @@ use Rattle.ob_tables.specs.Spelling.{TablesFit, are_bounded, is_short, table_at,
 use Rattle.ob_tables.specs.SpellingLaws.{tables_again, tables_take}
 use Rattle.ob_tables.specs.Tables.{HandleTables}
 use Rattle.ob_tables.specs.declared.entry.Entry.{Entry}
-use Rattle.ob_waits.specs.Spelling.{WaitsFit, are_below, are_within, can_be, is_within, wait_at, waits_at, waits_text, with_rest}
+use Rattle.ob_waits.specs.Spelling.{WaitsFit, are_below, are_within, is_within, waits_at, waits_text}
 use Rattle.ob_waits.specs.SpellingLaws.{waits_again, waits_take}
 use Rattle.ob_waits.specs.Rules.{thread_of}
 use Rattle.ob_waits.specs.Waits.{WaitList, ids_of, nowhere}
@@ -96,8 +95,7 @@ slots-long (x ∷ xs) = search (arith, length-append, slots-long xs)
 -- three texts before the slots, and what stands behind them, have as many bytes as the slots have at least
 slots_there : (n : ℕ) (xs : List SavedSlot) (a b c rest : List ℕ) → length xs ≡ n
     → has_at (n * slot_bytes) (a ++ (b ++ (c ++ (flat_map slot_text xs ++ rest)))) ≡ Ok tt
-slots_there n xs a b c rest long =
-    search (arith, slots-long, length-append)
+slots_there n xs a b c rest long = search (arith, slots-long, length-append)
 
 -- the parts of a store are read again
 module _ (p : PartsState) (kept : StoreInvariant p) (tied : ObjectsInvariant p.objects) (processes : ListsFit p.processes)
@@ -130,8 +128,7 @@ module _ (p : PartsState) (kept : StoreInvariant p) (tied : ObjectsInvariant p.o
 
   waits_back : (rest : List ℕ) → waits_at p.limits.waits p.waits.clock (length p.processes.threads) p.limits.slots
       (waits_text p.waits.waits ++ rest) ≡ Ok (p.waits, rest)
-  waits_back rest = subst (λ (z : ℕ). waits_at z p.waits.clock (length p.processes.threads) p.limits.slots
-      (waits_text p.waits.waits ++ rest) ≡ Ok (p.waits, rest)) sound.limited.waits_are
+  waits_back rest = rw (← sound.limited.waits_are)
       (waits_again (length p.processes.threads) p.limits.slots p.waits rest waits (waits_within p kept tied))
 
   same_whole : whole_with p.limits p.processes p.tables p.waits over ≡ begun_again (whole_of p)
@@ -196,14 +193,8 @@ tables_read processes handles given bytes t rest e =
     let g = guard_passed (are_bounded given handles y.0.0) Value y.0 x.0 y.2 in
     let many = eqb-true (length y.0.0) given
     (and_parts (eqb (length y.0.0) given) (list_all (is_short handles) y.0.0) g.0).0 in
-    let q = ok_is (with_limits processes handles x.0.0, x.0.1) (t, rest) x.2 in (
-      sym (ap (λ (z : HandleTables × List ℕ). z.0.process_limit) q),
-      (
-        sym (ap (λ (z : HandleTables × List ℕ). z.0.handle_limit) q),
-        sym (ap (λ (z : HandleTables × List ℕ). length z.0.tables) q)
-            ∙ sym (ap (λ (z : List (List (Option Entry)) × List ℕ). length z.0) g.1) ∙ many,
-      ),
-    )
+    let q = ok_is (with_limits processes handles x.0.0, x.0.1) (t, rest) x.2 in
+    grind (arith, q, g.1, many)
 
 -- and so are those of which the processes that aren't live have none
 pub tables_kept : (limits : Limits) (ps : List (Option ℕ)) (bytes : List ℕ) (t : HandleTables) (rest : List ℕ)
@@ -213,19 +204,7 @@ pub tables_kept : (limits : Limits) (ps : List (Option ℕ)) (bytes : List ℕ) 
 tables_kept limits ps bytes t rest e =
     let a = bind_ok (tables_at limits.processes limits.handles (length ps) bytes)
     (λ (a : HandleTables × List ℕ). cond (are_vacated ps a.0.tables (length ps)) (Ok a) (Err Value)) (t, rest) e in
-    let g = guard_passed (are_vacated ps a.0.0.tables (length ps)) Value a.0 (t, rest) a.2 in
-    let all : are_vacated ps t.tables (length ps) ≡ true =
-    subst (λ (z : HandleTables × List ℕ). are_vacated ps z.0.tables (length ps) ≡ true) g.1 g.0 in
-    let read : tables_at limits.processes limits.handles (length ps) bytes ≡ Ok (t, rest) =
-    search arith in search (arith, vacated_from)
-
--- so were the waits, at the moment that was asked for
-waits_moment : (limit clock threads slots : ℕ) (bytes : List ℕ) (list : WaitList) (rest : List ℕ)
-    → waits_at limit clock threads slots bytes ≡ Ok (list, rest) → list.clock ≡ clock
-waits_moment limit clock threads slots bytes list rest e =
-    let x = bind_ok (where_at (are_within threads slots) (where_at (can_be limit clock) (sparse_at threads wait_at)) bytes)
-    (λ (x : List (Option Wait) × List ℕ). Ok (with_rest limit clock x.0, x.1)) (list, rest) e in
-    sym (ap (λ (z : WaitList × List ℕ). z.0.clock) (ok_is (with_rest limit clock x.0.0, x.0.1) (list, rest) x.2))
+    search (arith, vacated_from)
 
 -- and so was what stands before the objects
 lists_were : (limits : Limits) (clock : ℕ) (bytes : List ℕ) (l : (ProcessesState × (HandleTables × WaitList)) × List ℕ)
@@ -243,9 +222,6 @@ lists_were limits clock bytes l are e =
     let f = bind_ok (waits_at limits.waits clock (length p.threads) limits.slots d.0.1) _ l d.2 in
     let list = f.0.0 in
     let lf = (waits_take limits.waits clock (length p.threads) limits.slots d.0.1 list f.0.1 ld.rest_fits f.1).0 in
-    let texts : bytes ≡ processes_text p ++ (tables_text t.tables ++ (waits_text list.waits ++ f.0.1)) =
-    search arith in
-    let moment = waits_moment limits.waits clock (length p.threads) limits.slots d.0.1 list f.0.1 f.1 in
     search arith
 
 pub store_takes : (bytes : List ℕ) (w : Whole) (rest : List ℕ) → AreBytes bytes → store_at bytes ≡ Ok (w, rest)
@@ -265,9 +241,7 @@ store_takes bytes w rest are e =
     let g = bind_ok (objects_at limits p.threads t.tables list l.0.1) _ (w, rest) l.2 in
     let o = g.0.0.0 in
     let lg = objects_take limits p.threads t.tables list l.0.1 o g.0.0.1 g.0.1 ll.1.0 g.1 in
-    let q : (whole_with limits p t list o, g.0.1) ≡ (w, rest) =
-    search arith
-    in
+    let q : (whole_with limits p t list o, g.0.1) ≡ (w, rest) = search arith in
     let texts : bytes ≡ limits_text limits ++ (to_le_bytes w64 b.0.0 ++ (processes_text p ++ (tables_text t.tables
     ++ (waits_text list.waits ++ (objects_text o ++ g.0.1))))) =
     search arith in

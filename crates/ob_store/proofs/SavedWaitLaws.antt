@@ -6,12 +6,11 @@ use Rattle.std.proofs.lemmas.List.{ext_get_or, get_or-map, length-map, set-get_o
 use Rattle.std.proofs.lemmas.List.Quantifiers.{position-Some}
 use Rattle.ob_arena.specs.Slots.{Slots}
 use Rattle.pin_core.specs.declared.id.Id.{Id}
-use Rattle.ob_waits.specs.Rules.{WaitsInvariant, thread_of}
+use Rattle.ob_waits.specs.Rules.{WaitsInvariant}
 use Rattle.ob_waits.specs.Spelling.{are_within, is_within}
 use Rattle.ob_waits.specs.Waits.{blocks_among, is_pending, new_wait, number_of}
 use Rattle.ob_waits.specs.declared.wait.Mode.{Mode}
-use Rattle.ob_waits.specs.declared.wait.State.{State}
-use Rattle.ob_waits.specs.declared.wait.State.TheVariants.{Pending, Answered}
+use Rattle.ob_waits.specs.declared.wait.State.TheVariants.{Pending}
 use Rattle.ob_waits.specs.declared.wait.Wait.{Wait}
 use Rattle.ob_waits.proofs.TrackedLaws.{no_number, waits_thread}
 use Rattle.ob_store.specs.declared.object_header.ObjectHeader.{ObjectHeader}
@@ -67,35 +66,17 @@ module _ (limit : ℕ) (threads : List (Option ℕ)) (s : ObjectsState) (waits :
   -- the wait of a thread that isn't live
   pub dead_wait : (t n : ℕ) → number_of t waits ≡ Some n → is_some (get_or threads t None) ≡ false →
       stands (wait_of t waits) ≡ false
-  dead_wait t n found dead =
-      search (arith, position-Some)
-    where
-      by : (w : Option Wait) → thread_of w ≡ Some t → stands w ≡ false
-      by None own = absurd (cc own)
-      by (Some w) own =
-          search arith
+  dead_wait t n found dead = search (arith, position-Some)
 
   -- that of one that is, pending or answered
   pub pending_wait : (t n u : ℕ) (mode : Mode) (ids : List Id) (deadline : Option ℕ) → number_of t waits ≡ Some n →
       IsLive threads t → get_or waits n None ≡ Some (new_wait u mode ids deadline) →
       stands (wait_of t waits) ≡ state_stands limit s t (Pending mode ids)
-  pending_wait t n u mode ids deadline found live is =
-      search (arith, position-Some)
+  pending_wait t n u mode ids deadline found live is = search (arith, position-Some)
 
   pub answered_wait : (t n : ℕ) → number_of t waits ≡ Some n → IsLive threads t →
       is_pending (get_or waits n None) ≡ false → stands (wait_of t waits) ≡ true
-  answered_wait t n found live over =
-      search (arith, position-Some)
-    where
-      state : (u : ℕ) (x : State) → is_pending (Some (record { thread = u; deadline = None; state = x })) ≡ false →
-          state_stands limit s u x ≡ true
-      state u (Pending mode ids) over = absurd (cc over)
-      state u (Answered code) over = refl
-
-      by : (w : Option Wait) → thread_of w ≡ Some t → is_pending w ≡ false → stands w ≡ true
-      by None own over = refl
-      by (Some w) own over =
-          search arith
+  answered_wait t n found live over = search (arith, position-Some)
 
   -- and each wait is that of its thread
   its-wait : WaitsInvariant waits → (n : ℕ) (w : Wait) → get_or waits n None ≡ Some w → wait_of w.thread waits ≡ Some w
@@ -116,7 +97,6 @@ module _ (limit : ℕ) (threads : List (Option ℕ)) (s : ObjectsState) (waits :
       by : (n : ℕ) (w : Option Wait) → get_or waits n None ≡ w → stands w ≡ true
       by n None is = refl
       by n (Some w) is =
-          let here : is_within bound slots (Some w) ≡ true =
-          search (arith, all_at) in
+          let here : is_within bound slots (Some w) ≡ true = search (arith, all_at) in
           ap (λ (x : Option Wait). stands x) (sym (its-wait kept n w is)) ∙
           each w.thread (ltb-true w.thread bound (and_parts _ _ here).0)

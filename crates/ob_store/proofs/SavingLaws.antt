@@ -1,5 +1,5 @@
 -- What is written one after the other.
-use Rattle.std.proofs.Common.{◌≡◌, ◌++◌, ℕ, List, append_assoc}
+use Rattle.std.proofs.Common.{◌≡◌, ℕ, ◌++◌, List, append_assoc}
 
 pub two_behind : (o a x y : List ℕ) → x ≡ o ++ a → (b : List ℕ) → y ≡ x ++ b → y ≡ o ++ (a ++ b)
 two_behind o a x y p b q = rw (q, p) (append_assoc o a b)

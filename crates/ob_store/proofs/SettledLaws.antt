@@ -32,8 +32,7 @@ settled_waits s named bodied = ends_before s named
 pub settled_ends : (s : State) (after : CountedBodies) → IsNamed s.objects s.tables s.waits
     → ended (objects_of s) ≡ after
     → IsSettled after.bodies s.waits → settled s ≡ record s { bodies = after.bodies }
-settled_ends s after named is quiet =
-    search (arith, ends_before, settled_same)
+settled_ends s after named is quiet = search (arith, ends_before, settled_same)
 
 -- a state in which nothing is to end and no wait is ready is settled
 pub settled_still : (s : State) → IsNamed s.objects s.tables s.waits → HasBodies (objects_of s)

@@ -1,5 +1,5 @@
 -- What a store keeps, told of what is stored.
-use Rattle.std.proofs.Common.{◌≡◌, ◌<◌, ◌+◌, ℕ, length, Some, None, refl, ap, ◌∙◌, sym, subst, arith, get_or, true, ltb}
+use Rattle.std.proofs.Common.{◌≡◌, ℕ, ◌<◌, ◌+◌, length, Some, None, refl, ap, ◌∙◌, sym, subst, arith, get_or, true, ltb}
 use Rattle.std.specs.Prelude.{◌↔◌}
 use Rattle.std.specs.List.{Contains}
 use Rattle.std.proofs.lemmas.List.{get_or_past}
@@ -36,7 +36,6 @@ module _ (p : PartsState) (kept : StoreInvariant p) (tied : ObjectsInvariant p.o
   row_open name id row =
       let place : row.place ≡ id.slot = sym (placed_agreed o tied.agreed row.place row.object row.is_there)
       ∙ ap (λ (i : Id). i.slot) row.its_id in
-      let has : ltb 0 (handles_among id p.tables.tables) ≡ true = row.has in
       search (arith, o.objects, row.is_there, row.its_id, row.its_name, row.object)
 
   -- and each such object has a row

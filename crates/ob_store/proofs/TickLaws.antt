@@ -1,5 +1,5 @@
 -- Timers fire: what is sound stays so, and is on its way to the settled state; none is due then.
-use Rattle.std.proofs.Common.{arith, ◌≡◌, ℕ, List, Option, Some, None, refl, ap, ◌∙◌, get_or, map, false}
+use Rattle.std.proofs.Common.{ℕ, arith, ◌≡◌, List, Option, Some, None, refl, ap, ◌∙◌, get_or, map, false}
 use Rattle.ob_body.specs.declared.body.Body.{Body}
 use Rattle.ob_body.specs.declared.body.Body.TheVariants.{Timer}
 use Rattle.ob_body.specs.TimerState.{TimerState}
@@ -25,17 +25,14 @@ timer_fired : (now : ℕ) (t : TimerState) → is_due now t.due ≡ false → ti
 timer_fired now t none = search arith
 
 body_other : (now : ℕ) (b : Body) → is_due now (due_of b) ≡ false → after_fire now b ≡ b
-body_other now (Timer t) h = ap Timer (timer_fired now t h)
-body_other now b h = refl
+body_other = search (arith, timer_fired)
 
 pub fired_other : (now : ℕ) (x : Option Body) → slot_is_due now x ≡ false → slot_fired now x ≡ x
-fired_other now None h = refl
-fired_other now (Some b) h = ap Some (body_other now b h)
+fired_other = search (arith, body_other)
 
 -- nor does what is no timer fire
 pub fired_another : (now : ℕ) (b : Body) → (kind_of b ≡ kind.Timer → ⊥) → after_fire now b ≡ b
-fired_another now (Timer t) other = absurd (other refl)
-fired_another now b other = refl
+fired_another = search arith
 
 -- what fired is as it was fired again
 pub fired_twice : (now : ℕ) (x : Option Body) → slot_fired now (slot_fired now x) ≡ slot_fired now x
@@ -43,8 +40,7 @@ fired_twice now x = search arith
 
 -- what holds of a body holds of it once it fired
 unset_fired : (now : ℕ) (b : Body) → unset (form_of (after_fire now b)) ≡ unset (form_of b)
-unset_fired now (Timer t) = search arith
-unset_fired now b = refl
+unset_fired = search arith
 
 formed_fired : (clock now : ℕ) (objects : List (Option Object)) (bodies : List (Option Body))
     → AreFormed clock objects bodies → AreFormed clock objects (map (slot_fired now) bodies)
@@ -64,9 +60,6 @@ module _ (p : PartsState) (q : ObjectsState) (a : SignaledState) (now : ℕ)
     (tied : ObjectsInvariant q)
     (seen : q.seen ≡ record p.objects.seen { bodies = map (slot_fired now) p.objects.seen.bodies })
     (rest : kept_rest q ≡ kept_rest p.objects) where
-  abbrev limit : ℕ
-  limit = p.limits.max_recursion
-
   bodies_are : q.seen.bodies ≡ map (slot_fired now) p.objects.seen.bodies
   bodies_are = ap (λ (x : CountedBodies). x.bodies) seen
 
@@ -75,10 +68,7 @@ module _ (p : PartsState) (q : ObjectsState) (a : SignaledState) (now : ℕ)
   way_fired = record {
     tied = tied;
     sound = sound_rested p p.processes q p.waits a rest kept.sound refl kept.sound.processes_kept
-        (record {
-          handles = ap (λ (x : CountedBodies). x.handles) seen ∙ kept.sound.counted.handles;
-          blocks = ap (λ (x : CountedBodies). x.blocks) seen ∙ kept.sound.counted.blocks;
-        })
+        (rw seen (record { handles = kept.sound.counted.handles; blocks = kept.sound.counted.blocks }))
         kept.sound.named
         (search (arith, formed_fired, bodies_are))
         (search (arith, read, kept.sound.of_live.owners, kept.sound.of_live.waiters))

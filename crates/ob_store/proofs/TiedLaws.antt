@@ -1,6 +1,6 @@
 -- What holds of objects and their keeper holds after each change.
 use Rattle.ob_codec.proofs.AtPlace.{at_place}
-use Rattle.std.proofs.Common.{◌≡◌, ℕ, ◌+◌, ◌<◌, ◌≤◌, List, length, Option, Some, None, refl, ap, sym, subst, arith, get_or, set, true, false, ltb}
+use Rattle.std.proofs.Common.{◌≡◌, ℕ, ◌+◌, ◌<◌, ◌≤◌, List, length, None, refl, arith, get_or, set, true, false}
 use Rattle.std.proofs.lemmas.Bool.{and_parts}
 use Rattle.std.specs.Prelude.{is_some, ◌&&◌}
 use Rattle.std.proofs.lemmas.List.{length-set, get_or-set_same, set-get_or}
@@ -10,7 +10,7 @@ use Rattle.pin_core.specs.declared.word.Phase.TheVariants as phase
 use Rattle.pin_core.specs.declared.world.Slot.{Slot}
 use Rattle.pin_core.specs.Descrs.{IsGiven}
 use Rattle.pin_core.specs.Worlds.{slot_of, opening_slot}
-use Rattle.pin_core.specs.Events.{in_phase, with_descr, reclaimed}
+use Rattle.pin_core.specs.Events.{in_phase, with_descr}
 use Rattle.pin_words.specs.declared.view.Look.{Look}
 use Rattle.pin_words.specs.Keepers.{closed, with_looks, opened_again}
 use Rattle.ob_body.specs.declared.body.Body.{Body}
@@ -19,30 +19,22 @@ use Rattle.ob_waits.specs.CountedBodies as waits
 use Rattle.ob_waits.specs.CountedBodies.{without_block}
 use Rattle.ob_waits.specs.Rules.{HasBodies}
 use Rattle.ob_waits.proofs.Ends.{ends_left}
-use Rattle.ob_store.specs.Objects.{Object, Places, ObjectsState, ObjectAttributes, vacancy, with_keeper, with_object, object_in, with_header, without_handle, without_header, with_retired, places_in, is_last_handle, is_last_block, rest_of}
-use Rattle.ob_store.specs.Agreement.{Agrees, IsAgreed, ObjectsInvariant, made_by, made_in}
-use Rattle.ob_store.proofs.AgreeLaws.{object_at, body_at, retired_at, slot_at, free_at, object_within}
+use Rattle.ob_store.specs.Objects.{Places, ObjectsState, ObjectAttributes, vacancy, with_keeper, with_object, object_in, with_header, without_handle, without_header, with_retired, places_in, is_last_handle, is_last_block, rest_of}
+use Rattle.ob_store.specs.Agreement.{ObjectsInvariant, made_in}
+use Rattle.ob_store.proofs.AgreeLaws.{object_at, body_at, slot_at}
 use Rattle.ob_store.proofs.ListLaws.{listed_added}
 use Rattle.ob_store.proofs.EndLaws.{bodied_handle_left}
 use Rattle.ob_store.proofs.BirthLaws.{made_set, made_more, made_bound, born_added, born_gone}
-
--- counts change, and all bodies stay
-pub tied_stays : (s : ObjectsState) (seen : waits.CountedBodies) → seen.bodies ≡ s.seen.bodies → HasBodies seen
-    → ObjectsInvariant s
-    → ObjectsInvariant (record s { seen = seen })
-tied_stays s seen bodies has h = search arith
 
 -- a body goes, and its slot closes
 pub tied_ended : (s : ObjectsState) (seen : waits.CountedBodies) (k : ℕ) → seen.bodies ≡ set s.seen.bodies k None
     → is_some (body_at s k) ≡ true → HasBodies seen → ObjectsInvariant s
     → ObjectsInvariant (record s { seen = seen; keeper = closed s.keeper k })
-tied_ended s seen k bodies there has h =
-    grind (arith, at_place, made_set)
+tied_ended s seen k bodies there has h = grind (arith, at_place, made_set)
 
 -- the count of births has room
 pub births_few : (s : ObjectsState) → ObjectsInvariant s → s.births ≤ 281474976645120
-births_few s h =
-    search (arith, made_bound)
+births_few s h = search (arith, made_bound)
 
 -- the last handle of an object leaves
 pub tied_handle_left : (s : ObjectsState) (k : ℕ) → 0 < get_or s.seen.handles k 0
@@ -64,14 +56,12 @@ module _ (s : ObjectsState) (q : Places) (id : Id) (seen : q.seen ≡ without_bl
       → ObjectsInvariant (with_keeper q s.births (closed s.keeper id.slot))
   tied_block_ended ends =
       let is = and_parts (is_some (body_at s id.slot)) (is_last_block (places_in s) id.slot) ends in
-      subst (λ (p : Places). ObjectsInvariant (with_keeper p s.births (closed s.keeper id.slot))) (sym left)
-      (tied_ended s (without_block s.seen id) id.slot
+      rw left (tied_ended s (without_block s.seen id) id.slot
       (search arith) is.0 (ends_left id s.seen h.bodied) h)
 
   pub tied_block_left : is_some (body_at s id.slot) && is_last_block (places_in s) id.slot ≡ false
       → ObjectsInvariant (with_keeper q s.births s.keeper)
-  tied_block_left ends =
-      search (arith, set-get_or, ends_left)
+  tied_block_left ends = search (arith, set-get_or, ends_left)
 
 -- a new object in a vacant slot
 pub tied_added : (s t : ObjectsState) (k : ℕ) (attributes : ObjectAttributes) (body : Body)
@@ -81,70 +71,27 @@ pub tied_added : (s t : ObjectsState) (k : ℕ) (attributes : ObjectAttributes) 
     → IsGiven attributes.descr → ObjectsInvariant s
     → ObjectsInvariant t
 tied_added s t k attributes body is vacant one given h =
-    let none : get_or s.objects k None ≡ None = search arith in
     let room : k < length s.objects = search arith in
-    let unretired : get_or s.retired k false ≡ false = search arith in
-    let a : IsAgreed s = h.agreed in
-    let inside : k < s.keeper.shape.slots = omega arith in
     let within : k < length s.keeper.slots = omega arith in
-    let headers : k < length s.seen.bodies = omega arith in
     let y : Slot = with_descr (slot_at s k) attributes.descr in
     let slots : List Slot = set s.keeper.slots k y in
     let stored : slot_of slots k ≡ y = get_or-set_same s.keeper.slots k y opening_slot within in
     let long : k < length slots = omega (arith, length-set s.keeper.slots k y) in
     let z : Slot = in_phase (slot_of slots k) phase.Live in
-    let old : (1 ≤ (slot_at s k).generation) × ((slot_at s k).generation ≤ s.keeper.shape.max_gen) = h.aged k inside in
-    let age : (slot_of slots k).generation ≡ (slot_at s k).generation = ap (λ (x : Slot). x.generation) stored in
-    let free : (slot_at s k).phase ≡ phase.Free = free_at s k none unretired room a in
-    let before : made_in (slot_at s k) ≡ made_by phase.Free (slot_at s k).generation =
-    search arith in
     let more : made_in z ≡ made_in (slot_of slots k) + 1 = search arith in
     let quiet = made_set s.keeper.slots k y within refl in
     let count = made_more slots k z long more in
     grind (arith, at_place, born_added, listed_added)
 
--- an object without a body is in a closing slot that isn't retired
-closing_at : (s : ObjectsState) (k : ℕ) → is_some (object_at s k) ≡ true → body_at s k ≡ None → IsAgreed s
-    → k < s.keeper.shape.slots → ((slot_at s k).phase ≡ phase.Closing) × (retired_at s k ≡ false)
-closing_at s k there ended a inside = search arith
-  where
-    by : (o : Option Object) (b : Option Body) → is_some o ≡ true → b ≡ None
-        → Agrees k o b (retired_at s k) (slot_at s k) → ((slot_at s k).phase ≡ phase.Closing) × (retired_at s k ≡ false)
-    by None b there e h = absurd (cc there)
-    by (Some o) None there e h = (h.2, h.3)
-    by (Some o) (Some b) there e h = absurd (cc e)
-
 -- the slot of an ended object is taken back, and is free at the next generation
 pub tied_freed : (s : ObjectsState) (k : ℕ) (looks : List Look) → is_some (object_at s k) ≡ true → body_at s k ≡ None
     → (slot_at s k).generation < s.keeper.shape.max_gen → ObjectsInvariant s
     → ObjectsInvariant (with_keeper (without_header (places_in s) k) s.births (with_looks (opened_again s.keeper k) looks))
-tied_freed s k looks there ended below h =
-    let inside : k < s.keeper.shape.slots = object_within s k there h.agreed in
-    let closing = closing_at s k there ended h.agreed inside in
-    let y : Slot = record (slot_at s k) { generation = (slot_at s k).generation + 1; phase = phase.Free } in
-    let test : ltb (slot_at s k).generation s.keeper.shape.max_gen ≡ true = grind arith in
-    let is : reclaimed s.keeper.shape.max_gen (slot_at s k) ≡ y =
-    search arith in
-    let before : made_in (slot_at s k) ≡ (slot_at s k).generation =
-    search arith in
-    grind (arith, nat_tests, at_place, born_gone, made_set)
+tied_freed s k looks there ended below h = grind (arith, nat_tests, at_place, born_gone, made_set)
 
 -- or at the last generation it is given up for good
 pub tied_retired : (s : ObjectsState) (k : ℕ) (looks : List Look) → is_some (object_at s k) ≡ true → body_at s k ≡ None
     → s.keeper.shape.max_gen ≤ (slot_at s k).generation → ObjectsInvariant s
     → ObjectsInvariant (with_keeper (with_retired (without_header (places_in s) k) k) s.births
     (with_looks (opened_again s.keeper k) looks))
-tied_retired s k looks there ended last h =
-    let inside : k < s.keeper.shape.slots = object_within s k there h.agreed in
-    let closing = closing_at s k there ended h.agreed inside in
-    let y : Slot = in_phase (slot_at s k) phase.Retired in
-    let test : ltb (slot_at s k).generation s.keeper.shape.max_gen ≡ false = grind arith in
-    let is : reclaimed s.keeper.shape.max_gen (slot_at s k) ≡ y =
-    search arith
-    in
-    let before : made_in (slot_at s k) ≡ (slot_at s k).generation =
-    search arith in
-    let age = h.aged k inside in
-    let at : get_or (set s.retired k true) k false ≡ true =
-    search (arith, get_or-set_same) in
-    grind (arith, nat_tests, at_place, born_gone, made_set)
+tied_retired s k looks there ended last h = grind (arith, nat_tests, at_place, born_gone, made_set)

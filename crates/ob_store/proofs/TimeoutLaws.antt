@@ -115,8 +115,7 @@ module _ (s : State) (now n : ℕ) (named : IsNamed s.objects s.tables s.waits) 
 -- where no time is up, the clock alone goes on
 pub time_out_last : (s : State) (now : ℕ) → settled s ≡ s → ((n : ℕ) → is_overdue now (get_or s.waits n None) ≡ false)
     → record s { clock = now } ≡ settled (timed_out now s)
-time_out_last s now still none =
-    search (arith, none_lapsed)
+time_out_last s now still none = search (arith, none_lapsed)
 
 -- settling makes no timer due
 pub undue_settled : (first : Scene) (after : CountedBodies) (ws' : List (Option Wait)) (now : ℕ)
@@ -131,8 +130,6 @@ undue_settled first after ws' now value undue k = by (get_or after.bodies k None
     by : (x : Option Body) → get_or after.bodies k None ≡ x → slot_is_due now x ≡ false
     by None is = refl
     by (Some b) is =
-        let some : is_some (get_or (waits.settled first).objects.bodies k None) ≡ true =
-        search arith in
-        let form : slot_form (Some b) ≡ slot_form (get_or first.objects.bodies k None) =
-        search (arith, settled_form) in
+        let some : is_some (get_or (waits.settled first).objects.bodies k None) ≡ true = search arith in
+        let form : slot_form (Some b) ≡ slot_form (get_or first.objects.bodies k None) = search (arith, settled_form) in
         search arith

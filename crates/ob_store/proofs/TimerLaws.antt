@@ -4,7 +4,6 @@ use Rattle.std.specs.Prelude.{IfNone, IfSome}
 use Rattle.std.proofs.lemmas.List.{length-map}
 use Rattle.least.specs.Dues.{is_by, IsLeast}
 use Rattle.ob_body.specs.declared.body.Body.{Body}
-use Rattle.ob_body.specs.declared.body.Body.TheVariants.{Event}
 use Rattle.ob_body.specs.Timer.{is_due}
 use Rattle.ob_waits.specs.Form.{slot_due}
 use Rattle.ob_waits.specs.CountedBodies.{slot_acquired}
@@ -39,15 +38,11 @@ pub timed_left_at : (xs : List (Option ObjectHeader)) (dues : List (Option ℕ))
     (o : Option Body)
     → dues ≡ map header_due xs → get_or xs k None ≡ Some x → o ≡ cond b x.body None → y.body ≡ cond b None x.body
     → due_left dues k (slot_due o) ≡ map header_due (set xs k (Some y))
-timed_left_at xs dues k x y true o timed there went none = search (arith, mapped_set, mapped_stays)
-timed_left_at xs dues k x y false o timed there went same =
-    search (arith, mapped_stays)
+timed_left_at = search (arith, mapped_set, mapped_stays)
 
 -- who acquires it leaves a timer's due moment
 pub due_taken : (u : ℕ) (x : Option Body) → slot_due (slot_acquired u x) ≡ slot_due x
-due_taken u None = refl
-due_taken u (Some (Event e)) = refl
-due_taken u x = refl
+due_taken = search arith
 
 -- an object without a body leaves
 pub timed_removed : (xs : List (Option ObjectHeader)) (dues : List (Option ℕ)) (k : ℕ) → dues ≡ map header_due xs
@@ -67,20 +62,17 @@ due_of_slot : (xs : List (Option ObjectHeader)) (dues : List (Option ℕ)) (k : 
 due_of_slot xs dues k timed = search (arith, due_read)
 
 by_due : (now : ℕ) (due : Option ℕ) → is_due now due ≡ is_by now due
-by_due now None = refl
-by_due now (Some due) = refl
+by_due = search arith
 
 pub some_due : (now : ℕ) (xs : List (Option ObjectHeader)) (dues : List (Option ℕ)) (r : Option ℕ)
     → dues ≡ map header_due xs
     → IfSome r (λ slot. is_by now (get_or dues slot None) ≡ true)
     → IfSome r (λ slot. slot_is_due now (get_or (map header_body xs) slot None) ≡ true)
-some_due now xs dues None timed h = tt
-some_due now xs dues (Some slot) timed h = search (arith, due_read, by_due)
+some_due = search (arith, due_read, by_due)
 
 pub none_due_slot : (now : ℕ) (xs : List (Option ObjectHeader)) (dues : List (Option ℕ)) (r : Option ℕ)
     → dues ≡ map header_due xs
     → IfNone r ((k : ℕ) → is_by now (get_or dues k None) ≡ false)
     → IfNone r ((k : ℕ) → slot_is_due now (get_or (map header_body xs) k None) ≡ false)
-none_due_slot now xs dues None timed h =
-    λ k. by_due now _ ∙ ap (is_by now) (sym (due_of_slot xs dues k timed)) ∙ h k
+none_due_slot now xs dues None timed h = λ k. by_due now _ ∙ ap (is_by now) (sym (due_of_slot xs dues k timed)) ∙ h k
 none_due_slot now xs dues (Some slot) timed h = tt

@@ -1,6 +1,6 @@
 -- A call is under way from what is kept, and ends with what is kept of the settled state.
 use Rattle.ob_codec.proofs.AtPlace.{at_place}
-use Rattle.std.proofs.Common.{◌≡◌, ◌<◌, ℕ, List, length, Option, Some, None, refl, ap, ◌∙◌, sym, subst, arith, get_or, set, true}
+use Rattle.std.proofs.Common.{◌≡◌, ℕ, ◌<◌, List, length, Option, Some, None, refl, ap, ◌∙◌, sym, subst, arith, get_or, set, true}
 use Rattle.pin_core.specs.declared.id.Id.{Id}
 use Rattle.pin_words.specs.Keepers.{KeeperState}
 use Rattle.ob_body.specs.declared.body.Body.{Body}
@@ -111,7 +111,7 @@ module _ (p : PartsState) (q : ObjectsState) (id : Id) (old new : Body)
     (put : q.seen ≡ record p.objects.seen { bodies = set p.objects.seen.bodies id.slot (Some new) })
     (rest : kept_rest q ≡ kept_rest p.objects) where
   there : get_or p.objects.seen.bodies id.slot None ≡ Some old
-  there = subst (λ (v : Whole). get_or v.state.bodies id.slot None ≡ Some old) (sym view) bodied
+  there = rw (← view) at bodied
 
   abbrev bodies : List (Option Body)
   bodies = set p.objects.seen.bodies id.slot (Some new)
@@ -124,10 +124,7 @@ module _ (p : PartsState) (q : ObjectsState) (id : Id) (old new : Body)
   way_put tied = record {
     tied = tied;
     sound = sound_rested p p.processes q p.waits p.signaled rest kept.sound refl kept.sound.processes_kept
-        (record {
-          handles = ap (λ (x : CountedBodies). x.handles) put ∙ kept.sound.counted.handles;
-          blocks = ap (λ (x : CountedBodies). x.blocks) put ∙ kept.sound.counted.blocks;
-        })
+        (rw put (record { handles = kept.sound.counted.handles; blocks = kept.sound.counted.blocks }))
         kept.sound.named
         (search (arith, formed_put))
         (search (arith, there, put_bodies, of_live_put))
@@ -139,19 +136,17 @@ module _ (p : PartsState) (q : ObjectsState) (id : Id) (old new : Body)
 
   -- each wait that is ready then is for the object
   pub ready : IsReadyAt id.slot q.seen.bodies p.waits.waits
-  ready = subst (λ (x : List (Option Body)). IsReadyAt id.slot x p.waits.waits) (sym put_bodies)
-      (ready_at_change p.objects.seen.bodies p.waits.waits id.slot (Some new) kept.settled)
+  ready = rw put_bodies (ready_at_change p.objects.seen.bodies p.waits.waits id.slot (Some new) kept.settled)
 
   -- nothing is signaled by it that wasn't: so nothing settles
   pub settled_put_less : ((t : ℕ) → is_signaled t new ≡ true → is_signaled t old ≡ true)
       → IsSettled q.seen.bodies p.waits.waits
-  settled_put_less less = subst (λ (x : List (Option Body)). IsSettled x p.waits.waits) (sym put_bodies)
-      (search (arith, there, less_put, settled_less))
+  settled_put_less less = rw put_bodies (search (arith, there, less_put, settled_less))
 
   -- no pending wait is for it: so nothing settles
   pub settled_unblocked : ObjectsInvariant p.objects → get_or p.objects.seen.blocks id.slot 0 ≡ 0
       → IsSettled q.seen.bodies p.waits.waits
-  settled_unblocked tied none = subst (λ (x : List (Option Body)). IsSettled x p.waits.waits) (sym put_bodies)
+  settled_unblocked tied none = rw put_bodies
       (settled_unnamed p.objects.seen.bodies p.waits.waits id.slot (Some new) unnamed kept.settled)
     where
       within : id.slot < length p.objects.objects

@@ -10,8 +10,7 @@ use Rattle.ob_store.proofs.ByPlace.{below_at, below_from}
 empty_of : (o : Option ℕ) (t : List (Option Entry)) → (is_some o || not (ltb 0 (length t))) ≡ true → o ≡ None → t ≡ []
 empty_of (Some s) t pass none = search arith
 empty_of None [] pass none = refl
-empty_of None (x ∷ t) pass none =
-    search arith
+empty_of None (x ∷ t) pass none = search arith
 
 module _ (ps : List (Option ℕ)) (ts : List (List (Option Entry))) where
   pub vacated_pass : ((q : ℕ) → get_or ps q None ≡ None → get_or ts q [] ≡ []) → (n : ℕ) → are_vacated ps ts n ≡ true

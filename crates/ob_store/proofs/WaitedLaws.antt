@@ -1,6 +1,6 @@
 -- What is kept as a thread takes what it waits for, and as waits come, are answered and go.
 use Rattle.ob_codec.proofs.AtPlace.{at_place}
-use Rattle.std.proofs.Common.{◌≡◌, ℕ, suc, ◌+◌, ◌<◌, ◌≤◌, List, [], ◌∷◌, ◌++◌, length, Option, Some, None, refl, ap, ◌∙◌, sym, subst, arith, get_or, set, Bool, true, false, inl, inr}
+use Rattle.std.proofs.Common.{◌≡◌, ℕ, suc, ◌+◌, ◌<◌, ◌≤◌, List, [], ◌∷◌, ◌++◌, length, Option, Some, None, refl, ap, ◌∙◌, sym, arith, get_or, set, Bool, true, false, inl, inr}
 use Rattle.std.specs.Prelude.{count_by, if◌then◌else◌}
 use Rattle.std.specs.Option.{IfNone, OnSome}
 use Rattle.std.proofs.lemmas.List.{length-set, get_or_past, get_or-set_same, get_or-set_other}
@@ -94,10 +94,7 @@ module _ (p : PartsState) (q : ObjectsState) (t : ℕ) (mode : Mode) (ids : List
   kept_taken : StoreInvariant (record p { objects = q })
   kept_taken = record {
     sound = sound_rested p p.processes q p.waits p.signaled rest kept.sound refl kept.sound.processes_kept
-        (record {
-          handles = ap (λ (x : CountedBodies). x.handles) seen ∙ kept.sound.counted.handles;
-          blocks = ap (λ (x : CountedBodies). x.blocks) seen ∙ kept.sound.counted.blocks;
-        })
+        (rw seen (record { handles = kept.sound.counted.handles; blocks = kept.sound.counted.blocks }))
         kept.sound.named
         (search (arith, formed_taken))
         (search (arith, of_live_taken))
@@ -135,15 +132,14 @@ among P [] each id h = absurd (omega arith)
 among P (x ∷ ids) each id h = by (same_id id x) refl (among P ids (λ i lt. each (suc i) (omega arith)) id)
   where
     by : (b : Bool) → same_id id x ≡ b → (0 < count_by (same_id id) ids → P id) → P id
-    by true is rest = subst (λ (y : Id). P y) (sym (one_id id x is)) (each 0 (omega arith))
+    by true is rest = rw (one_id id x is) (each 0 (omega arith))
     by false is rest = search arith
 
 -- the counts of blocks have room for one more wait
 pub few_blocks : (p : PartsState) → StoreInvariant p → rules.WaitsInvariant p.waits.waits
     → length p.waits.waits ≤ 4294967296
     → (k : ℕ) → get_or p.objects.seen.blocks k 0 + 64 ≤ 18446744073709551615
-few_blocks p kept each few k =
-    search (arith, count_few, slot_blocks-few)
+few_blocks p kept each few k = search (arith, count_few, slot_blocks-few)
 
 -- a wait that isn't satisfied now became pending
 module _ (p : PartsState) (t : ℕ) (mode : Mode) (ids : List Id) (d : Option ℕ) where
@@ -162,8 +158,7 @@ module _ (p : PartsState) (t : ℕ) (mode : Mode) (ids : List Id) (d : Option �
   pub whole_waiting : StoreInvariant waiting → ObjectsInvariant (with_blocks_of p.objects ids)
       → whole_of waiting ≡ record (whole_of p) { state = settled (with_wait (state_of p) t mode ids d) }
   whole_waiting after tied =
-      let same : state_of waiting ≡ with_wait (state_of p) t mode ids d =
-      search (arith, came_stays) in
+      let same : state_of waiting ≡ with_wait (state_of p) t mode ids d = search (arith, came_stays) in
       let is = sym (settled_kept waiting after tied) ∙ ap settled same in
       search (arith, came_stays)
 
@@ -191,12 +186,11 @@ module _ (p : PartsState) (t : ℕ) (mode : Mode) (ids : List Id) (d : Option �
 
     pub kept_waiting : HasRoom p.limits.max_recursion t p.objects.seen.bodies ids → IsLive p.processes.threads t
         → list_ready mode t p.objects.seen.bodies ids ≡ false → StoreInvariant waiting
-    kept_waiting room live unready = subst (λ (z : ObjectsState). StoreInvariant (record p { objects = z; waits = more }))
-        (sym came) (record {
-          sound = search (arith, of_live_waiting, counted_after, named_after, room_added);
-          populated = kept.populated;
-          settled = settled_added p.objects.seen.bodies p.waits.waits t mode ids d unready kept.settled;
-        })
+    kept_waiting room live unready = rw came (record {
+      sound = search (arith, of_live_waiting, counted_after, named_after, room_added);
+      populated = kept.populated;
+      settled = settled_added p.objects.seen.bodies p.waits.waits t mode ids d unready kept.settled;
+    })
 
 answered_thread : (w : Option Wait) (code u : ℕ) → thread_of (answered w code) ≡ Some u → thread_of w ≡ Some u
 answered_thread None code u h = h
@@ -214,11 +208,8 @@ module _ (p : PartsState) (q : ObjectsState) (n code : ℕ) (ids : List Id)
   abbrev after : List (Option Wait)
   after = (waits.with_answer p.waits n code).waits
 
-  abbrev limit : ℕ
-  limit = p.limits.max_recursion
-
   fewer : AreLeft p.objects.seen.bodies q.seen.bodies
-  fewer = subst (λ (x : CountedBodies). AreLeft p.objects.seen.bodies x.bodies) (sym seen) (left_blocks ids p.objects.seen)
+  fewer = rw seen (left_blocks ids p.objects.seen)
 
   counted_left : IsCounted q.seen (length p.objects.objects) p.tables.tables (waits.with_answer p.waits n code).waits
   counted_left = record {
@@ -227,15 +218,13 @@ module _ (p : PartsState) (q : ObjectsState) (n code : ℕ) (ids : List Id)
     blocks = recounted p.objects.seen.blocks q.seen.blocks (length p.objects.objects) (λ k. slot_blocks k p.waits.waits)
         (λ k. slot_blocks k after) kept.sound.counted.blocks
         (ap (λ (x : CountedBodies). length x.blocks) seen ∙ (sizes_left ids p.objects.seen).blocks)
-        (λ k lt.
-        let at = blocks_at p.objects.seen (length p.objects.objects) p.tables.tables p.waits.waits kept.sound.counted k
-        lt in
-        let x : get_or q.seen.blocks k 0 ≡ get_or (without_blocks p.objects.seen ids).blocks k 0 =
-        ap (λ (z : CountedBodies). get_or z.blocks k 0) seen in
-        let y = left_all ids p.objects.seen k in
-        let z = slot_answered k p.waits.waits n code in
-        let e : slot_places k ids ≡ slot_places k (ids_of (get_or p.waits.waits n None)) = ap (slot_places k) are in
-        omega arith);
+        (λ k lt. rw seen (omega (
+          arith,
+          blocks_at p.objects.seen (length p.objects.objects) p.tables.tables p.waits.waits kept.sound.counted k lt,
+          left_all ids p.objects.seen k,
+          slot_answered k p.waits.waits n code,
+          ap (slot_places k) are,
+        )));
   }
 
   pub way_expired : ObjectsInvariant q → IsUnderWay p.objects.keeper expired (with_answer (state_of p) n code)
@@ -275,8 +264,7 @@ kept_over p n code kept is =
                 let at = blocks_at p.objects.seen (length p.objects.objects) p.tables.tables p.waits.waits
                 kept.sound.counted k lt in
                 let x = slot_removed k p.waits.waits n in
-                let none : slot_places k (ids_of (get_or p.waits.waits n None)) ≡ 0 =
-                search arith in
+                let none : slot_places k (ids_of (get_or p.waits.waits n None)) ≡ 0 = search arith in
                 omega arith);
           })
           (named_fewer p.objects.objects p.tables.tables p.tables.tables p.waits.waits gone.waits (λ id. omega arith)

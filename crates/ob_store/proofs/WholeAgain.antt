@@ -1,6 +1,5 @@
 -- Births that are distinct are ordered, and objects that have bodies just where something refers to them pass.
-use Rattle.std.proofs.Common.{◌≡◌, ◌≢◌, ℕ, suc, ◌<◌, ◌&&◌, ltb, true, List, [], ◌∷◌, get_or, Option, Some, None, Ok, refl, arith}
-use Rattle.std.specs.Prelude.{is_none}
+use Rattle.std.proofs.Common.{◌≡◌, ℕ, ◌≢◌, suc, ◌<◌, ◌&&◌, true, List, [], ◌∷◌, get_or, Option, Some, None, Ok, refl, arith}
 use Rattle.std.specs.BTreeMap.{insert_entry}
 use Rattle.std.specs.Ordering.{nat_cmp}
 use Rattle.ob_waits.specs.CountedBodies as waits
@@ -14,8 +13,7 @@ use Rattle.ob_store.proofs.SavedBirthLaws.{taken, taken_inserted}
 
 -- a birth that isn't there stays so as another comes
 still_free : (es : Births) (b slot c : ℕ) → c ≢ b → taken es c ≡ None → taken (insert_entry nat_cmp es b slot) c ≡ None
-still_free es b slot c apart none =
-    search (arith, taken_inserted)
+still_free es b slot c apart none = search (arith, taken_inserted)
 
 Fresh : ℕ → Births → List (Option Object) → Type 0
 Fresh births so_far objects = (k : ℕ) (o : Object) → get_or objects k None ≡ Some o → (o.birth < births) ×
@@ -43,8 +41,7 @@ from-again births so_far slot (Some x ∷ objects) fresh apart =
           omega arith)) f.1,
     )))
     (λ j k o p is it same. (let e = apart (suc j) (suc k) o p is it same in omega arith)) in
-    let may : (ltb x.birth births && is_none (taken so_far x.birth)) ≡ true =
-    search arith in search arith
+    search arith
 
 pub births_again : (objects : List (Option Object)) (births : ℕ) → AreBorn objects births →
     (order : Births) × (births_from births [] 0 objects ≡ Ok order)

@@ -1,7 +1,6 @@
 -- What calls do to bodies takes nothing for a thread.
 use Rattle.std.proofs.Common.{◌≡◌, ℕ, arith, true}
 use Rattle.ob_body.specs.declared.body.Body.{Body}
-use Rattle.ob_body.specs.declared.body.Body.TheVariants.{Event, Timer}
 use Rattle.ob_body.specs.Body.{is_signaled, after_set, after_reset, after_post, after_unlock, after_arm, after_disarm}
 use Rattle.ob_store.specs.Kept.{Yields}
 
@@ -13,8 +12,7 @@ reset_yields clock b = search arith
 
 -- nothing is signaled by a reset
 pub reset_less : (b : Body) (t : ℕ) → is_signaled t (after_reset b) ≡ true → is_signaled t b ≡ true
-reset_less (Event e) t h = absurd (cc)
-reset_less b t h = h
+reset_less = search arith
 
 pub post_yields : (clock count : ℕ) (b : Body) → Yields clock b (after_post count b)
 post_yields clock count b = search arith
@@ -26,15 +24,12 @@ yields_same : (clock : ℕ) (b : Body) → Yields clock b b
 yields_same clock b = search arith
 
 pub arm_yields : (clock due : ℕ) (b : Body) → Yields clock b (after_arm due clock b)
-arm_yields clock due (Timer t) = search arith
-arm_yields clock due b = yields_same clock b
+arm_yields = search (arith, yields_same)
 
 -- or cancelled
 pub disarm_yields : (clock : ℕ) (b : Body) → Yields clock b (after_disarm b)
-disarm_yields clock (Timer t) = search arith
-disarm_yields clock b = yields_same clock b
+disarm_yields = search (arith, yields_same)
 
 -- nothing is signaled by it
 pub disarm_less : (b : Body) (t : ℕ) → is_signaled t (after_disarm b) ≡ true → is_signaled t b ≡ true
-disarm_less (Event e) t h = h
-disarm_less b t h = h
+disarm_less = search arith

@@ -1,4 +1,4 @@
-use Rattle.std.proofs.Common.{◌≡◌, ◌∙◌, ℕ, None, ap, sym, arith, false, get_or, length, inl, inr}
+use Rattle.std.proofs.Common.{◌≡◌, ℕ, ◌∙◌, None, ap, sym, arith, false, get_or, length, inl, inr}
 use Rattle.std.proofs.lemmas.Bool.{cases_eq, cases_lt}
 use Rattle.std.proofs.lemmas.List.{get_or_past, length-map}
 use Rattle.ob_body.specs.Mutex.{is_owner}
@@ -16,7 +16,7 @@ loop-slot-preserved g c = record {
   rest = c.abandon_at.ensures.rest ∙ c.loop-slot.invariant.rest;
   enough = λ waits enough. c.abandon_at.ensures.enough waits (c.loop-slot.invariant.enough waits enough);
   none = λ k lt. elim (cases_eq k c.loop-slot.slot) [
-    | inl same ↦ ap (λ i. owns_at c.args.thread c.abandon_at.new.objects.seen.bodies i) same ∙ c.abandon_at.ensures.gone
+    | inl same ↦ rw same c.abandon_at.ensures.gone
     | inr other ↦ c.abandon_at.ensures.others k (c.loop-slot.invariant.none k (omega (arith, lt, other)))
   ];
 }
@@ -32,16 +32,18 @@ returns-clause-seen g c =
     let t = c.args.thread in
     let bodies = c.loop-slot.objects.seen.bodies in
     let f = slot_left_by t in
-    let same = ap (λ (o : CountedBodies). length o.bodies) (c.loop-slot.invariant.seen ∙ sym c.abandon_listed.ensures.seen) in
-    let long = length-map bodies f in
-    let before = length-map c.abandon_listed.new.objects.seen.bodies f in
-    let slots = c.kept.ensures.agreed.bodied in
-    let end = c.slots-slot-end.ensures in
-    let over = c.loop-slot-test.false in
     let none : (k : ℕ) → owns_at t bodies k ≡ false = (λ k. elim (cases_lt k c.loop-slot.slot) [
       | inl lt ↦ c.loop-slot.invariant.none k lt
-      | inr past ↦ ap (λ x. is_owner t (slot_owner x))
-          (get_or_past bodies k None (omega (arith, same, long, before, slots, end, over, past)))
+      | inr past ↦ ap (λ x. is_owner t (slot_owner x)) (get_or_past bodies k None (omega (
+        arith,
+        ap (λ (o : CountedBodies). length o.bodies) (c.loop-slot.invariant.seen ∙ sym c.abandon_listed.ensures.seen),
+        length-map bodies f,
+        length-map c.abandon_listed.new.objects.seen.bodies f,
+        c.kept.ensures.agreed.bodied,
+        c.slots-slot-end.ensures,
+        c.loop-slot-test.false,
+        past,
+      )))
     ]) in
     all_done f c.args.objects.now.seen c.loop-slot.objects.seen
     (λ k. left_by_other t (get_or bodies k None) (none k)) c.loop-slot.invariant.seen

@@ -1,8 +1,6 @@
-use Rattle.std.proofs.Common.{◌≡◌, ◌∙◌, None, ap, sym, subst, get_or, set}
+use Rattle.std.proofs.Common.{◌∙◌, None, ap, sym, get_or, set}
 use Rattle.std.proofs.lemmas.List.{set-get_or}
-use Rattle.ob_waits.specs.CountedBodies.{CountedBodies}
 use Rattle.ob_store.specs.Ends.{slot_left_by}
-use Rattle.ob_store.specs.Signaled.{IsEnough}
 use Rattle.ob_store.proofs.EnoughLaws.{enough_added}
 use Rattle.ob_store.proofs.OneByOne.{one_before}
 use Rattle.ob_store.proofs.OwnerLaws.{left_by_other, left_twice}
@@ -24,6 +22,4 @@ returns-else-abandon_at-clause-enough g c = λ waits enough.
     let seen = c.args.objects.now.seen in
     let bodies = ap (set seen.bodies c.args.slot) (left_by_other c.args.thread (get_or seen.bodies c.args.slot None)
     (sym c.abandon_at.ensures.owned ∙ c.if-abandon_at.false)) ∙ set-get_or seen.bodies c.args.slot None in
-    let same : c.abandon_at.new.self.seen ≡ seen = c.abandon_at.ensures.seen ∙ (λ i. record seen { bodies = bodies i })
-    in
-    subst (λ (o : CountedBodies). IsEnough c.args.signaled.now o.bodies waits) (sym same) enough
+    rw (c.abandon_at.ensures.seen, bodies) enough

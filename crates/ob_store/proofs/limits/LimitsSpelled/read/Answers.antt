@@ -1,4 +1,4 @@
-use Rattle.std.proofs.Common.{ap, Option}
+use Rattle.std.proofs.Common.{ap, refl, Option}
 use Rattle.ob_codec.specs.Reading.{given_at}
 use Rattle.ob_store.specs.declared.limits.Limits.{Limits}
 use Rattle.ob_store.specs.SavedLimitLaws.{limits_are, limits_none}
@@ -16,30 +16,15 @@ returns-in-Ok c =
       c.in_ok-max_pins.ensures,
       c.in_ok-max_gen.ensures,
       c.in_ok-max_recursion.ensures,
-    )
-    (ap (λ (o : Option Limits). given_at o c.four-8.new.self) (limits_are c.in-Ok.limits _
-    (λ i. (
-      e.slots i,
-      (
-        e.processes i,
-        (
-          e.threads i,
-          (
-            e.handles i,
-            (
-              e.waits i,
-              (
-                e.max_pins i,
-                (
-                  e.max_gen i,
-                  e.max_recursion i,
-                ),
-              ),
-            ),
-          ),
-        ),
-      ),
-    ))))
+      ← e.slots,
+      ← e.processes,
+      ← e.threads,
+      ← e.handles,
+      ← e.waits,
+      ← e.max_pins,
+      ← e.max_gen,
+      ← e.max_recursion,
+    ) (ap (λ (o : Option Limits). given_at o c.four-8.new.self) (limits_are c.in-Ok.limits _ refl))
 
 pub returns-in-Err : goal.returns-in-Err
 returns-in-Err c =

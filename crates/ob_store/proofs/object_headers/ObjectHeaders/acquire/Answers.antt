@@ -1,7 +1,6 @@
-use Rattle.std.proofs.Common.{refl, is_some, ◌∙◌, ap, set, Some}
-use Rattle.ob_waits.specs.Waits.{with_acquired}
+use Rattle.std.proofs.Common.{refl, is_some, ◌∙◌, ap}
 use Rattle.ob_store.specs.declared.object_header.ObjectHeader.{ObjectHeader}
-use Rattle.ob_store.specs.Objects.{tags_in, Places, rest_of, seen_in}
+use Rattle.ob_store.specs.Objects.{tags_in}
 use Rattle.ob_store.specs.Timers.{header_due}
 use Rattle.ob_store.proofs.HeaderLaws.{rest_same, seen_acquired, mapped_stays}
 use Rattle.ob_store.proofs.OwnerLaws.{owned_few}
@@ -12,17 +11,14 @@ use Rattle.ob_store.proofs.NotedLaws.{noted_moved}
 use Rattle.ob_store.proofs.object_headers.ObjectHeaders.acquire.Goals as goal
 
 pub returns-clause-objects : goal.returns-clause-objects
-returns-clause-objects c =
-    ap (λ (x : ObjectHeader). seen_in (set c.self.inside.arena.bodies c.args.id.slot (Some x))) c.acquire-acquired.ensures.value
-    ∙ seen_acquired c.self.inside.arena.bodies c.args.id.slot c.get_mut.result.now c.get_mut.ensures.value c.args.thread
-    ∙ ap (λ (p : Places). record p.seen { bodies = with_acquired c.args.thread p.seen.bodies c.args.id }) c.self.view_is
+returns-clause-objects c = rw (← c.self.view_is, c.acquire-acquired.ensures.value)
+    (seen_acquired c.self.inside.arena.bodies c.args.id.slot c.get_mut.result.now c.get_mut.ensures.value c.args.thread)
 
 pub returns-clause-rest : goal.returns-clause-rest
-returns-clause-rest c =
-    rest_same c.self.inside.arena.bodies c.args.id.slot c.get_mut.result.now c.get_mut.ensures.value
+returns-clause-rest c = rw (← c.self.view_is)
+    (rest_same c.self.inside.arena.bodies c.args.id.slot c.get_mut.result.now c.get_mut.ensures.value
     c.self.inside.arena.retired (tags_in c.self.inside.labels.items c.self.inside.names.items)
-    c.acquire-acquired.new.self _ c.acquire-acquired.ensures.value (λ l. refl) refl
-    ∙ ap rest_of c.self.view_is
+    c.acquire-acquired.new.self _ c.acquire-acquired.ensures.value (λ l. refl) refl)
 
 pub moved-requires : goal.moved-requires
 moved-requires c = owned_few c.self.inside.arena.bodies c.self.inside.owners c.self.invariant.owned

@@ -1,8 +1,5 @@
-use Rattle.std.proofs.Common.{◌∙◌, ap, refl, sym, subst, get_or, length, map, ◌<◌, arith}
-use Rattle.ob_arena.specs.Slots.{Slots, is_vacant_at}
-use Rattle.ob_store.specs.declared.object_header.ObjectHeader.{ObjectHeader}
-use Rattle.ob_store.specs.Objects.{Tag, tags_in, Object, Places, places_of, header_handles, vacancy, with_header_of}
-use Rattle.ob_store.specs.Timers.{AreNoted}
+use Rattle.std.proofs.Common.{◌∙◌, refl, sym, length, ◌<◌, arith}
+use Rattle.ob_store.specs.Objects.{Tag, tags_in, places_of}
 use Rattle.ob_store.proofs.LabelLaws.{tags_length}
 use Rattle.ob_store.proofs.HeaderLaws.{places_added, added_handle, vacant_same}
 use Rattle.ob_store.proofs.OwnerLaws.{owned_few, vacant_header}
@@ -14,80 +11,60 @@ use Rattle.ob_store.proofs.object_headers.ObjectHeaders.add.Goals as goal
 pub put-requires : goal.put-requires
 put-requires c = sym (vacant_same c.self.inside.arena
     (tags_in c.self.inside.labels.items c.self.inside.names.items) c.args.id.slot)
-    ∙ ap (λ (p : Places). is_vacant_at (vacancy p) c.args.id.slot) c.self.view_is ∙ c.requires
+    ∙ (rw (← c.self.view_is) at c.requires)
 
 pub came-requires : goal.came-requires
 came-requires c = owned_few c.self.inside.arena.bodies c.self.inside.owners c.self.invariant.owned
 
 pub relabel-requires-clause-labelled : goal.relabel-requires-clause-labelled
-relabel-requires-clause-labelled c = omega (
-  arith,
-  (vacant_header c.self.inside.arena
-      (tags_in c.self.inside.labels.items c.self.inside.names.items) _ c.args.id.slot c.self.view_is c.requires).0,
-  c.self.invariant.labelled,
-)
+relabel-requires-clause-labelled c =
+    omega (arith, (vacant_header _ _ _ c.args.id.slot c.self.view_is c.requires).0, c.self.invariant.labelled)
 
 pub relabel-requires-clause-named : goal.relabel-requires-clause-named
-relabel-requires-clause-named c = omega (
-  arith,
-  (vacant_header c.self.inside.arena
-      (tags_in c.self.inside.labels.items c.self.inside.names.items) _ c.args.id.slot c.self.view_is c.requires).0,
-  c.self.invariant.named,
-)
+relabel-requires-clause-named c =
+    omega (arith, (vacant_header _ _ _ c.args.id.slot c.self.view_is c.requires).0, c.self.invariant.named)
 
 pub moved-requires-clause-within : goal.moved-requires-clause-within
 moved-requires-clause-within c = timed_within c.self.inside.arena.bodies c.self.inside.timers c.args.id.slot
-    c.self.invariant.timed (vacant_header c.self.inside.arena
-    (tags_in c.self.inside.labels.items c.self.inside.names.items) _ c.args.id.slot c.self.view_is c.requires).0
+    c.self.invariant.timed (vacant_header _ _ _ c.args.id.slot c.self.view_is c.requires).0
 
 pub moved-requires-clause-before : goal.moved-requires-clause-before
 moved-requires-clause-before c = timed_vacant c.self.inside.arena.bodies c.self.inside.timers c.args.id.slot
-    c.self.invariant.timed (vacant_header c.self.inside.arena
-    (tags_in c.self.inside.labels.items c.self.inside.names.items) _ c.args.id.slot c.self.view_is c.requires).1
+    c.self.invariant.timed (vacant_header _ _ _ c.args.id.slot c.self.view_is c.requires).1
 
 pub close-requires : goal.close-requires
 close-requires c = λ ended.
-    let vacant = (vacant_header c.self.inside.arena
-    (tags_in c.self.inside.labels.items c.self.inside.names.items) _ c.args.id.slot c.self.view_is c.requires) in
-    vacant_open c.self.inside.arena.bodies c.self.inside.closing c.args.id.slot
-    c.self.invariant.opened vacant.0 vacant.1
+    let vacant = vacant_header _ _ _ c.args.id.slot c.self.view_is c.requires in
+    vacant_open _ c.self.inside.closing c.args.id.slot c.self.invariant.opened vacant.0 vacant.1
 
 pub returns-clause-value : goal.returns-clause-value
 returns-clause-value c =
     let i = c.self.inside in
     let tags = tags_in i.labels.items i.names.items in
     let tag : Tag = record { birth = c.args.birth; descr = c.args.descr; name = c.args.name } in
-    let object : Object = record {
-      id = c.args.id;
-      birth = c.args.birth;
-      descr = c.args.descr;
-      grant = c.args.grant;
-      name = c.args.name;
-    } in
     let within : c.args.id.slot < length tags =
     omega (
       arith,
-      (vacant_header c.self.inside.arena
-          (tags_in c.self.inside.labels.items c.self.inside.names.items) _ c.args.id.slot c.self.view_is c.requires).0,
+      (vacant_header _ _ _ c.args.id.slot c.self.view_is c.requires).0,
       c.self.invariant.labelled,
       tags_length i.labels.items i.names.items,
     ) in
-    (λ j. places_of (c.put.ensures j) (c.relabel.ensures.value j))
-    ∙ places_added i.arena tags c.args.id.slot _ tag c.args.body c.args.handles within refl refl refl
-    ∙ ap (λ (p : Places). with_header_of p c.args.id.slot object c.args.body c.args.handles) c.self.view_is
+    rw (← c.self.view_is) ((λ j. places_of (c.put.ensures j) (c.relabel.ensures.value j))
+    ∙ places_added i.arena tags c.args.id.slot _ tag c.args.body c.args.handles within refl refl refl)
 
 pub returns-clause-handles : goal.returns-clause-handles
-returns-clause-handles c =
-    ap (λ (s : Slots ObjectHeader). get_or (map header_handles s.bodies) c.args.id.slot 0) c.put.ensures
-    ∙ added_handle c.self.inside.arena.bodies c.args.id.slot _ (vacant_header c.self.inside.arena
-    (tags_in c.self.inside.labels.items c.self.inside.names.items) _ c.args.id.slot c.self.view_is c.requires).0
+returns-clause-handles c = rw c.put.ensures (added_handle c.self.inside.arena.bodies c.args.id.slot _
+    (vacant_header _ _ _ c.args.id.slot c.self.view_is c.requires).0)
 
 pub invariant_of-self : goal.invariant_of-self
 invariant_of-self c =
-    let vacant = (vacant_header c.self.inside.arena
-    (tags_in c.self.inside.labels.items c.self.inside.names.items) _ c.args.id.slot c.self.view_is c.requires) in
-    subst (λ (s : Slots ObjectHeader). AreNoted s.bodies c.came.new.self c.moved.new.self c.close.new.closing
-    c.relabel.new.labels.items c.relabel.new.names.items) (sym c.put.ensures)
-    (rw c.came.ensures (rw c.owner_of.ensures (rw c.moved.ensures (rw c.due_of.ensures (rw c.close.ensures
-    (noted_came _ _ _ _ _ _ c.self.invariant c.args.id.slot _ c.is_none.result _ _ vacant.0 vacant.1
-    c.is_none.ensures c.relabel.ensures.labels c.relabel.ensures.names))))))
+    let vacant = vacant_header _ _ _ c.args.id.slot c.self.view_is c.requires in
+    rw (
+      c.put.ensures,
+      c.came.ensures,
+      c.owner_of.ensures,
+      c.moved.ensures,
+      c.due_of.ensures,
+      c.close.ensures,
+    ) (noted_came _ _ _ _ _ _ c.self.invariant c.args.id.slot _ c.is_none.result _ _ vacant.0 vacant.1
+    c.is_none.ensures c.relabel.ensures.labels c.relabel.ensures.names)

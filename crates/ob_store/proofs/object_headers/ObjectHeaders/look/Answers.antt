@@ -1,7 +1,6 @@
-use Rattle.std.proofs.Common.{Option, ◌∙◌, ap, sym, get_or, None, arith}
+use Rattle.std.proofs.Common.{◌∙◌, sym, get_or, None, arith, refl}
 use Rattle.ob_tables.proofs.Counting.{some_within}
-use Rattle.ob_store.specs.declared.object_header.ObjectHeader.{ObjectHeader}
-use Rattle.ob_store.specs.Objects.{tag_of, tags_in, Places, no_tag, object_at}
+use Rattle.ob_store.specs.Objects.{tag_of, tags_in}
 use Rattle.ob_store.proofs.LabelLaws.{object_here, object_read, tag_read, tags_length}
 use Rattle.ob_tables.proofs.Inheriting.{none_of}
 use Rattle.ob_store.proofs.object_headers.ObjectHeaders.look.Goals as goal
@@ -9,11 +8,9 @@ use Rattle.ob_store.proofs.object_headers.ObjectHeaders.look.Goals as goal
 pub returns-then-not-is_occupied-clause-object : goal.returns-then-not-is_occupied-clause-object
 returns-then-not-is_occupied-clause-object c =
     let arena = c.self.inside.arena.bodies in
-    let tags = (tags_in c.self.inside.labels.items c.self.inside.names.items) in
-    sym (ap (λ (p : Places). get_or p.objects c.args.slot None) c.self.view_is)
-    ∙ object_read arena tags c.args.slot
-    ∙ ap (λ (x : Option ObjectHeader). object_at x (get_or tags c.args.slot no_tag))
-    (none_of (get_or arena c.args.slot None) (sym c.is_occupied.ensures ∙ c.if-not-is_occupied.true))
+    let tags = tags_in c.self.inside.labels.items c.self.inside.names.items in
+    rw (← c.self.view_is, object_read arena tags c.args.slot,
+    none_of (get_or arena c.args.slot None) (sym c.is_occupied.ensures ∙ c.if-not-is_occupied.true)) refl
 
 pub returns-clause-object : goal.returns-clause-object
 returns-clause-object c =
@@ -23,7 +20,6 @@ returns-clause-object c =
     let tag = tag_read labels names c.args.slot c.index.result.now c.index-2.result.now c.index.ensures
     c.index-2.ensures (omega (arith, within, c.self.invariant.labelled))
     (omega (arith, within, c.self.invariant.named)) in
-    sym (ap (λ (p : Places). get_or p.objects c.args.slot None) c.self.view_is)
-    ∙ object_here c.self.inside.arena.bodies (tags_in labels names) c.args.slot c.get.result.now
+    rw (← c.self.view_is) (object_here c.self.inside.arena.bodies (tags_in labels names) c.args.slot c.get.result.now
     (tag_of c.index.result.now c.index-2.result.now) c.get.ensures tag
-    (omega (arith, within, c.self.invariant.labelled, tags_length labels names))
+    (omega (arith, within, c.self.invariant.labelled, tags_length labels names)))

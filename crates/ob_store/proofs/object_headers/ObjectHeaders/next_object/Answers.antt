@@ -1,4 +1,4 @@
-use Rattle.std.proofs.Common.{get_or, ℕ, None, is_some}
+use Rattle.std.proofs.Common.{ℕ, get_or, None, is_some}
 use Rattle.least.proofs.NextLemmas.{same_test}
 use Rattle.ob_store.specs.Objects.{tags_in}
 use Rattle.ob_store.proofs.WalkingLaws.{object_there}

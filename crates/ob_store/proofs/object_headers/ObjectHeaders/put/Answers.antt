@@ -1,8 +1,7 @@
-use Rattle.std.specs.Prelude.{IsSome}
-use Rattle.std.proofs.Common.{refl, is_some, get_or, subst, None, ◌∙◌, ap, sym, set, Some}
+use Rattle.std.proofs.Common.{refl, is_some, ◌∙◌, ap, sym, Some}
 use Rattle.ob_waits.specs.Form.{slot_due, slot_owner}
 use Rattle.ob_store.specs.declared.object_header.ObjectHeader.{ObjectHeader}
-use Rattle.ob_store.specs.Objects.{tags_in, Places, rest_of, seen_in}
+use Rattle.ob_store.specs.Objects.{tags_in}
 use Rattle.ob_store.specs.Timers.{header_due}
 use Rattle.ob_store.proofs.HeaderLaws.{seen_put, rest_same, mapped_set}
 use Rattle.ob_store.proofs.OwnerLaws.{owned_few}
@@ -11,27 +10,21 @@ use Rattle.ob_store.proofs.NotedLaws.{noted_moved}
 use Rattle.ob_store.proofs.object_headers.ObjectHeaders.put.Goals as goal
 
 pub returns-clause-objects : goal.returns-clause-objects
-returns-clause-objects c =
-    ap (λ (x : ObjectHeader). seen_in (set c.self.inside.arena.bodies c.args.slot (Some x))) c.put-was.ensures.value
-    ∙ seen_put c.self.inside.arena.bodies c.args.slot c.get_mut.result.now c.get_mut.ensures.value c.args.body
-    ∙ ap (λ (p : Places). record p.seen {
-      bodies =
-          set p.seen.bodies c.args.slot (Some c.args.body);
-    }) c.self.view_is
+returns-clause-objects c = rw (← c.self.view_is, c.put-was.ensures.value)
+    (seen_put c.self.inside.arena.bodies c.args.slot c.get_mut.result.now c.get_mut.ensures.value c.args.body)
 
 pub returns-clause-rest : goal.returns-clause-rest
-returns-clause-rest c =
-    rest_same c.self.inside.arena.bodies c.args.slot c.get_mut.result.now c.get_mut.ensures.value
+returns-clause-rest c = rw (← c.self.view_is)
+    (rest_same c.self.inside.arena.bodies c.args.slot c.get_mut.result.now c.get_mut.ensures.value
     c.self.inside.arena.retired (tags_in c.self.inside.labels.items c.self.inside.names.items)
-    c.put-was.new.self _ c.put-was.ensures.value (λ l. refl) refl
-    ∙ ap rest_of c.self.view_is
+    c.put-was.new.self _ c.put-was.ensures.value (λ l. refl) refl)
 
 pub moved-requires : goal.moved-requires
 moved-requires c = owned_few c.self.inside.arena.bodies c.self.inside.owners c.self.invariant.owned
 
 pub invariant_of-self : goal.invariant_of-self
 invariant_of-self c =
-    rw c.moved.ensures (rw c.moved-2.ensures (noted_moved _ _ _ _ _ _ c.self.invariant c.args.slot c.get_mut.result.now
+    rw (c.moved.ensures, c.moved-2.ensures) (noted_moved _ _ _ _ _ _ c.self.invariant c.args.slot c.get_mut.result.now
     c.put-was.new.self c.get_mut.ensures.value c.put-was.result.owner c.owner-owner.result _ c.put-was.ensures.owner
     (c.owner-owner.ensures.owner ∙ ap (λ (x : ObjectHeader). slot_owner x.body) (sym c.put-was.ensures.value))
     (mapped_set header_due c.self.inside.arena.bodies c.self.inside.timers c.args.slot (Some c.put-was.new.self)
@@ -39,4 +32,4 @@ invariant_of-self c =
     (c.due-due.ensures ∙ ap (λ (x : ObjectHeader). slot_due x.body) (sym c.put-was.ensures.value)))
     (ap (λ (x : ObjectHeader). is_some x.body) c.put-was.ensures.value
     ∙ sym (bodied c.self.inside.arena.bodies c.args.slot c.get_mut.result.now c.get_mut.ensures.value
-    (subst (λ (p : Places). IsSome (get_or p.seen.bodies c.args.slot None)) (sym c.self.view_is) c.requires)))))
+    (rw (← c.self.view_is) at c.requires))))

@@ -1,11 +1,10 @@
-use Rattle.std.proofs.Common.{◌≡◌, ◌∙◌, ◌++◌, List, ℕ, ap, map, subst, sym, arith, inl, inr}
-use Rattle.std.specs.List.{flat_map, range_with_len}
+use Rattle.std.proofs.Common.{◌≡◌, ℕ, ◌∙◌, ◌++◌, map, arith, inl, inr}
+use Rattle.std.specs.List.{range_with_len}
 use Rattle.std.proofs.lemmas.Bool.{cases_lt}
 use Rattle.std.proofs.lemmas.List.{flat_map_more}
 use Rattle.std.proofs.lemmas.List.FromFn.{map-range_with_len_more}
-use Rattle.ob_store.specs.declared.saved_slot.SavedSlot.{SavedSlot}
 use Rattle.ob_store.specs.SavedObjects.{slot_saved}
-use Rattle.ob_store.specs.SavedSlots.{AnySlotFits, slot_text}
+use Rattle.ob_store.specs.SavedSlots.{slot_text}
 use Rattle.ob_store.proofs.FittingLaws.{all_fit}
 use Rattle.ob_store.proofs.objects.Objects.write.Goals as goal
 
@@ -14,16 +13,14 @@ loop-slot-preserved g c =
     let s = c.args.self.now in
     let k = c.loop-slot.slot in
     record {
-      text =
-          c.in_ok-write_slot.ensures.text
-          ∙ ap (λ (t : List ℕ). t ++ slot_text (slot_saved s k)) c.loop-slot.invariant.text
-          ∙ flat_map_more slot_text c.args.out.now.items (map (slot_saved s) (range_with_len 0 k)) (slot_saved s k)
-          ∙ ap (λ (xs : List SavedSlot). c.args.out.now.items ++ flat_map slot_text xs)
-          (sym (map-range_with_len_more (slot_saved s) 0 k k (omega arith)));
+      text = rw (
+        c.in_ok-write_slot.ensures.text,
+        c.loop-slot.invariant.text,
+        map-range_with_len_more (slot_saved s) 0 k k (omega arith),
+      ) (flat_map_more slot_text c.args.out.now.items (map (slot_saved s) (range_with_len 0 k)) (slot_saved s k));
       fits = λ j lt. elim (cases_lt j k) [
         | inl below ↦ c.loop-slot.invariant.fits j below
-        | inr above ↦ (let e : k ≡ j = omega (arith, lt, above) in
-            subst (λ (i : ℕ). AnySlotFits (slot_saved s i)) e c.in_ok-write_slot.ensures.fits)
+        | inr above ↦ (let e : k ≡ j = omega (arith, lt, above) in rw (← e) c.in_ok-write_slot.ensures.fits)
       ];
     }
 

@@ -1,4 +1,4 @@
-use Rattle.std.proofs.Common.{◌≡◌, ◌++◌, ℕ, ◌<◌, map}
+use Rattle.std.proofs.Common.{◌≡◌, ℕ, ◌++◌, ◌<◌, map}
 use Rattle.std.specs.List.{flat_map, range_with_len}
 use Rattle.ob_store.specs.SavedObjects.{slot_saved}
 use Rattle.ob_store.specs.SavedSlots.{AnySlotFits, slot_text}

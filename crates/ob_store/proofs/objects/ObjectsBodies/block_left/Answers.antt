@@ -1,9 +1,7 @@
-use Rattle.std.proofs.Common.{◌≡◌, ◌∙◌, ap, sym, subst, true}
+use Rattle.std.proofs.Common.{◌≡◌, ◌∙◌, ap, sym, true}
 use Rattle.std.proofs.lemmas.Bool.{and_parts}
 use Rattle.std.specs.Prelude.{is_some}
-use Rattle.pin_words.specs.Keepers.{KeeperState}
 use Rattle.ob_store.specs.Objects.{ObjectsState, with_keeper, kept_rest, opened}
-use Rattle.ob_store.specs.Agreement.{ObjectsInvariant}
 use Rattle.ob_store.proofs.AgreeLaws.{body_at, opened_closed, live_at, body_within}
 use Rattle.ob_store.proofs.TiedLaws.{tied_block_ended, tied_block_left}
 use Rattle.ob_store.proofs.objects.ObjectsBodies.block_left.Goals as goal
@@ -12,9 +10,8 @@ pub invariant_of-self : goal.invariant_of-self
 invariant_of-self g c =
     let s : ObjectsState = with_keeper c.self.inside.headers c.self.inside.births
     (g.K.PinKeeper.kept c.self.inside.keeper) in
-    subst (λ (k : KeeperState). ObjectsInvariant (with_keeper c.block_left.new.self s.births k)) (sym c.close_slot.ensures)
-    (tied_block_ended s c.block_left.new.self c.args.id c.block_left.ensures.objects c.block_left.ensures.rest
-    c.self.invariant (sym c.block_left.ensures.ended ∙ c.if-block_left.true))
+    rw c.close_slot.ensures (tied_block_ended s c.block_left.new.self c.args.id c.block_left.ensures.objects
+    c.block_left.ensures.rest c.self.invariant (sym c.block_left.ensures.ended ∙ c.if-block_left.true))
 
 pub invariant_of-self-else-block_left : goal.invariant_of-self-else-block_left
 invariant_of-self-else-block_left g c =
@@ -35,4 +32,4 @@ returns-then-block_left-clause-rest g c =
     (body_within s c.args.id.slot there c.self.invariant.agreed)) in
     let same : kept_rest (with_keeper c.block_left.new.self s.births (g.K.PinKeeper.kept c.close_slot.new.self))
     ≡ kept_rest s = (λ i. record { rest = c.block_left.ensures.rest i; births = s.births; keeper = keeper i }) in
-    same ∙ ap kept_rest c.self.view_is
+    rw (← c.self.view_is) same

@@ -1,6 +1,5 @@
-use Rattle.std.proofs.Common.{◌≡◌, ◌∙◌, ◌≤◌, suc, None, refl, ap, sym, arith, length, get_or, inl, inr}
+use Rattle.std.proofs.Common.{◌≡◌, ◌∙◌, ◌≤◌, suc, refl, ap, arith, length, inl, inr}
 use Rattle.std.proofs.lemmas.Bool.{cases_eq, cases_lt}
-use Rattle.ob_store.specs.Ends.{threads_ended}
 use Rattle.ob_store.specs.Parts.{parts_of}
 use Rattle.ob_store.specs.State.{State}
 use Rattle.ob_store.proofs.PassedLaws.{ending_passed, ending_unpassed}
@@ -9,9 +8,9 @@ use Rattle.ob_store.proofs.parts.Parts.end_all.Goals as goal
 pub loop-thread-init : goal.loop-thread-init
 loop-thread-init g c = record {
   carries = λ first s ending. ending_passed first (parts_of c.args.self.now) s c.args.process 0 c.first_of-thread.result
-      (omega arith) (λ t above below h. let a = c.first_of-thread.ensures t h in omega (arith, a, below)) ending;
+      (omega arith) (λ t above below h. omega (arith, c.first_of-thread.ensures t h, below)) ending;
   count = refl;
-  ended = λ t below h. (let a = c.first_of-thread.ensures t h in omega (arith, a, below));
+  ended = λ t below h. omega (arith, c.first_of-thread.ensures t h, below);
 }
 
 pub loop-thread-preserved : goal.loop-thread-preserved
@@ -22,17 +21,14 @@ loop-thread-preserved g c =
       carries = λ first s ending.
           ending_passed first (parts_of c.end_of.new.self) s c.args.process (suc i) c.next_of-thread.result
           (omega (arith, more))
-          (λ t above below h. let a = c.next_of-thread.ensures.none t h (omega (arith, above)) in
-          omega (arith, a, below))
-          (c.end_of.ensures.carries first (threads_ended s c.args.process i)
-          (c.loop-thread.invariant.carries first s ending));
+          (λ t above below h. omega (arith, c.next_of-thread.ensures.none t h (omega (arith, above)), below))
+          (c.end_of.ensures.carries first _ (c.loop-thread.invariant.carries first s ending));
       count = c.end_of.ensures.count ∙ c.loop-thread.invariant.count;
       ended = λ t lt is. elim (cases_eq t i) [
-        | inl same ↦ c.end_of.ensures.ended (ap (λ j. get_or c.end_of.new.self.processes.threads j None) (sym same)
-            ∙ is)
+        | inl same ↦ c.end_of.ensures.ended (rw same at is)
         | inr other ↦ elim (cases_lt t i) [
           | inl less ↦ c.loop-thread.invariant.ended t less (c.end_of.ensures.none_comes t c.args.process is)
-          | inr le ↦ (let a = c.next_of-thread.ensures.none t is (omega (arith, le, other)) in omega (arith, a, lt))
+          | inr le ↦ omega (arith, c.next_of-thread.ensures.none t is (omega (arith, le, other)), lt)
         ]
       ];
     }
@@ -41,7 +37,7 @@ pub returns-clause-carries : goal.returns-clause-carries
 returns-clause-carries g c = λ first s ending.
     let threads = c.args.self.now.processes.threads in
     let at_end : length threads ≤ c.loop-thread.thread =
-    (let past = c.loop-thread-test.false in let next = c.next_thread-end.ensures in omega (arith, past, next)) in
+    omega (arith, c.loop-thread-test.false, c.next_thread-end.ensures) in
     let same : length threads ≡ length s.threads = ap (λ (x : State). length x.threads) ending.under_way.rest in
     ending_unpassed first (parts_of c.loop-thread.self) s c.args.process (length threads) c.loop-thread.thread at_end
     (omega (arith, same)) (c.loop-thread.invariant.carries first s ending)

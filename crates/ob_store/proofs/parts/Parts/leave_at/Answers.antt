@@ -1,6 +1,4 @@
-use Rattle.std.proofs.Common.{rules, ◌≡◌, ◌+◌, List, Option, get_or, subst, Some, None}
-use Rattle.ob_tables.specs.declared.entry.Entry.{Entry}
-use Rattle.ob_store.specs.Kept.{IsSound}
+use Rattle.std.proofs.Common.{rules, ◌≡◌, ◌+◌, get_or, Some, None}
 use Rattle.ob_store.specs.Parts.{parts_of}
 use Rattle.ob_store.specs.UnderWay.{tables_left, with_left}
 use Rattle.ob_store.proofs.EmptiedLaws.{left_held, left_none, left_has_object, next_ending, next_sound, same_ending}
@@ -17,36 +15,32 @@ pub returns-in_default-clause-sound : goal.returns-in_default-clause-sound
 returns-in_default-clause-sound g c =
     let none : get_or c.args.places.now c.args.place None ≡ None = search rules in
     let p = parts_of c.args.self.now in
-    subst (λ (t : List (List (Option Entry))). IsSound (record p { tables = record p.tables { tables = t } }))
-    (left_none p.tables.tables c.args.process c.args.places.now c.args.place none) c.requires.sound
+    rw (left_none p.tables.tables c.args.process c.args.places.now c.args.place none) at c.requires.sound
 
 pub handle_left-was_last-requires : goal.handle_left-was_last-requires
 handle_left-was_last-requires g c =
     let here : get_or c.args.places.now c.args.place None ≡ Some c.in-Some.entry = search rules in
     record {
-      handled = left_held (parts_of c.args.self.now) c.args.process c.args.places.now c.args.place
-          c.in-Some.entry c.requires.sound c.kept.ensures c.requires.table here;
+      handled = left_held (parts_of c.args.self.now) _ c.args.places.now c.args.place _ c.requires.sound
+          c.kept.ensures c.requires.table here;
     }
 
 pub leave_directory-requires : goal.leave_directory-requires
 leave_directory-requires g c =
     let here : get_or c.args.places.now c.args.place None ≡ Some c.in-Some.entry = search rules in
-    left_has_object (parts_of c.args.self.now) c.args.process c.args.places.now c.args.place c.in-Some.entry
-    c.requires.sound c.kept.ensures c.requires.table here c.handle_left-was_last.new.self
-    c.handle_left-was_last.ensures.value
+    left_has_object (parts_of c.args.self.now) _ c.args.places.now c.args.place _ c.requires.sound c.kept.ensures
+    c.requires.table here _ c.handle_left-was_last.ensures.value
 
 pub returns-clause-carries : goal.returns-clause-carries
 returns-clause-carries g c =
     let here : get_or c.args.places.now c.args.place None ≡ Some c.in-Some.entry = search rules in
-    next_ending (parts_of c.args.self.now) c.args.process c.args.places.now c.args.place c.in-Some.entry
-    c.requires.sound c.kept.ensures c.requires.table here
-    c.handle_left-was_last.result c.handle_left-was_last.new.self c.leave_directory.new.names.rows
-    c.handle_left-was_last.ensures.value c.handle_left-was_last.ensures.last c.leave_directory.ensures c.kept-2.ensures
+    next_ending (parts_of c.args.self.now) _ c.args.places.now c.args.place _ c.requires.sound c.kept.ensures
+    c.requires.table here _ _ _ c.handle_left-was_last.ensures.value c.handle_left-was_last.ensures.last
+    c.leave_directory.ensures c.kept-2.ensures
 
 pub returns-clause-sound : goal.returns-clause-sound
 returns-clause-sound g c =
     let here : get_or c.args.places.now c.args.place None ≡ Some c.in-Some.entry = search rules in
-    next_sound (parts_of c.args.self.now) c.args.process c.args.places.now c.args.place c.in-Some.entry c.requires.sound
-    c.kept.ensures c.requires.table here
-    c.handle_left-was_last.result c.handle_left-was_last.new.self c.leave_directory.new.names.rows
-    c.handle_left-was_last.ensures.value c.handle_left-was_last.ensures.last c.leave_directory.ensures
+    next_sound (parts_of c.args.self.now) _ c.args.places.now c.args.place _ c.requires.sound c.kept.ensures
+    c.requires.table here _ _ _ c.handle_left-was_last.ensures.value c.handle_left-was_last.ensures.last
+    c.leave_directory.ensures

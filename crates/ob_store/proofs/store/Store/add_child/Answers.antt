@@ -1,9 +1,5 @@
-use Rattle.std.proofs.Common.{◌≡◌, ◌∙◌, ap}
-use Rattle.ob_tables.specs.Inheritance.{inherited}
-use Rattle.ob_tables.specs.Tables.{table_of}
-use Rattle.ob_store.specs.Objects.{with_handles_of}
+use Rattle.std.proofs.Common.{◌∙◌}
 use Rattle.ob_store.specs.Parts.{parts_of}
-use Rattle.ob_store.specs.State.{Whole, settled, with_child}
 use Rattle.ob_store.proofs.ChildLaws.{child_read, kept_child, settled_child, inherited_live, inherited_few}
 use Rattle.ob_store.proofs.KeptLaws.{whole_kept}
 use Rattle.ob_store.proofs.store.Store.add_child.Goals as goal
@@ -22,26 +18,21 @@ handles_came-requires-clause-room g c = inherited_few (parts_of c.self.inside.pa
 pub invariant_of-self-2 : goal.invariant_of-self-2
 invariant_of-self-2 g c =
     let p = parts_of c.self.inside.parts in
-    let came : c.handles_came.new.self ≡ with_handles_of p.objects (inherited (table_of p.tables.tables c.args.parent))
-    = c.handles_came.ensures ∙ ap (with_handles_of p.objects) (child_read p c.self.invariant c.args.parent _
-    c.self.view_is c.requires.parent _ _ _ c.entries.ensures.places c.in_ok-child.ensures.number
-    c.in_ok-child.ensures.table) in
-    rw (c.in_ok-child.ensures.ok, c.in_ok-child.ensures.table, came)
+    let read = child_read p c.self.invariant c.args.parent _ c.self.view_is c.requires.parent _ _ _
+    c.entries.ensures.places c.in_ok-child.ensures.number c.in_ok-child.ensures.table in
+    rw (c.in_ok-child.ensures.ok, c.in_ok-child.ensures.table, c.handles_came.ensures, read)
     (kept_child p c.self.invariant c.args.parent _ c.self.view_is c.requires.parent c.args.session
     c.requires.processes c.requires.threads)
 
 pub returns-clause-ok : goal.returns-clause-ok
 returns-clause-ok g c =
     let p = parts_of c.self.inside.parts in
-    let came : c.handles_came.new.self ≡ with_handles_of p.objects (inherited (table_of p.tables.tables c.args.parent))
-    = c.handles_came.ensures ∙ ap (with_handles_of p.objects) (child_read p c.self.invariant c.args.parent _
-    c.self.view_is c.requires.parent _ _ _ c.entries.ensures.places c.in_ok-child.ensures.number
-    c.in_ok-child.ensures.table) in
-    whole_kept (record p {
+    let read = child_read p c.self.invariant c.args.parent _ c.self.view_is c.requires.parent _ _ _
+    c.entries.ensures.places c.in_ok-child.ensures.number c.in_ok-child.ensures.table in
+    rw (← c.self.view_is) (whole_kept (record p {
       processes = c.add_process.new.self;
       tables = c.add_process.new.tables;
       objects = c.handles_came.new.self;
     }) (invariant_of-self-2 g c) c.kept-2.ensures
-    ∙ rw (c.in_ok-child.ensures.ok, c.in_ok-child.ensures.table, came)
-    (settled_child p c.self.invariant c.args.parent _ c.self.view_is c.requires.parent c.args.session)
-    ∙ ap (λ (w : Whole). record w { state = settled (with_child w.state c.args.parent c.args.session) }) c.self.view_is
+    ∙ rw (c.in_ok-child.ensures.ok, c.in_ok-child.ensures.table, c.handles_came.ensures, read)
+    (settled_child p c.self.invariant c.args.parent _ c.self.view_is c.requires.parent c.args.session))

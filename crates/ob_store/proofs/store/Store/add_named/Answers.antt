@@ -1,25 +1,21 @@
-use Rattle.std.proofs.Common.{◌≡◌, ◌∙◌, ℕ, ap, sym, subst, refl, true, Some, None}
-use Rattle.ob_arena.specs.Slots.{is_vacant_at}
-use Rattle.ob_body.specs.Body.{owner_of}
+use Rattle.std.proofs.Common.{◌≡◌, ◌∙◌, ap, sym, refl, Some, None}
 use Rattle.ob_name.specs.Listing.{find_name}
 use Rattle.ob_name.specs.Refs.{name_at}
-use Rattle.ob_store.specs.Directory.{directory_of}
-use Rattle.ob_store.specs.Kept.{IsLive}
 use Rattle.ob_store.specs.Objects.{ObjectAttributes}
-use Rattle.ob_store.specs.Parts.{parts_of, state_of}
-use Rattle.ob_store.specs.State.{State, Whole, settled, vacancy}
+use Rattle.ob_store.specs.Parts.{PartsState, parts_of, state_of}
+use Rattle.ob_store.specs.State.{settled}
 use Rattle.ob_store.proofs.AddedLaws.{kept_name, added_state, with_added}
 use Rattle.ob_store.proofs.KeptLaws.{settled_kept}
 use Rattle.ob_store.proofs.store.Store.add_named.Goals as goal
 
 pub invariant_of-self-in-Ok : goal.invariant_of-self-in-Ok
 invariant_of-self-in-Ok g c =
-    let s = c.self.inside.parts in
+    let p = parts_of c.self.inside.parts in
     let new = c.args.new in
     let name = name_at c.args.name.now in
     let attributes : ObjectAttributes = record { descr = new.descr; grant = new.grant; name = Some name } in
-    let absent : find_name name s.names.rows ≡ None = ap (find_name name) c.self.invariant.sound.listing.same
-    ∙ ap (λ (w : Whole). find_name name (directory_of w.state)) c.self.view_is ∙ c.requires.absent in
+    let absent : find_name name p.rows ≡ None = ap (find_name name) c.self.invariant.sound.listing.same
+    ∙ (rw (← c.self.view_is) at c.requires.absent) in
     rw (
       c.enter.ensures.rows,
       c.add-id.ensures.id,
@@ -30,37 +26,22 @@ invariant_of-self-in-Ok g c =
       c.in_ok-entered.ensures.copy,
       c.in_ok-entered.ensures.rows,
     )
-    (kept_name (parts_of s) c.self.invariant c.kept.ensures c.args.process c.args.slot new.rights new.flags attributes
-    new.body
-    (subst (λ (w : Whole). IsLive w.state.processes c.args.process) (sym c.self.view_is) c.requires.live)
-    (subst (λ (w : Whole). is_vacant_at (vacancy w.state) c.args.slot ≡ true) (sym c.self.view_is) c.requires.vacant)
-    c.requires.formed
-    (subst (λ (w : Whole). (t : ℕ) → owner_of new.body ≡ Some t
-    → IsLive w.state.threads t) (sym c.self.view_is) c.requires.owned)
-    name refl absent)
+    (kept_name p c.self.invariant c.kept.ensures c.args.process c.args.slot new.rights new.flags attributes new.body
+    (rw (← c.self.view_is) at c.requires.live) (rw (← c.self.view_is) at c.requires.vacant) c.requires.formed
+    (rw (← c.self.view_is) at c.requires.owned) name refl absent)
 
 pub returns-in-Ok-clause-state : goal.returns-in-Ok-clause-state
 returns-in-Ok-clause-state g c =
-    let s = c.self.inside.parts in
+    let p = parts_of c.self.inside.parts in
     let new = c.args.new in
     let attributes : ObjectAttributes = record { descr = new.descr; grant = new.grant; name = Some (name_at c.args.name.now) } in
-    let after : State → State = λ (z : State). with_added z c.args.process c.args.slot new.rights new.flags attributes
-    new.body in
-    let added : state_of (record (parts_of s) {
+    let q : PartsState = record p {
       tables = c.place.new.self;
       objects = c.add-id.new.self;
       rows = c.enter.new.self.rows;
-    }) ≡ after (state_of (parts_of s)) =
-    rw (
-      c.add-id.ensures.added,
-      c.in-Ok.ensures.ok,
-      c.id_at.ensures,
-      c.in_ok-kept.ensures.copy,
-    ) (added_state (parts_of s) c.args.process c.args.slot new.rights new.flags attributes
-    new.body c.enter.new.self.rows) in
-    sym (settled_kept (record (parts_of s) {
-      tables = c.place.new.self;
-      objects = c.add-id.new.self;
-      rows = c.enter.new.self.rows;
-    }) (invariant_of-self-in-Ok g c) c.kept-in-Ok.ensures)
-    ∙ ap settled (added ∙ ap (λ (w : Whole). after w.state) c.self.view_is)
+    } in
+    let added : state_of q
+    ≡ with_added (state_of p) c.args.process c.args.slot new.rights new.flags attributes new.body =
+    rw (c.add-id.ensures.added, c.in-Ok.ensures.ok, c.id_at.ensures, c.in_ok-kept.ensures.copy)
+    (added_state p c.args.process c.args.slot new.rights new.flags attributes new.body c.enter.new.self.rows) in
+    rw (← c.self.view_is) (sym (settled_kept q (invariant_of-self-in-Ok g c) c.kept-in-Ok.ensures) ∙ ap settled added)

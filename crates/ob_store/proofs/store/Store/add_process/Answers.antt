@@ -1,7 +1,5 @@
-use Rattle.std.proofs.Common.{◌∙◌, ap, refl}
+use Rattle.std.proofs.Common.{◌∙◌, refl}
 use Rattle.ob_store.specs.Parts.{parts_of}
-use Rattle.ob_store.specs.State.{Whole, settled}
-use Rattle.ob_store.specs.State as state
 use Rattle.ob_store.proofs.KeptLaws.{kept_process, whole_kept}
 use Rattle.ob_store.proofs.store.Store.add_process.Goals as goal
 
@@ -12,10 +10,8 @@ invariant_of-self-2 g c =
     c.requires.processes c.requires.threads)
 
 pub returns-clause-ok : goal.returns-clause-ok
-returns-clause-ok g c =
-    whole_kept (record (parts_of c.self.inside.parts) {
-      processes = c.add_process.new.self;
-      tables = c.add_process.new.tables;
-    }) (invariant_of-self-2 g c) c.kept.ensures
-    ∙ rw (c.in_ok-add_process.ensures.ok, c.in_ok-add_process.ensures.table) refl
-    ∙ ap (λ (w : Whole). record w { state = settled (state.with_process w.state c.args.session) }) c.self.view_is
+returns-clause-ok g c = rw (← c.self.view_is) (whole_kept (record (parts_of c.self.inside.parts) {
+  processes = c.add_process.new.self;
+  tables = c.add_process.new.tables;
+}) (invariant_of-self-2 g c) c.kept.ensures
+    ∙ rw (c.in_ok-add_process.ensures.ok, c.in_ok-add_process.ensures.table) refl)

@@ -1,17 +1,16 @@
-use Rattle.std.proofs.Common.{◌≡◌, ◌<◌, Option, Some, None, sym, subst}
+use Rattle.std.proofs.Common.{◌≡◌, ◌<◌, Option, Some, None, sym}
 use Rattle.std.specs.Prelude.{IfSome}
 use Rattle.pin_core.specs.declared.id.Id.{Id}
 use Rattle.ob_name.specs.Refs.{name_at}
 use Rattle.ob_name.specs.Listing.{find_name}
 use Rattle.ob_store.specs.Parts.{parts_of, state_of}
-use Rattle.ob_store.specs.State.{Whole, handles_of}
+use Rattle.ob_store.specs.State.{handles_of}
 use Rattle.ob_store.proofs.ListingLaws.{listing_found, placed_agreed}
 use Rattle.ob_store.proofs.store.Store.find.Goals as goal
 
 pub returns-clause-handled : goal.returns-clause-handled
 returns-clause-handled g c =
-    subst (λ (w : Whole). IfSome c.find.result (λ id. 0 < handles_of w.state id)) c.self.view_is
-    (by c.find.result c.find.ensures)
+    rw (← c.self.view_is) (by c.find.result c.find.ensures)
   where
     by : (r : Option Id) → r ≡ find_name (name_at c.args.name.now) c.self.inside.parts.names.rows
         → IfSome r (λ id. 0 < handles_of (state_of (parts_of c.self.inside.parts)) id)

@@ -1,13 +1,10 @@
-use Rattle.std.proofs.Common.{◌≡◌, ◌∙◌, sym, subst, ap, refl, arith, Bool, true, false, cond, leb, leb-true, ℕ, ◌≤◌, List, ◌++◌, Option, Some, None, map}
+use Rattle.std.proofs.Common.{◌≡◌, ℕ, ◌∙◌, sym, subst, ap, refl, arith, Bool, true, false, cond, leb, leb-true, ◌≤◌, List, ◌++◌, Option, Some, None, map}
 use Rattle.std.specs.Prelude.{IfSome}
 use Rattle.std.proofs.Math.ListN.{get_or-map}
 use Rattle.std.proofs.lemmas.Bool.{le-leb}
 use Rattle.least.specs.Dues.{IsLeast, NotAfter, due_at}
 use Rattle.least.proofs.BestLemmas.{least_joined}
-use Rattle.ob_waits.specs.Deadlines.{deadline_of}
-use Rattle.ob_waits.specs.Form.{slot_due}
-use Rattle.ob_store.specs.Dues.{dues_of, reached}
-use Rattle.ob_store.specs.State.{Whole}
+use Rattle.ob_store.specs.Dues.{reached}
 use Rattle.ob_store.specs.Ticks.{last_moment}
 use Rattle.ob_store.proofs.store.Store.next_due.Goals as goal
 
@@ -48,9 +45,5 @@ least_reached dues least is = record {
 
 pub returns-clause-least : goal.returns-clause-least
 returns-clause-least g c =
-    subst (λ (w : Whole). IsLeast (dues_of w.state) c.reached.result) c.self.view_is
-    (subst (λ s. IsLeast (map reached (map slot_due s.parts.objects.seen.bodies ++ map deadline_of s.parts.waits.waits))
-    c.reached.result) c.self-inside.view_is
-    (rw c.reached.ensures
-    (rw c.sooner.ensures
-    (least_reached _ _ (least_joined _ _ _ _ c.least_due-timers.ensures c.next_due-waits.ensures.least)))))
+    rw (← c.self.view_is, ← c.self-inside.view_is, c.reached.ensures, c.sooner.ensures)
+    (least_reached _ _ (least_joined _ _ _ _ c.least_due-timers.ensures c.next_due-waits.ensures.least))

@@ -1,7 +1,6 @@
 use Rattle.std.proofs.Common.{◌∙◌, ap, sym}
-use Rattle.ob_store.specs.Moves.{after_reclaim}
 use Rattle.ob_store.specs.Parts.{parts_of}
-use Rattle.ob_store.specs.State.{State, Whole, settled}
+use Rattle.ob_store.specs.State.{settled}
 use Rattle.ob_store.proofs.KeptLaws.{settled_kept}
 use Rattle.ob_store.proofs.ReclaimedLaws.{kept_reclaimed, reclaimed_state}
 use Rattle.ob_store.proofs.store.Store.reclaim.Goals as goal
@@ -14,8 +13,7 @@ invariant_of-self g c =
 pub returns-clause-state : goal.returns-clause-state
 returns-clause-state g c =
     let p = parts_of c.self.inside.parts in
-    let after : State → State = λ (z : State). settled (after_reclaim z c.args.slot c.reclaim-answer.result) in
-    sym (settled_kept (record p { objects = c.reclaim-answer.new.self }) (invariant_of-self g c) c.kept-2.ensures)
-    ∙ ap settled (reclaimed_state p c.self.invariant c.kept.ensures c.args.slot _ c.self.view_is c.requires.object
-    c.requires.ended c.reclaim-answer.result c.reclaim-answer.new.self c.reclaim-answer.ensures.kind)
-    ∙ ap (λ (w : Whole). after w.state) c.self.view_is
+    let after = reclaimed_state p c.self.invariant c.kept.ensures c.args.slot _ c.self.view_is c.requires.object
+    c.requires.ended c.reclaim-answer.result c.reclaim-answer.new.self c.reclaim-answer.ensures.kind in
+    rw (← c.self.view_is) (sym (settled_kept (record p { objects = c.reclaim-answer.new.self }) (invariant_of-self g c)
+    c.kept-2.ensures) ∙ ap settled after)

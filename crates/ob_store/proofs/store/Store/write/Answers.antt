@@ -1,4 +1,3 @@
-use Rattle.std.proofs.Common.{◌≡◌, ℕ, ◌≤◌, ◌++◌, List, Ok, subst}
 use Rattle.std.specs.Int.{w64, to_le_bytes}
 use Rattle.std.proofs.lemmas.Result.{on_ok_weaker}
 use Rattle.ob_tables.specs.Spelling.{tables_text}
@@ -7,8 +6,6 @@ use Rattle.ob_store.specs.Parts.{parts_of}
 use Rattle.ob_store.specs.SavedLimits.{limits_text}
 use Rattle.ob_store.specs.SavedObjects.{objects_text}
 use Rattle.ob_store.specs.SavedProcesses.{processes_text}
-use Rattle.ob_store.specs.SavedStore.{begun_again, store_at, store_text}
-use Rattle.ob_store.specs.State.{Whole}
 use Rattle.ob_store.proofs.SavedStoreLaws.{store_again}
 use Rattle.ob_store.proofs.SavingLaws.{six_behind}
 use Rattle.ob_store.proofs.store.Store.write.Goals as goal
@@ -16,23 +13,20 @@ use Rattle.ob_store.proofs.store.Store.write.Goals as goal
 pub returns-clause-text : goal.returns-clause-text
 returns-clause-text g c =
     let p = c.self.inside.parts in
-    on_ok_weaker c.write-6.result (λ t. subst (λ (w : Whole). c.write-6.new.out.items
-    ≡ c.args.out.now.items ++ store_text w) c.self.view_is
+    on_ok_weaker c.write-6.result (λ t. rw (← c.self.view_is)
     (six_behind c.args.out.now.items (limits_text p.limits) (to_le_bytes w64 p.waits.clock) (processes_text p.processes)
     (tables_text p.tables.tables) (waits_text p.waits.waits) (objects_text p.objects)
     c.write.new.out.items c.write-2.new.out.items c.write-3.new.out.items c.write-4.new.out.items
     c.write-5.new.out.items c.write-6.new.out.items c.in_ok-write.ensures.text
-    (subst (λ (n : ℕ). c.write-2.new.out.items ≡ c.write.new.out.items ++ to_le_bytes w64 n) c.clock.ensures.moment
-    c.in_ok-write-2.ensures.text)
+    (rw c.clock.ensures.moment at c.in_ok-write-2.ensures.text)
     c.in_ok-write-3.ensures.text c.in_ok-write-4.ensures.text c.in_ok-write-5.ensures.text t))
     c.write-6.ensures.text
 
 pub returns-clause-again : goal.returns-clause-again
 returns-clause-again g c =
     let p = parts_of c.self.inside.parts in
-    on_ok_weaker c.write-6.result (λ fits. subst (λ (w : Whole). (rest : List ℕ) → store_at (store_text w ++ rest)
-    ≡ Ok (begun_again w, rest)) c.self.view_is
+    on_ok_weaker c.write-6.result (λ fits. rw (← c.self.view_is)
     (store_again p c.self.invariant c.kept.ensures c.in_ok-write-3.ensures.fits c.in_ok-write-4.ensures.fits
     c.in_ok-write-5.ensures.fits (fits p.waits.clock c.self.invariant.sound.formed)
-    (subst (λ (n : ℕ). n ≤ 9223372036854775807) c.clock.ensures.moment c.clock.ensures.last)))
+    (rw c.clock.ensures.moment at c.clock.ensures.last)))
     c.write-6.ensures.fits
