@@ -9,7 +9,6 @@ use Rattle.pin_core.specs.Worlds.{slot_of}
 use Rattle.pin_words.specs.Keepers.{KeeperState, with_slots, with_looks, closed}
 use Rattle.pin_words.specs.declared.view.Look.{Look}
 use Rattle.ob_body.specs.declared.body.Body.{Body}
-use Rattle.ob_waits.specs.CountedBodies as waits
 use Rattle.ob_store.specs.Objects.{Object, ObjectsState, with_keeper, places_in, without_header, opened}
 use Rattle.ob_store.specs.Agreement.{IsAgreed}
 

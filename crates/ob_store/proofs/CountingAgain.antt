@@ -1,13 +1,11 @@
 -- What is counted in a store that is kept is counted again, so that what it saves isn't refused.
-use Rattle.std.proofs.Common.{◌≡◌, ℕ, ◌+◌, ◌<◌, ◌≤◌, Bool, true, cond, List, [], ◌∷◌, length, Option, Some, None, Ok, Err, refl, sym, ap, ◌∙◌, arith}
+use Rattle.std.proofs.Common.{◌≡◌, ℕ, ◌+◌, ◌<◌, ◌≤◌, Bool, true, cond, List, [], ◌∷◌, length, Option, Some, None, Ok, refl, sym, ap, ◌∙◌, arith}
 use Rattle.ob_store.proofs.ByPlace.{replicate_at}
 use Rattle.std.proofs.lemmas.Bool.{and_from, lt-ltb}
 use Rattle.std.proofs.lemmas.List.{ext_get_or, length-replicate}
 use Rattle.std.proofs.lemmas.List.Sums.{sum_by-cons}
 use Rattle.std.proofs.lemmas.Option.{same_Some}
 use Rattle.pin_core.specs.declared.id.Id.{Id}
-use Rattle.ob_codec.specs.declared.fault.TextFault.TheVariants.{Value}
-use Rattle.ob_codec.specs.Reading.{◌>>=◌}
 use Rattle.ob_tables.specs.declared.entry.Entry.{Entry}
 use Rattle.ob_tables.specs.Counts.{names, names_slot, handles_in, handles_among, slot_handles_in, slot_handles}
 use Rattle.ob_tables.proofs.Counting.{same_id-same}
@@ -40,38 +38,33 @@ in-again p (None ∷ places) wide few named =
     (search (arith, sum_by-cons))
 in-again p (Some e ∷ places) wide few named =
     let own : cond {A = ℕ} (names e.id (Some e)) 1 0 ≡ 1 = ap {B = ℕ} (λ (b : Bool). cond b 1 0) (same_id-same e.id) in
-    let there : IsThere p.objects e.id =
-    named e.id (let s = sum_by-cons (λ (y : Option Entry). cond (names e.id y) 1 0) (Some e) places in
-    omega (arith, s, own)) in
-    let room : handles_at p e.id.slot < 4294967295 =
-    (let s = sum_by-cons (λ (y : Option Entry). cond (names_slot e.id.slot y) 1 0) (Some e) places in
-    let f = few e.id.slot in let one = one_in-same e in omega (arith, s, f, one)) in
+    let there = named e.id
+    (omega (arith, sum_by-cons (λ (y : Option Entry). cond (names e.id y) 1 0) (Some e) places, own)) in
+    let room : handles_at p e.id.slot < 4294967295 = omega (
+      arith,
+      sum_by-cons (λ (y : Option Entry). cond (names_slot e.id.slot y) 1 0) (Some e) places,
+      one_in-same e,
+    ) in
     let may = may-again p e.id there room in
     let c = one_counts p e wide may in
     let rest = in-again (with_handle p e.id.slot) places (still_wide p (with_handle p e.id.slot) _ _ c wide)
-    (λ k. (let s = sum_by-cons (λ (y : Option Entry). cond (names_slot k y) 1 0) (Some e) places in
-    let f = few k in let h = c.handles k in omega (arith, s, f, h)))
-    (λ id h. named id (let s = sum_by-cons (λ (y : Option Entry). cond (names id y) 1 0) (Some e) places in
-    omega (arith, s, h))) in (
-      rest.0,
-      ap (λ (b : Bool). cond b (Ok (with_handle p e.id.slot))
-          (Err Value) >>= λ (z : Places). counting_in z places) may ∙ rest.1,
-    )
+    (λ k. omega (arith, sum_by-cons (λ (y : Option Entry). cond (names_slot k y) 1 0) (Some e) places, c.handles k))
+    (λ id h. named id
+    (omega (arith, sum_by-cons (λ (y : Option Entry). cond (names id y) 1 0) (Some e) places, h))) in
+    (rest.0, rw may rest.1)
 
 all-again : (p : Places) (tables : List (List (Option Entry))) → IsWide p →
     ((k : ℕ) → handles_at p k + slot_handles k tables ≤ 4294967295) →
     ((id : Id) → 0 < handles_among id tables → IsThere p.objects id) → Again p tables
 all-again p [] wide few named = (p, refl)
 all-again p (table ∷ tables) wide few named =
-    let a = in-again p table wide
-    (λ k. (let s = sum_by-cons (slot_handles_in k) table tables in let f = few k in omega (arith, s, f)))
-    (λ id h. named id (let s = sum_by-cons (handles_in id) table tables in omega (arith, s, h))) in
+    let a = in-again p table wide (λ k. omega (arith, sum_by-cons (slot_handles_in k) table tables))
+    (λ id h. named id (omega (arith, sum_by-cons (handles_in id) table tables, h))) in
     let c = table_counts p a.0 table wide a.1 in
     let rest = all-again a.0 tables (still_wide p a.0 _ _ c wide)
-    (λ k. (let s = sum_by-cons (slot_handles_in k) table tables in let f = few k in let h = c.handles k in
-    omega (arith, s, f, h)))
-    (λ id h. rw c.same (named id (let s = sum_by-cons (handles_in id) table tables in omega (arith, s, h)))) in
-    (rest.0, ap (λ r. r >>= λ (z : Places). counting_all z tables) a.1 ∙ rest.1)
+    (λ k. omega (arith, sum_by-cons (slot_handles_in k) table tables, c.handles k))
+    (λ id h. rw c.same (named id (omega (arith, sum_by-cons (handles_in id) table tables, h)))) in
+    (rest.0, rw a.1 rest.1)
 
 pub counting_again : (p : Places) (processes limit : ℕ) (tables : List (List (Option Entry)))
     (waits : List (Option Wait)) →
@@ -88,8 +81,7 @@ counting_again p processes limit tables waits counted named bounded =
     let long : length p.seen.handles ≡ n = handles_long p.seen n tables waits counted in
     let same : a.0.seen.handles ≡ p.seen.handles =
     ext_get_or 0 a.0.seen.handles p.seen.handles (c.length_is ∙ sym wide ∙ sym long)
-    (λ k lt. (let x = c.handles k in
-    let z = replicate_at {A = ℕ} n k 0 in
+    (λ k lt. (let z = replicate_at {A = ℕ} n k 0 in
     let within : k < n = omega (
       arith,
       lt,
@@ -97,5 +89,5 @@ counting_again p processes limit tables waits counted named bounded =
       c.length_is,
       wide,
     ) in
-    let h = stored.handles_at p.seen n tables waits counted k within in omega (arith, x, z, h))) in
+    let h = stored.handles_at p.seen n tables waits counted k within in omega (arith, z, h))) in
     a.1 ∙ ap Ok (c.same ∙ ap (λ (hs : List ℕ). record p { seen = record p.seen { handles = hs } }) same)

@@ -1,5 +1,5 @@
 -- A slot has a body exactly where something refers to its object: each change of the objects keeps that.
-use Rattle.std.proofs.Common.{◌≡◌, ℕ, ◌≢◌, ◌+◌, ◌<◌, List, Option, Some, None, ◌∙◌, arith, get_or, set}
+use Rattle.std.proofs.Common.{◌≡◌, ℕ, ◌<◌, List, Option, Some, None, arith, get_or, set}
 use Rattle.std.proofs.lemmas.List.{length-set, get_or_past, get_or-set_same, get_or-set_other}
 use Rattle.ob_waits.specs.Rules.{HasBodies}
 use Rattle.ob_store.specs.Objects.{Places, without_handle}

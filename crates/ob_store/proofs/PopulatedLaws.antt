@@ -43,10 +43,6 @@ thread_left : (s : State) (p t : ℕ) → is_of p (get_or s.threads t None) ≡ 
     → Besides p (thread_ended s t)
 thread_left s p t its besides q other live = still s.threads t its ∙ besides q other live
   where
-    not_its : (x : Option ℕ) → is_of p x ≡ true → is_of q x ≡ false
-    not_its None is = absurd (cc is)
-    not_its (Some r) is = search arith
-
     still : (ts : List (Option ℕ)) (t : ℕ) → is_of p (get_or ts t None) ≡ true
         → list_any (is_of q) (set ts t None) ≡ list_any (is_of q) ts
     still [] t is = refl

@@ -1,15 +1,14 @@
 -- Births that were ordered are distinct, and below their count.
-use Rattle.std.proofs.Common.{◌≡◌, ℕ, ◌≢◌, zero, suc, ◌<◌, ◌&&◌, true, false, cond, List, [], ◌∷◌, get_or, Option, Some, None, Ok, refl, sym, ap, ◌∙◌, arith, eq-eqb, ne_eqb}
+use Rattle.std.proofs.Common.{◌≡◌, ℕ, ◌≢◌, zero, suc, ◌<◌, true, false, cond, List, [], ◌∷◌, get_or, Option, Some, None, Ok, refl, sym, ap, ◌∙◌, arith, eq-eqb, ne_eqb}
 use Rattle.std.specs.BTreeMap.{insert_entry, is_at}
 use Rattle.std.specs.Cmp.{unsigned_tied}
 use Rattle.std.specs.Map.{lookup}
 use Rattle.std.specs.declared.cmp.Ordering.TheVariants.{Less, Greater}
 use Rattle.std.specs.Ordering.{nat_cmp}
 use Rattle.std.proofs.lemmas.Option.{same_Some}
-use Rattle.ob_codec.specs.Steps.{bind_ok}
 use Rattle.ob_store.specs.Agreement.{AreBorn}
 use Rattle.ob_store.specs.Objects.{Object}
-use Rattle.ob_store.specs.SavedBirths.{Births, births_from, with_birth}
+use Rattle.ob_store.specs.SavedBirths.{Births, births_from}
 
 -- the slot that has a birth
 abbrev pub taken : Births → ℕ → Option ℕ
@@ -48,10 +47,7 @@ module _ (births : ℕ) (order : Births) where
       births_from births so_far slot (Some x ∷ objects) ≡ Ok order →
       (x.birth < births) × (taken so_far x.birth ≡ None) ×
       (births_from births (insert_entry nat_cmp so_far x.birth slot) (suc slot) objects ≡ Ok order)
-  births_step slot so_far x objects e =
-      let b = bind_ok (with_birth births so_far x.birth slot)
-      (λ (more : Births). births_from births more (suc slot) objects) order e in
-      search arith
+  births_step slot so_far x objects e = search arith
 
   -- each birth is below the count, and not among those so far
   each-new : (slot : ℕ) (so_far : Births) (objects : List (Option Object)) → births_from births so_far slot objects ≡

@@ -27,7 +27,7 @@ use Rattle.ob_store.specs.Kept.{AreFormed, AreOfLive, IsCounted, IsListing, IsLi
 use Rattle.ob_store.specs.Objects.{Object, ObjectsState, Places}
 use Rattle.ob_store.specs.SavedBirths.{Births, births_from}
 use Rattle.ob_store.specs.SavedNames.{names_in}
-use Rattle.ob_store.specs.SavedObjects.{bodied_names, whole_at, whole_objects, with_slots}
+use Rattle.ob_store.specs.SavedObjects.{whole_at, whole_objects, with_slots}
 use Rattle.ob_store.specs.SavedSlots.{slots_at}
 use Rattle.ob_store.specs.SavedWaits.{all_stand, may_wait_for, object_blocks, owner_stands, owners_stand, state_stands, wait_stands, waits_stand, with_blocks}
 use Rattle.ob_store.specs.Agreement.{made_in}
@@ -60,11 +60,6 @@ whole_steps limits tables list bytes s rows rest e =
     let slots = a.0.0.1 in
     let b = bind_ok (counting_all a.0.0.0 tables) (λ (q : Places). whole_objects limits slots
     (with_blocks list.waits q) >>= λ (o : ObjectsState × Rows). Ok (o, a.0.1)) ((s, rows), rest) a.2 in
-    let q = with_blocks list.waits b.0 in
-    let c = bind_ok (whole_objects limits slots q) (λ (o : ObjectsState × Rows). Ok (o, a.0.1)) ((s, rows), rest)
-    b.2 in
-    let d = bind_ok (births_from (sum_by made_in slots) [] 0 q.objects)
-    (λ (order : Births). bodied_names order q >>= λ (names : Rows). Ok (with_slots q limits slots, names)) c.0 c.1 in
     grind arith
 
 -- what waits that can be there keep

@@ -30,9 +30,7 @@ still-rises low high (x ∷ es) b slot from below r =
 pub none_below : (low high : ℕ) (es : Births) (b : ℕ) → b < low → Rises low high es → taken es b ≡ None
 unfolding Rises
 none_below low high [] b less r = refl
-none_below low high (x ∷ es) b less r =
-    let first = r.0 in
-    search (arith, none_below (suc x.0) high es b (omega (arith, less, first)) r.2)
+none_below low high (x ∷ es) b less r = search (arith, none_below (suc x.0) high es b (omega (arith, less)) r.2)
 
 -- the order of the births of objects
 pub record IsOrder (objects : List (Option Object)) (births : ℕ) (order : Births) : Type 0 where

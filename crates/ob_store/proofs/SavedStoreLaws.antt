@@ -1,19 +1,19 @@
 -- A store that is kept is read again as it was written, and what is read of a store was written so.
-use Rattle.std.proofs.Common.{◌≡◌, ℕ, ◌*◌, ◌<◌, ◌≤◌, ◌^◌, ltb, true, cond, eqb, List, [], ◌∷◌, ◌++◌, length, get_or, map, Option, Some, None, Ok, Err, append_assoc, refl, sym, ap, ◌∙◌, subst, arith}
+use Rattle.std.proofs.Common.{◌≡◌, ℕ, ◌*◌, ◌<◌, ◌≤◌, ◌^◌, ltb, true, cond, List, [], ◌∷◌, ◌++◌, length, get_or, map, Option, Some, None, Ok, Err, append_assoc, refl, sym, ap, ◌∙◌, subst, arith}
 use Rattle.std.specs.Int.{w64, to_le_bytes}
-use Rattle.std.specs.List.{AllByRecursion, flat_map, list_all}
-use Rattle.std.proofs.lemmas.Bool.{and_parts, eqb-true, le-leb, lt-ltb}
+use Rattle.std.specs.List.{AllByRecursion, flat_map}
+use Rattle.std.proofs.lemmas.Bool.{le-leb, lt-ltb}
 use Rattle.std.proofs.lemmas.List.{ext_get_or, get_or-map, length-append, length-map}
 use Rattle.ob_codec.specs.Codecs.{u64_codec, where_codec}
 use Rattle.ob_codec.specs.Laws.{IsCodec, Takes}
 use Rattle.ob_codec.specs.Reading.{has_at, list_at, where_at}
 use Rattle.ob_codec.specs.Spelling.{AreBytes}
-use Rattle.ob_codec.specs.Steps.{bind_ok, guard_passed, ok_is}
+use Rattle.ob_codec.specs.Steps.{bind_ok, guard_passed}
 use Rattle.ob_codec.specs.declared.fault.TextFault.TheVariants.{Value}
 use Rattle.pin_core.specs.declared.id.Id.{Id}
 use Rattle.pin_core.specs.declared.shape.Shape.{Shape}
 use Rattle.pin_core.specs.Worlds.{opening_slot}
-use Rattle.ob_tables.specs.Spelling.{TablesFit, are_bounded, is_short, table_at, tables_at, tables_text, with_limits}
+use Rattle.ob_tables.specs.Spelling.{TablesFit, are_bounded, table_at, tables_at, tables_text, with_limits}
 use Rattle.ob_tables.specs.SpellingLaws.{tables_again, tables_take}
 use Rattle.ob_tables.specs.Tables.{HandleTables}
 use Rattle.ob_tables.specs.declared.entry.Entry.{Entry}
@@ -34,7 +34,7 @@ use Rattle.ob_store.specs.SavedLimitLaws.{limits_codec}
 use Rattle.ob_store.specs.SavedObjects.{begun_over, objects_at, objects_text, slots_saved}
 use Rattle.ob_store.specs.SavedProcesses.{ListsFit, processes_at, processes_text}
 use Rattle.ob_store.specs.SavedSlots.{SlotFits, keeper_slot, slot_text}
-use Rattle.ob_store.specs.SavedStore.{are_vacated, is_moment, lists_at, moment_at, parts_at, begun_again, slot_bytes, store_at, store_text, tables_for, behind_lists, whole_with}
+use Rattle.ob_store.specs.SavedStore.{is_moment, lists_at, moment_at, parts_at, begun_again, slot_bytes, store_at, store_text, tables_for, behind_lists, whole_with}
 use Rattle.ob_store.specs.State.{Whole, generation_of, shape_of}
 use Rattle.ob_store.proofs.NamedLaws.{place_counted, there_within}
 use Rattle.ob_store.proofs.PlacedLaws.{live_within}
@@ -191,20 +191,14 @@ tables_read processes handles given bytes t rest e =
     let y = bind_ok (list_at given table_at bytes)
     (λ (y : List (List (Option Entry)) × List ℕ). cond (are_bounded given handles y.0) (Ok y) (Err Value)) x.0 x.1 in
     let g = guard_passed (are_bounded given handles y.0.0) Value y.0 x.0 y.2 in
-    let many = eqb-true (length y.0.0) given
-    (and_parts (eqb (length y.0.0) given) (list_all (is_short handles) y.0.0) g.0).0 in
-    let q = ok_is (with_limits processes handles x.0.0, x.0.1) (t, rest) x.2 in
-    grind (arith, q, g.1, many)
+    grind (arith, g.1)
 
 -- and so are those of which the processes that aren't live have none
 pub tables_kept : (limits : Limits) (ps : List (Option ℕ)) (bytes : List ℕ) (t : HandleTables) (rest : List ℕ)
     → tables_for limits ps bytes ≡ Ok (t, rest)
     → (tables_at limits.processes limits.handles (length ps) bytes ≡ Ok (t, rest))
     × ((q : ℕ) → get_or ps q None ≡ None → get_or t.tables q [] ≡ [])
-tables_kept limits ps bytes t rest e =
-    let a = bind_ok (tables_at limits.processes limits.handles (length ps) bytes)
-    (λ (a : HandleTables × List ℕ). cond (are_vacated ps a.0.tables (length ps)) (Ok a) (Err Value)) (t, rest) e in
-    search (arith, vacated_from)
+tables_kept limits ps bytes t rest e = search (arith, vacated_from)
 
 -- and so was what stands before the objects
 lists_were : (limits : Limits) (clock : ℕ) (bytes : List ℕ) (l : (ProcessesState × (HandleTables × WaitList)) × List ℕ)

@@ -1,5 +1,5 @@
 -- What a store keeps, told of what is stored.
-use Rattle.std.proofs.Common.{◌≡◌, ℕ, ◌<◌, ◌+◌, length, Some, None, refl, ap, ◌∙◌, sym, subst, arith, get_or, true, ltb}
+use Rattle.std.proofs.Common.{◌≡◌, ℕ, ◌+◌, length, Some, None, refl, ap, ◌∙◌, sym, subst, arith, get_or, true, ltb}
 use Rattle.std.specs.Prelude.{◌↔◌}
 use Rattle.std.specs.List.{Contains}
 use Rattle.std.proofs.lemmas.List.{get_or_past}
@@ -42,8 +42,7 @@ module _ (p : PartsState) (kept : StoreInvariant p) (tied : ObjectsInvariant p.o
   open_row : (name : ObjectName) (id : Id) → IsOpenByName (state_of p) name id
       → Contains (rows_of p.tables.tables p.objects.objects p.objects.births) (name, id)
   open_row name id x =
-      let some : 0 < handles_among id p.tables.tables = x.handled in
-      let has : ltb 0 (handles_among id p.tables.tables) ≡ true = grind (arith, nat_tests, some) in
+      let has : ltb 0 (handles_among id p.tables.tables) ≡ true = grind (arith, nat_tests) in
       subst (λ (i : Id). Contains (rows_of p.tables.tables o.objects o.births) (name, i)) x.its_id
       (search (arith, row_there, id.slot, o.births, o.objects, p.tables.tables, tied.born.below, x.is_there, x.its_id, x.its_name, x.object))
 

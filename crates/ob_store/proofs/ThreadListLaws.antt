@@ -1,7 +1,7 @@
 -- The threads of each process, counted and linked, while threads come and end.
 use Rattle.ob_codec.proofs.AtPlace.{at_place}
-use Rattle.std.proofs.Common.{◌≡◌, ℕ, suc, ◌-◌, ◌+◌, ◌<◌, ◌≤◌, List, [], ◌∷◌, ◌++◌, length, Option, Some, None, refl, ◌∙◌, subst, arith, get_or, set, Bool, true, false, cond, inl, inr}
-use Rattle.std.specs.Prelude.{◌⊎◌, ◌||◌, count_by, nat_lt}
+use Rattle.std.proofs.Common.{◌≡◌, ℕ, suc, ◌+◌, ◌<◌, ◌≤◌, List, [], ◌∷◌, ◌++◌, length, Option, Some, None, refl, subst, arith, get_or, set, Bool, true, false, cond, inl, inr}
+use Rattle.std.specs.Prelude.{◌⊎◌, count_by, nat_lt}
 use Rattle.std.specs.List.{list_any}
 use Rattle.std.proofs.lemmas.List.{get_or_read}
 use Rattle.std.proofs.lemmas.List.Sums.{sum_by-set, sum_by-append, sum_by-cons}
@@ -38,8 +38,14 @@ threads_born n ts m are few = record {
   lists_long = grind (arith, at_place);
   links_long = grind (arith, at_place);
   at_most = grind (arith, at_place);
-  counted = λ p lt. grind (arith, nat_tests, at_place, count_pushed ts (Some n) p, are.counted p,
-      no_live ts n (λ t h. omega (arith, (are.given t n h).0)));
+  counted = λ p lt. grind (
+    arith,
+    nat_tests,
+    at_place,
+    count_pushed ts (Some n) p,
+    are.counted p,
+    no_live ts n (λ t h. omega (arith, (are.given t n h).0)),
+  );
   given = λ t p. grind (arith, nat_tests, at_place, are.given t p);
   next = λ p t u. grind (arith, nat_tests, at_place, are.next p t u);
   ending = λ p. grind (arith, nat_tests, at_place, are.ending p);

@@ -1,7 +1,6 @@
 -- Timers fire: what is sound stays so, and is on its way to the settled state; none is due then.
-use Rattle.std.proofs.Common.{ℕ, arith, ◌≡◌, List, Option, Some, None, refl, ap, ◌∙◌, get_or, map, false}
+use Rattle.std.proofs.Common.{ℕ, arith, ◌≡◌, List, Option, Some, None, refl, ap, get_or, map, false}
 use Rattle.ob_body.specs.declared.body.Body.{Body}
-use Rattle.ob_body.specs.declared.body.Body.TheVariants.{Timer}
 use Rattle.ob_body.specs.TimerState.{TimerState}
 use Rattle.ob_body.specs.Timer.{is_due}
 use Rattle.ob_body.specs.Timer as timer

@@ -124,9 +124,6 @@ pub undue_settled : (first : Scene) (after : CountedBodies) (ws' : List (Option 
     → slot_is_due now (get_or after.bodies k None) ≡ false
 undue_settled first after ws' now value undue k = by (get_or after.bodies k None) refl
   where
-    body_is : get_or after.bodies k None ≡ get_or (waits.settled first).objects.bodies k None
-    body_is = ap (λ (s : Scene). get_or s.objects.bodies k None) value
-
     by : (x : Option Body) → get_or after.bodies k None ≡ x → slot_is_due now x ≡ false
     by None is = refl
     by (Some b) is =

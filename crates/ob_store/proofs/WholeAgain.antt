@@ -1,5 +1,5 @@
 -- Births that are distinct are ordered, and objects that have bodies just where something refers to them pass.
-use Rattle.std.proofs.Common.{◌≡◌, ℕ, ◌≢◌, suc, ◌<◌, ◌&&◌, true, List, [], ◌∷◌, get_or, Option, Some, None, Ok, refl, arith}
+use Rattle.std.proofs.Common.{◌≡◌, ℕ, ◌≢◌, suc, ◌<◌, true, List, [], ◌∷◌, get_or, Option, Some, None, Ok, refl, arith}
 use Rattle.std.specs.BTreeMap.{insert_entry}
 use Rattle.std.specs.Ordering.{nat_cmp}
 use Rattle.ob_waits.specs.CountedBodies as waits

@@ -9,8 +9,11 @@ pub returns-then-not-is_occupied-clause-object : goal.returns-then-not-is_occupi
 returns-then-not-is_occupied-clause-object c =
     let arena = c.self.inside.arena.bodies in
     let tags = tags_in c.self.inside.labels.items c.self.inside.names.items in
-    rw (← c.self.view_is, object_read arena tags c.args.slot,
-    none_of (get_or arena c.args.slot None) (sym c.is_occupied.ensures ∙ c.if-not-is_occupied.true)) refl
+    rw (
+      ← c.self.view_is,
+      object_read arena tags c.args.slot,
+      none_of (get_or arena c.args.slot None) (sym c.is_occupied.ensures ∙ c.if-not-is_occupied.true),
+    ) refl
 
 pub returns-clause-object : goal.returns-clause-object
 returns-clause-object c =

@@ -1,4 +1,4 @@
-use Rattle.std.proofs.Common.{arith, ◌∙◌}
+use Rattle.std.proofs.Common.{arith}
 use Rattle.ob_store.proofs.LabelLaws.{name_here}
 use Rattle.ob_store.proofs.OwnerLaws.{object_within}
 use Rattle.ob_store.proofs.object_headers.ObjectHeaders.name.Goals as goal
@@ -23,8 +23,8 @@ returns-then-index c =
     let there = rw (← c.self.view_is) at c.requires in
     let within = object_within i.arena _ c.args.slot there in
     let its_name = name_here i.arena.bodies i.labels.items i.names.items c.args.slot c.index.result.now
-    c.index-name.result.now there c.index.ensures c.index-name.ensures (omega (arith, within, c.self.invariant.labelled))
-    (omega (arith, within, c.self.invariant.named)) in
+    c.index-name.result.now there c.index.ensures c.index-name.ensures
+    (omega (arith, within, c.self.invariant.labelled)) (omega (arith, within, c.self.invariant.named)) in
     rw (← c.self.view_is, c.as_ref.ensures.value) (rw c.if-index.true at its_name)
 
 pub returns-else-index : goal.returns-else-index
@@ -33,6 +33,6 @@ returns-else-index c =
     let there = rw (← c.self.view_is) at c.requires in
     let within = object_within i.arena _ c.args.slot there in
     let its_name = name_here i.arena.bodies i.labels.items i.names.items c.args.slot c.index.result.now
-    c.index-name.result.now there c.index.ensures c.index-name.ensures (omega (arith, within, c.self.invariant.labelled))
-    (omega (arith, within, c.self.invariant.named)) in
+    c.index-name.result.now there c.index.ensures c.index-name.ensures
+    (omega (arith, within, c.self.invariant.labelled)) (omega (arith, within, c.self.invariant.named)) in
     rw (← c.self.view_is) (rw c.if-index.false at its_name)

@@ -1,4 +1,4 @@
-use Rattle.std.proofs.Common.{◌≡◌, ℕ, ◌∙◌, ◌++◌, map, arith, inl, inr}
+use Rattle.std.proofs.Common.{◌≡◌, map, arith, inl, inr}
 use Rattle.std.specs.List.{range_with_len}
 use Rattle.std.proofs.lemmas.Bool.{cases_lt}
 use Rattle.std.proofs.lemmas.List.{flat_map_more}

@@ -1,4 +1,4 @@
-use Rattle.std.proofs.Common.{◌≡◌, ℕ, ◌∙◌, sym, subst, ap, refl, arith, Bool, true, false, cond, leb, leb-true, ◌≤◌, List, ◌++◌, Option, Some, None, map}
+use Rattle.std.proofs.Common.{◌≡◌, ℕ, ◌∙◌, sym, subst, ap, refl, arith, Bool, true, false, cond, leb, leb-true, ◌≤◌, List, Option, Some, None, map}
 use Rattle.std.specs.Prelude.{IfSome}
 use Rattle.std.proofs.Math.ListN.{get_or-map}
 use Rattle.std.proofs.lemmas.Bool.{le-leb}
