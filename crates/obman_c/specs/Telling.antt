@@ -6,7 +6,7 @@ use Rattle.pin_words.specs.declared.pin_keeper.Reclaim.{Reclaim}
 use Rattle.pin_words.specs.declared.pin_keeper.Reclaim.TheVariants.{Freed, Retired, Held}
 use Rattle.ob_manager.specs.Calls.{Call}
 use Rattle.ob_manager.specs.declared.reply.Reply.{Reply}
-use Rattle.ob_manager.specs.declared.reply.Reply.TheVariants.{Spawned, Started, Made, Exists, Opened, Duplicated, Closed, Done, Flags, Previous, Code, Pending, Expired, Ended, Exited, Reaped, CountsAre, Ticked, Refused}
+use Rattle.ob_manager.specs.declared.reply.Reply.TheVariants.{Spawned, Started, Made, Exists, Opened, Duplicated, Flags, Previous, Code, Pending, Reaped, CountsAre, Refused}
 use Rattle.obman_c_base.specs.Made.{Makes}
 use Rattle.obman_c_base.specs.declared.owned.OwnedManager.{OwnedManager}
 use Rattle.obman_c.specs.declared.values.Member.{Member}
@@ -21,22 +21,7 @@ abbrev pub status_of : Reply → ℕ
 status_of (Exists handle id) = 183
 status_of (Pending number) = 997
 status_of (Refused fault) = code_of fault
-status_of (Spawned process thread) = 0
-status_of (Started thread) = 0
-status_of (Made handle id) = 0
-status_of (Opened handle id) = 0
-status_of (Duplicated handle id) = 0
-status_of Closed = 0
-status_of Done = 0
-status_of (Flags bits) = 0
-status_of (Previous count) = 0
-status_of (Code code) = 0
-status_of (Expired number) = 0
-status_of (Ended thread) = 0
-status_of (Exited process) = 0
-status_of (Reaped id outcome) = 0
-status_of (CountsAre handles waits hold) = 0
-status_of (Ticked now) = 0
+status_of reply = 0
 
 -- From a state a call is made, with some reply, and this number is told of the reply.
 pub record TellsStatus (old : OwnedManager) (call : Call) (status : ℕ) (new : OwnedManager) : Type 0 where
