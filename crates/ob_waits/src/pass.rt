@@ -17,21 +17,7 @@ use pin_core::Id;
 
 /// Takes the wait block of each listed object away, as where a pending wait ends by its time or with its thread. An
 /// object whose last block leaves so, and which has no handle, ends.
-#[inline(always)]
 pub fn leave_all<B: Bodies>(bodies: &mut B, ids: &[Id])
-    ensures objects { B.objects bodies.new ≡ without_blocks (B.objects bodies.old) ids.now }
-    ensures rest { B.rest bodies.new ≡ B.rest bodies.old }
-{
-    // Most waits are for one object.
-    if let [id] = ids {
-        bodies.block_left(*id);
-        return;
-    }
-    leave_each(bodies, ids);
-}
-
-#[inline(never)]
-fn leave_each<B: Bodies>(bodies: &mut B, ids: &[Id])
     ensures objects { B.objects bodies.new ≡ without_blocks (B.objects bodies.old) ids.now }
     ensures rest { B.rest bodies.new ≡ B.rest bodies.old }
 {
@@ -157,6 +143,9 @@ pub(crate) fn pass_each<B: Bodies>(
         ≡ settled (record { objects = B.objects bodies.old; waits = live.old }) }
 {
     let order = pending_index.order();
+    if order.is_empty() {
+        return;
+    }
     if !pass_some(
         live,
         bodies,
