@@ -1,4 +1,5 @@
-ghost use Rattle.std.specs.Prelude.{[], ◌≡◌, ◌<◌, ◌≤◌, List, Option, None, false, true, drop, length, slice_index_or, OnOk};
+ghost use Rattle.std.specs.Prelude.{[], ◌≡◌, ◌<◌, ◌≤◌, List, Option, None, OnOk, false, true};
+ghost use Rattle.std.specs.Prelude.{drop, length, slice_index_or};
 ghost use Rattle.ob_waits.specs.declared.wait.Wait.{Wait};
 ghost use Rattle.ob_waits.specs.Waits.{is_pending};
 ghost use Rattle.ob_waits.specs.RisingNumbers.{numbers_of, Thins};

@@ -1,5 +1,5 @@
-ghost use Rattle.std.specs.Prelude.{[], ◌≡◌, ◌≤◌, ◌<◌, ◌-◌, ◌++◌, ℕ, List, Option, None, drop, false, filter, length, true};
-ghost use Rattle.std.specs.Prelude.{slice_index_or, take, OnOk};
+ghost use Rattle.std.specs.Prelude.{[], ◌≡◌, ◌≤◌, ◌<◌, ◌-◌, ◌++◌, ℕ, List, Option, None, drop, false, filter, length};
+ghost use Rattle.std.specs.Prelude.{slice_index_or, take, true, OnOk};
 ghost use Rattle.ob_waits.specs.declared.wait.Wait.{Wait};
 ghost use Rattle.ob_waits.specs.Waits.{is_pending};
 ghost use Rattle.ob_waits.specs.RisingNumbers.{IsOrdered, ends_with, has_pending, Thins};

@@ -3,7 +3,8 @@ ghost use Rattle.std.specs.Prelude.{Some, length, map, slice_index_or, OnOk, OnE
 ghost use Rattle.std.specs.Prelude.{if◌then◌else◌, is_some};
 ghost use Rattle.std.specs.Option.{option_map};
 ghost use Rattle.ob_waits.specs.Waits.{settled, blocks_among, number_of, with_wait, with_answer};
-ghost use Rattle.ob_waits.specs.Waits.{without_wait, without_thread, code_at, is_answer, is_pending, state_at, ids_of, is_full};
+ghost use Rattle.ob_waits.specs.Waits.{without_wait, without_thread, code_at};
+ghost use Rattle.ob_waits.specs.Waits.{is_answer, is_pending, state_at, ids_of, is_full};
 ghost use Rattle.ob_codec.specs.Reading.{Gives};
 ghost use Rattle.ob_waits.specs.Spelling.{WaitsFit, are_within, can_be, waits_at, waits_text};
 ghost use Rattle.ob_waits.specs.Waits.{is_code, new_wait, skipped, with_answered};
