@@ -1,6 +1,6 @@
-ghost use Rattle.std.specs.Prelude.{◌≡◌, ◌<◌, ◌≤◌, length, List, [], ◌∷◌, ◌++◌, true, false, replicate, slice_set};
+ghost use Rattle.std.specs.Prelude.{◌≡◌, ◌<◌, ◌≤◌, ℕ, length, List, [], ◌∷◌, ◌++◌, true, false, replicate, slice_set};
 ghost use Rattle.std.specs.Prelude.{Some, slice_get, IfOk, OnOk, OnErr};
-ghost use Rattle.least.specs.Taken.{least_free};
+ghost use Rattle.least.specs.Taken.{is_taken, least_free};
 
 use crate::levels::Levels;
 use std::alloc::{AllocError, Global};
@@ -52,6 +52,13 @@ impl LeastFree {
         })
     }
 
+    /// The length.
+    fn len(&self) -> usize
+        ensures { result ≡ length self.now }
+    {
+        self.levels.len()
+    }
+
     /// The least free number: one that was given back, or the length.
     #[inline]
     pub fn least(&self) -> usize
@@ -98,8 +105,8 @@ impl LeastFree {
         self.levels.give_back(n);
     }
 
-    /// Takes the number at the length, which is one more then. This is the one call that takes memory of a set that
-    /// stands, and a set that lacks it stays as it was.
+    /// Takes the number at the length, which is one more then. This and [`make_room`](LeastFree::make_room)
+    /// are the calls that take memory of a set that stands, and a set that lacks it stays as it was.
     #[tactic(auto, using(crate::proofs::SpareLemmas::with_spare_grown))]
     pub fn grow(&mut self) -> Result<(), AllocError>
         requires { length self.old < NUMBERS_MAX }
@@ -107,5 +114,20 @@ impl LeastFree {
         ensures err { OnErr result (self.new ≡ self.old) }
     {
         self.levels.grow()
+    }
+    /// Makes the set longer than a number, by numbers that are free, so that taking it takes no memory. Where memory is
+    /// wanting no number is taken that wasn't.
+    pub fn make_room(&mut self, n: usize) -> Result<(), AllocError>
+        requires { n < NUMBERS_MAX }
+        ensures room { OnOk result (n < length self.new) }
+        ensures same { (k : ℕ) → is_taken self.new k ≡ is_taken self.old k }
+        ensures longer { length self.old ≤ length self.new }
+    {
+        while self.len() <= n {
+            let last = self.len();
+            self.grow()?;
+            self.give_back(last);
+        }
+        Ok(())
     }
 }

@@ -97,6 +97,15 @@ impl Levels {
         }
     }
 
+    /// The length.
+    #[tactic(auto, using(crate::proofs::LevelLemmas::length_taken_in))]
+    pub(crate) fn len(&self) -> usize
+        ensures value { result ≡ length self.now }
+        ensures bound { result ≤ NUMBERS_MAX }
+    {
+        self.len
+    }
+
     /// A set of length `n` in which every number is taken.
     #[tactic(auto, using(crate::proofs::LevelLemmas::no_word, crate::proofs::LevelLemmas::all_taken, crate::proofs::LevelLemmas::no_bit))]
     pub fn with_taken(alloc: Global, n: usize) -> Result<Levels, AllocError>
