@@ -7,6 +7,7 @@ mod numbers;
 mod pinning;
 mod pins;
 mod playing;
+mod reuse;
 mod rights;
 mod saved;
 mod schedules;

@@ -11,22 +11,22 @@ use Rattle.ob_tables.specs.Counts.{slot_handles, slot_handles_in}
 use Rattle.ob_tables.specs.Inheritance.{inherited}
 use Rattle.ob_tables.specs.Tables as tables
 use Rattle.ob_tables.specs.Tables.{HandleTables, IsBounded, table_of}
-use Rattle.ob_tables.proofs.Counting.{handles_among-with_child, handles_in-inherited, handles_in-among}
+use Rattle.ob_tables.proofs.Counting.{handles_among-with_table, handles_in-inherited, handles_in-among}
 use Rattle.ob_tables.proofs.Inheriting.{at-trimmed}
-use Rattle.ob_tables.proofs.SlotCounts.{one_in, slot_handles-with_child, slot_handles-few}
-use Rattle.ob_store.specs.Processes as spec
+use Rattle.ob_tables.proofs.SlotCounts.{one_in, slot_handles-with_table, slot_handles-few}
+use Rattle.ob_store.specs.Processes.{next_number}
 use Rattle.ob_store.specs.Objects.{ObjectsState, with_handle_at, with_handles_of}
 use Rattle.ob_store.specs.Agreement.{ObjectsInvariant}
 use Rattle.ob_store.specs.State as state
-use Rattle.ob_store.specs.State.{Whole, settled, by_slot}
+use Rattle.ob_store.specs.State.{Whole, next_process, next_thread, settled, by_slot}
 use Rattle.ob_store.specs.Parts.{PartsState, state_of, whole_of}
 use Rattle.ob_store.specs.Kept.{StoreInvariant, IsNamed}
 use Rattle.ob_store.proofs.BySlot.{recounted, count_few}
 use Rattle.ob_store.proofs.CountedLaws.{handles_at, handles_long}
 use Rattle.ob_store.proofs.NamedLaws.{entry_counted}
-use Rattle.ob_store.proofs.ListingLaws.{listing_child}
-use Rattle.ob_store.proofs.KeptLaws.{handled, kept_process, table_came}
-use Rattle.ob_store.proofs.PopulatedLaws.{populated_process}
+use Rattle.ob_store.proofs.ListingLaws.{listing_process}
+use Rattle.ob_store.proofs.GivenLaws.{IsFree, get_or-put, next_is_free, within-put}
+use Rattle.ob_store.proofs.KeptLaws.{handled, member_kept, member_live, member_populated, none_in, with_member}
 
 -- all but the counts of handles
 pub handles_stay : (places : List (Option Entry)) (s : ObjectsState)
@@ -52,19 +52,39 @@ handles_counted (Some e ∷ places) s k lt =
     grind (arith, nat_tests, at_place, handles_counted places (with_handle_at s (Some e)) k)
 
 module _ (p : PartsState) (kept : StoreInvariant p) (parent : ℕ) (w : Whole) (view : whole_of p ≡ w)
-    (table : parent < length w.state.tables) where
+    (table : parent < length w.state.tables)
+    (processes : next_process w.state ≤ w.state.limits.processes) (threads : next_thread w.state ≤ w.state.limits.threads)
+    where
   abbrev pub child_table : List (Option Entry)
   child_table = inherited (table_of p.tables.tables parent)
 
   abbrev ts : List (List (Option Entry))
   ts = p.tables.tables
 
+  -- its number
+  abbrev own : ℕ
+  own = next_number p.limits.reuse p.processes.processes
+
+  own_free : IsFree p.processes.processes own
+  own_free = next_is_free p.limits.reuse p.processes.processes kept.sound.processes_kept.processes_from_one
+
+  empty : table_of ts own ≡ []
+  empty = none_in p w view kept processes threads
+
   -- what is read of the new table
   pub child_read : (places : List (Option Entry)) (t : HandleTables) (child : ℕ) → places ≡ table_of t.tables child
-      → child ≡ length p.tables.tables
-      → t ≡ record p.tables { tables = tables.with_child p.tables.tables parent }
+      → child ≡ own → t ≡ record p.tables { tables = tables.with_table p.tables.tables own (Some parent) }
       → places ≡ inherited (table_of p.tables.tables parent)
-  child_read places t child read last copied = search (arith, get_or-append_seam)
+  child_read places t child read last copied =
+      let within : own ≤ length ts = omega (arith, kept.sound.processes_kept.tabled, own_free.within) in
+      grind (arith, nat_tests, get_or-put ts own child_table within own [])
+
+  -- and that it is there
+  pub child_within : (t : HandleTables) (child : ℕ) → child ≡ own
+      → t ≡ record p.tables { tables = tables.with_table p.tables.tables own (Some parent) } → child < length t.tables
+  child_within t child last copied =
+      let within : own ≤ length ts = omega (arith, kept.sound.processes_kept.tabled, own_free.within) in
+      rw (last, copied) (within-put ts own child_table within)
 
   -- what a child inherits has a body
   pub inherited_live : ObjectsInvariant p.objects → (places : List (Option Entry)) → places ≡ child_table → (i : ℕ) →
@@ -90,22 +110,22 @@ module _ (p : PartsState) (kept : StoreInvariant p) (parent : ℕ) (w : Whole) (
       omega (arith, few, all)
 
   handles_after : (with_handles_of p.objects (inherited (table_of p.tables.tables parent))).seen.handles
-      ≡ by_slot (length p.objects.objects) (λ k. slot_handles k (tables.with_child p.tables.tables parent))
+      ≡ by_slot (length p.objects.objects) (λ k. slot_handles k (tables.with_table p.tables.tables own (Some parent)))
   handles_after = recounted p.objects.seen.handles (with_handles_of p.objects child_table).seen.handles
       (length p.objects.objects) (λ k. slot_handles k ts)
-      (λ k. slot_handles k (tables.with_child ts parent)) kept.sound.counted.handles
+      (λ k. slot_handles k (tables.with_table ts own (Some parent))) kept.sound.counted.handles
       (handles_long_after child_table p.objects)
       (λ k lt.
       let long = handles_long p.objects.seen (length p.objects.objects) ts p.waits.waits kept.sound.counted in
       let more = handles_counted child_table p.objects k (omega (arith, long, lt)) in
       let at = handles_at p.objects.seen (length p.objects.objects) ts p.waits.waits kept.sound.counted k lt in
-      let sum = slot_handles-with_child k ts parent in
+      let sum = slot_handles-with_table k ts own (Some parent) empty in
       omega (arith, more, at, sum))
 
-  named_child : IsNamed p.objects.objects (tables.with_child p.tables.tables parent) p.waits.waits
+  named_child : IsNamed p.objects.objects (tables.with_table p.tables.tables own (Some parent)) p.waits.waits
   named_child = record {
     entries = λ id h. kept.sound.named.entries id
-        (let sum = handles_among-with_child id ts parent in
+        (let sum = handles_among-with_table id ts own (Some parent) empty in
         let fewer = handles_in-inherited id (table_of ts parent) in
         let among = handles_in-among id ts parent
         (rw (← view) at table) in
@@ -114,11 +134,7 @@ module _ (p : PartsState) (kept : StoreInvariant p) (parent : ℕ) (w : Whole) (
   }
 
   abbrev pub with_child : ℕ → ObjectsState → PartsState
-  with_child session objects = record p {
-    processes = spec.with_process p.processes session;
-    tables = record p.tables { tables = tables.with_child p.tables.tables parent };
-    objects = objects;
-  }
+  with_child session objects = record (with_member p (Some parent) session) { objects = objects }
 
   -- all of the objects but their counts of handles stays
   abbrev counted : ObjectsState
@@ -129,14 +145,25 @@ module _ (p : PartsState) (kept : StoreInvariant p) (parent : ℕ) (w : Whole) (
     };
   }
 
-  pub kept_child : (session : ℕ) → length w.state.processes ≤ w.state.limits.processes
-      → length w.state.threads ≤ w.state.limits.threads
+  pub kept_child : (session : ℕ)
       → StoreInvariant (with_child session (with_handles_of p.objects (inherited (table_of p.tables.tables parent))))
-  kept_child session processes threads =
-      let plain = (kept_process p session w view kept processes threads).sound in
-      let old = kept.sound.processes_kept in
-      let is : StoreInvariant (with_child session counted) = search (arith, handles_after, named_child, length-append, listing_child, populated_process, table_came, kept.populated, kept.settled, kept.sound.counted.blocks, kept.sound.formed, kept.sound.limited, kept.sound.listing, kept.sound.room, old.tabled, old.vacated, p.objects.births, p.objects.objects, p.processes.processes, p.processes.threads, p.rows, plain.of_live, plain.processes_kept.few_processes, plain.processes_kept.few_threads, plain.processes_kept.live, plain.processes_kept.processes_from_one, plain.processes_kept.tabled, plain.processes_kept.threads_from_one) in
-      search (arith, handles_stay, p.objects)
+  kept_child session = rw (handles_stay child_table p.objects) is
+    where
+      is : StoreInvariant (with_child session counted)
+      is = record {
+        sound = record {
+          limited = kept.sound.limited;
+          processes_kept = member_kept p w view kept processes threads (Some parent) session;
+          counted = record { handles = handles_after; blocks = kept.sound.counted.blocks };
+          named = named_child;
+          formed = kept.sound.formed;
+          of_live = member_live p w view kept processes threads (Some parent) session;
+          room = kept.sound.room;
+          listing = listing_process p.rows ts p.objects.objects p.objects.births kept.sound.listing own (Some parent) empty;
+        };
+        populated = member_populated p w view kept processes threads (Some parent) session;
+        settled = kept.settled;
+      }
 
   pub settled_child : (session : ℕ) → ◌≡◌ {A = Whole} (record {
     state = settled

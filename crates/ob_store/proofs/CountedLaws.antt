@@ -6,8 +6,8 @@ use Rattle.ob_rights.specs.declared.handle_flags.HandleFlags.{HandleFlags}
 use Rattle.ob_tables.specs.declared.entry.Entry.{Entry}
 use Rattle.ob_tables.specs.Table.{entry_at}
 use Rattle.ob_tables.specs.Counts.{slot_handles}
-use Rattle.ob_tables.specs.Tables.{table_of, with_process, with_entry_of, with_flags_of, without_entry_of, IsBounded}
-use Rattle.ob_tables.proofs.SlotCounts.{one_in-same, one_in-other, slot_handles-with_entry, slot_handles-without_entry, slot_handles-with_flags, slot_handles-with_process, slot_handles-few}
+use Rattle.ob_tables.specs.Tables.{table_of, with_table, with_entry_of, with_flags_of, without_entry_of, IsBounded}
+use Rattle.ob_tables.proofs.SlotCounts.{one_in-same, one_in-other, slot_handles-with_entry, slot_handles-without_entry, slot_handles-with_flags, slot_handles-with_table, slot_handles-few}
 use Rattle.ob_waits.specs.declared.wait.Wait.{Wait}
 use Rattle.ob_waits.specs.CountedBodies.{CountedBodies}
 use Rattle.ob_waits.specs.Waits.{Scene, settled, slot_blocks}
@@ -81,8 +81,11 @@ module _ (seen : CountedBodies) (n : ℕ) (ts : List (List (Option Entry))) (ws 
   counted_flags p value e flags found = search (arith, slot_handles-with_flags)
 
   -- a process comes
-  pub counted_process : IsCounted seen n (with_process ts) ws
-  counted_process = search (arith, slot_handles-with_process)
+  pub counted_process : (k : ℕ) → table_of ts k ≡ [] → IsCounted seen n (with_table ts k None) ws
+  counted_process k none =
+      let same : (slot : ℕ) → slot_handles slot (with_table ts k None) ≡ slot_handles slot ts =
+      λ slot. omega (arith, slot_handles-with_table slot ts k None none) in
+      search (arith, same)
 
   -- an object to which nothing refers leaves its slot
   pub counted_left : (bodies : List (Option Body)) (k : ℕ) → get_or seen.handles k 0 ≡ 0 → get_or seen.blocks k 0 ≡ 0

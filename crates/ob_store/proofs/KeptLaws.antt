@@ -18,22 +18,21 @@ use Rattle.ob_waits.specs.Rules.{HasBodies, WaitsHaveRoom}
 use Rattle.ob_waits.specs.Waits.{WaitList}
 use Rattle.ob_store.specs.declared.limits.Limits.{Limits}
 use Rattle.ob_store.specs.Processes as spec
-use Rattle.ob_store.specs.Processes.{ProcessesState}
+use Rattle.ob_store.specs.Processes.{ProcessesState, next_number}
 use Rattle.ob_store.specs.Objects.{Object, ObjectsState, KeptRest, kept_rest, with_handle_of, opened, open_slot}
 use Rattle.ob_store.specs.Agreement.{ObjectsInvariant}
 use Rattle.ob_store.specs.Parts.{PartsState, state_of, whole_of}
 use Rattle.ob_store.specs.Signaled.{SignaledState}
-use Rattle.ob_store.specs.State.{Whole, objects_of, settled, generation_of}
-use Rattle.ob_store.specs.Kept.{StoreInvariant, IsSound, IsCounted, AreFormed, AreOfLive, IsListing, ProcessesKept, IsNamed, IsLive}
+use Rattle.ob_store.specs.State.{Whole, objects_of, next_process, next_thread, settled, generation_of}
+use Rattle.ob_store.specs.Kept.{StoreInvariant, IsSound, IsCounted, AreFormed, AreOfLive, IsListing, IsPopulated, ProcessesKept, IsNamed, IsLive}
 use Rattle.ob_store.proofs.CountedLaws.{handles_at, handles_few, counted_flags, counted_placed, counted_process}
 use Rattle.ob_store.proofs.NamedLaws.{there_within, named_flags, named_placed, named_process}
 use Rattle.ob_store.proofs.BodyLaws.{of_live_more}
 use Rattle.ob_store.proofs.ListingLaws.{listing_flags, listing_process, listing_placed}
-use Rattle.ob_store.proofs.Places.{from_one_more}
 use Rattle.ob_store.proofs.PlacedLaws.{live_tabled}
 use Rattle.ob_store.proofs.PopulatedLaws.{populated_process, populated_thread}
 use Rattle.ob_store.proofs.SettledLaws.{settled_still}
-use Rattle.ob_store.proofs.ThreadListLaws.{live_more}
+use Rattle.ob_store.proofs.GivenLaws.{IsFree, live_put, next_is_free, process_kept, thread_kept}
 
 -- the table of one process changes, which stays empty where that isn't live
 pub table_changed : (limits : Limits) (l : ProcessesState) (ts : List (List (Option Entry))) (process : ℕ)
@@ -46,24 +45,6 @@ pub live_changed : (limits : Limits) (l : ProcessesState) (ts : List (List (Opti
     (table : List (Option Entry)) → IsLive l.processes process → ProcessesKept limits l ts
     → ProcessesKept limits l (set ts process table)
 live_changed limits l ts process table live = grind (arith, at_place)
-
--- a process comes with a table
-pub table_came : (ps : List (Option ℕ)) (ts : List (List (Option Entry))) (session : ℕ) (table : List (Option Entry))
-    → length ts ≡ length ps → ((q : ℕ) → get_or ps q None ≡ None → get_or ts q [] ≡ []) → (q : ℕ)
-    → get_or (ps ++ Some session ∷ []) q None ≡ None → get_or (ts ++ table ∷ []) q [] ≡ []
-table_came [] [] session table same each zero none = absurd cc
-table_came [] [] session table same each (suc q) none = refl
-table_came [] (t ∷ ts) session table same each q none = absurd (omega arith)
-table_came (p ∷ ps) [] session table same each q none = absurd (omega arith)
-table_came (p ∷ ps) (t ∷ ts) session table same each zero none = each zero none
-table_came (p ∷ ps) (t ∷ ts) session table same each (suc q) none =
-    table_came ps ts session table (omega arith) (λ r. each (suc r)) q none
-
--- what stands at a place stays there where one more comes at the end
-pub live_pushed : (xs : List (Option ℕ)) (x : Option ℕ) (n : ℕ) → IsLive xs n → IsLive (xs ++ x ∷ []) n
-live_pushed [] x n h = absurd (cc)
-live_pushed (y ∷ xs) x n h = elim n as (λ n. IsLive (y ∷ xs) n
-    → IsLive (y ∷ xs ++ x ∷ []) n) [ zero ↦ λ h. h | suc n ↦ λ h. live_pushed xs x n h ] h
 
 -- what is stored is what the state counts
 pub objects_are : (p : PartsState) → IsSound p → p.objects.seen ≡ objects_of (state_of p)
@@ -176,37 +157,85 @@ kept_flags p process value flags kept some = by (entry_at (table_of p.tables.tab
     by None found none = absurd (cc)
     by (Some e) found _ = search (arith, table_changed, counted_flags, listing_flags, named_flags, kept.sound.processes_kept.vacated)
 
--- a process comes
-abbrev pub with_process : PartsState → ℕ → PartsState
-with_process p session = record p {
-  processes = spec.with_process p.processes session;
-  tables = record p.tables { tables = tables.with_process p.tables.tables };
+-- a process comes with its first thread, and with what it inherits of another, if of one
+abbrev pub with_member : PartsState → Option ℕ → ℕ → PartsState
+with_member p parent session = record p {
+  processes = spec.with_process p.limits.reuse p.processes session;
+  tables =
+      record p.tables { tables = tables.with_table p.tables.tables (next_number p.limits.reuse p.processes.processes) parent };
 }
 
-pub kept_process : (p : PartsState) (session : ℕ) (w : Whole) → whole_of p ≡ w → StoreInvariant p
-    → length w.state.processes ≤ w.state.limits.processes → length w.state.threads ≤ w.state.limits.threads
-    → StoreInvariant (with_process p session)
-kept_process p session w view kept processes threads = record {
-  sound = record {
-    limited = kept.sound.limited;
-    processes_kept = grind (arith, at_place);
-    counted = counted_process p.objects.seen (length p.objects.objects) p.tables.tables p.waits.waits
-        kept.sound.counted;
-    named = named_process p.objects.objects p.tables.tables p.waits.waits kept.sound.named;
-    formed = kept.sound.formed;
-    of_live = search (arith, live_pushed);
-    room = kept.sound.room;
-    listing = listing_process p.rows p.tables.tables p.objects.objects p.objects.births kept.sound.listing;
-  };
-  populated = populated_process p.processes.processes p.processes.threads session kept.populated;
-  settled = kept.settled;
-}
+module _ (p : PartsState) (w : Whole) (view : whole_of p ≡ w) (kept : StoreInvariant p)
+    (processes : next_process w.state ≤ w.state.limits.processes) (threads : next_thread w.state ≤ w.state.limits.threads)
+    where
+  abbrev pub next : ℕ
+  next = next_number p.limits.reuse p.processes.processes
+
+  process_free : IsFree p.processes.processes next
+  process_free = next_is_free p.limits.reuse p.processes.processes kept.sound.processes_kept.processes_from_one
+
+  thread_free : IsFree p.processes.threads (next_number p.limits.reuse p.processes.threads)
+  thread_free = next_is_free p.limits.reuse p.processes.threads kept.sound.processes_kept.threads_from_one
+
+  -- its table has no entry yet
+  pub none_in : table_of p.tables.tables next ≡ []
+  none_in = kept.sound.processes_kept.vacated next process_free.none
+
+  pub member_kept : (parent : Option ℕ) (session : ℕ)
+      → ProcessesKept p.limits (with_member p parent session).processes (with_member p parent session).tables.tables
+  member_kept parent session = process_kept p.limits p.processes p.tables.tables next _ session _ process_free thread_free
+      (rw (← view) at processes) (rw (← view) at threads) kept.sound.processes_kept
+
+  pub member_live : (parent : Option ℕ) (session : ℕ)
+      → AreOfLive (with_member p parent session).processes.threads p.objects.seen.bodies p.waits.waits
+  member_live parent session = of_live_more p.processes.threads _ p.objects.seen.bodies p.waits.waits
+      (λ k. live_put p.processes.threads _ next k thread_free) kept.sound.of_live
+
+  pub member_populated : (parent : Option ℕ) (session : ℕ)
+      → IsPopulated (with_member p parent session).processes.processes (with_member p parent session).processes.threads
+  member_populated parent session = populated_process p.processes.processes p.processes.threads next _ session
+      process_free thread_free kept.populated
+
+  pub kept_process : (session : ℕ) → StoreInvariant (with_member p None session)
+  kept_process session = record {
+    sound = record {
+      limited = kept.sound.limited;
+      processes_kept = member_kept None session;
+      counted = counted_process p.objects.seen (length p.objects.objects) p.tables.tables p.waits.waits
+          kept.sound.counted next none_in;
+      named = named_process p.objects.objects p.tables.tables p.waits.waits kept.sound.named next none_in;
+      formed = kept.sound.formed;
+      of_live = member_live None session;
+      room = kept.sound.room;
+      listing = listing_process p.rows p.tables.tables p.objects.objects p.objects.births kept.sound.listing next None
+          none_in;
+    };
+    populated = member_populated None session;
+    settled = kept.settled;
+  }
 
 -- a thread comes
 abbrev pub with_thread : PartsState → ℕ → PartsState
-with_thread p process = record p { processes = spec.with_thread p.processes process }
+with_thread p process = record p { processes = spec.with_thread p.limits.reuse p.processes process }
 
-pub kept_thread : (p : PartsState) (process : ℕ) → StoreInvariant p → length p.processes.threads ≤ p.limits.threads
+pub kept_thread : (p : PartsState) (process : ℕ) → StoreInvariant p
+    → next_number p.limits.reuse p.processes.threads ≤ p.limits.threads
     → IsLive p.processes.processes process → StoreInvariant (with_thread p process)
-kept_thread p process kept threads live =
-    grind (arith, nat_tests, at_place, live_pushed, from_one_more, length-append, live_more, of_live_more, populated_thread)
+kept_thread p process kept few live =
+    let old = kept.sound.processes_kept in
+    let free = next_is_free p.limits.reuse p.processes.threads old.threads_from_one in
+    record {
+      sound = record {
+        limited = kept.sound.limited;
+        processes_kept = thread_kept p.limits p.processes p.tables.tables _ process free few live old;
+        counted = kept.sound.counted;
+        named = kept.sound.named;
+        formed = kept.sound.formed;
+        of_live = of_live_more p.processes.threads _ p.objects.seen.bodies p.waits.waits
+            (λ k. live_put p.processes.threads _ process k free) kept.sound.of_live;
+        room = kept.sound.room;
+        listing = kept.sound.listing;
+      };
+      populated = populated_thread p.processes.processes p.processes.threads _ process free kept.populated;
+      settled = kept.settled;
+    }

@@ -8,7 +8,6 @@ pub mod ListLaws
 pub mod TiedLaws
 pub mod BySlot
 pub mod ByPlace
-pub mod Places
 pub mod CountedLaws
 pub mod NamedLaws
 pub mod BodyLaws
@@ -23,7 +22,6 @@ pub mod TimerLaws
 pub mod WalkingLaws
 pub mod ClosingLaws
 pub mod NotedLaws
-pub mod ThreadListLaws
 pub mod LeftLaws
 pub mod UnderWayLaws
 pub mod EnoughLaws
@@ -62,3 +60,6 @@ pub mod TimeoutLaws
 pub mod ChildLaws
 pub mod ConsistentLaws
 pub mod StoredLaws
+pub mod GivenLaws
+pub mod MemberLaws
+pub mod NumberLaws

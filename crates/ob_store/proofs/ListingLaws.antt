@@ -1,5 +1,5 @@
 -- The names that are entered go on being the directory, and distinct, as handles and objects come and leave.
-use Rattle.std.proofs.Common.{◌≡◌, ℕ, ◌+◌, ◌<◌, ◌≤◌, [], ◌∷◌, ◌++◌, length, replicate, Some, None, refl, ap, ◌∙◌, sym, subst, arith, get_or, set, Bool, true, false, not, ◌&&◌, ltb, is_some, inl, inr}
+use Rattle.std.proofs.Common.{◌≡◌, ℕ, ◌+◌, ◌<◌, ◌≤◌, [], ◌∷◌, ◌++◌, length, replicate, Some, None, refl, ap, ◌∙◌, sym, subst, arith, get_or, set, Bool, true, false, not, ◌&&◌, ltb, is_some, inl, inr, Option}
 use Rattle.std.specs.Cmp.{both_ways}
 use Rattle.std.specs.List.{All, Contains, IsDistinct, filter}
 use Rattle.std.specs.Map.{keys_of}
@@ -21,8 +21,8 @@ use Rattle.ob_name.specs.Same.{same_name-Decides, same_name_equiv}
 use Rattle.ob_tables.specs.declared.entry.Entry.{Entry}
 use Rattle.ob_tables.specs.Counts.{handles_among, handles_in}
 use Rattle.ob_tables.specs.Table.{entry_at}
-use Rattle.ob_tables.specs.Tables.{table_of, with_child, with_entry_of, with_flags_of, with_process, without_entry_of}
-use Rattle.ob_tables.proofs.Counting.{found_counts, handles_among-with_child, handles_among-with_entry, handles_among-with_flags, handles_among-with_process, handles_among-without_entry, handles_in-among, handles_in-inherited, one_of, some_within}
+use Rattle.ob_tables.specs.Tables.{new_table, table_of, with_entry_of, with_flags_of, with_table, without_entry_of}
+use Rattle.ob_tables.proofs.Counting.{found_counts, handles_among-with_entry, handles_among-with_flags, handles_among-with_table, handles_among-without_entry, handles_in-among, handles_in-inherited, one_of, some_within}
 use Rattle.ob_store.specs.Objects.{Object, ObjectsState}
 use Rattle.ob_store.specs.Agreement.{AreBorn, IsAgreed}
 use Rattle.ob_store.specs.Directory.{rows_of}
@@ -37,11 +37,16 @@ ArePlaced objects = (k : ℕ) (o : Object) → get_or objects k None ≡ Some o 
 table_among : (id : Id) (ts : Tables) (p : ℕ) → handles_in id (table_of ts p) ≤ handles_among id ts
 table_among id ts p = search (arith, get_or_past, handles_in-among)
 
-child_has : (id : Id) (ts : Tables) (from : ℕ) → has_handles id (with_child ts from) ≡ has_handles id ts
-child_has id ts from =
-    let sum = handles_among-with_child id ts from in
-    let among = table_among id ts from in
-    let fewer = handles_in-inherited id (table_of ts from) in
+-- what a child inherits is of objects that have handles
+new_has : (id : Id) (ts : Tables) (from : Option ℕ) → handles_in id (new_table ts from) ≤ handles_among id ts
+new_has id ts None = omega arith
+new_has id ts (Some from) = omega (arith, table_among id ts from, handles_in-inherited id (table_of ts from))
+
+still_has_none : (id : Id) (ts : Tables) (p : ℕ) (from : Option ℕ) → table_of ts p ≡ []
+    → has_handles id (with_table ts p from) ≡ has_handles id ts
+still_has_none id ts p from none =
+    let sum = handles_among-with_table id ts p from none in
+    let fewer = new_has id ts from in
     search arith
 
 -- tables that differ by an entry: where its object has handles without it, the same objects have handles
@@ -137,11 +142,9 @@ module _ (rows : Rows) (ts : Tables) (objects : ObjectSlots) (births : ℕ)
   listing_alike ts' same = search (arith, rows_same)
 
   -- a process comes, without entries or with those that it inherits
-  pub listing_process : IsListing rows (with_process ts) objects births
-  listing_process = listing_alike (with_process ts) (λ k o at. ap (λ n. ltb 0 n) (handles_among-with_process o.id ts))
-
-  pub listing_child : (from : ℕ) → IsListing rows (with_child ts from) objects births
-  listing_child from = listing_alike (with_child ts from) (λ k o at. child_has o.id ts from)
+  pub listing_process : (p : ℕ) (from : Option ℕ) → table_of ts p ≡ []
+      → IsListing rows (with_table ts p from) objects births
+  listing_process p from none = listing_alike (with_table ts p from) (λ k o at. still_has_none o.id ts p from none)
 
   -- an entry has other flags
   pub listing_flags : (p value : ℕ) (e : Entry) (flags : HandleFlags) → entry_at (table_of ts p) value ≡ Some e

@@ -10,8 +10,8 @@ use Rattle.ob_rights.specs.declared.handle_flags.HandleFlags.{HandleFlags}
 use Rattle.ob_tables.specs.declared.entry.Entry.{Entry}
 use Rattle.ob_tables.specs.Table.{at, entry_at}
 use Rattle.ob_tables.specs.Counts.{handles_among, slot_handles}
-use Rattle.ob_tables.specs.Tables.{table_of, with_process, with_entry_of, with_flags_of, without_entry_of}
-use Rattle.ob_tables.proofs.Counting.{same_id-same, some_within, found_counts, handles_among-with_entry, handles_among-with_flags, handles_among-without_entry, handles_among-with_process}
+use Rattle.ob_tables.specs.Tables.{table_of, with_table, with_entry_of, with_flags_of, without_entry_of}
+use Rattle.ob_tables.proofs.Counting.{same_id-same, some_within, found_counts, handles_among-with_entry, handles_among-with_flags, handles_among-without_entry, handles_among-with_table}
 use Rattle.ob_tables.proofs.SlotCounts.{slot_handles-one}
 use Rattle.ob_waits.specs.declared.wait.Wait.{Wait}
 use Rattle.ob_waits.specs.Waits.{Scene, settled, nowhere, ids_of, slot_places, slot_blocks, blocks_in, blocks_among}
@@ -97,8 +97,8 @@ module _ (objects : List (Option Object)) (ts : List (List (Option Entry))) (ws 
   named_flags p value e flags found = search (arith, handles_among-with_flags)
 
   -- a process comes
-  pub named_process : IsNamed objects (with_process ts) ws
-  named_process = search (arith, handles_among-with_process)
+  pub named_process : (k : ℕ) → table_of ts k ≡ [] → IsNamed objects (with_table ts k None) ws
+  named_process k none = search (arith, handles_among-with_table)
 
   -- the waits settle
   pub named_settled : (first : Scene) (ws' : List (Option Wait)) → first.waits ≡ ws → ws' ≡ (settled first).waits

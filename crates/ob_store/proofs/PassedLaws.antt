@@ -1,6 +1,5 @@
 -- Numbers that no live thread of a process has are passed by.
 use Rattle.std.proofs.Common.{◌≡◌, ℕ, zero, suc, ◌+◌, ◌-◌, ◌<◌, ◌≤◌, length, Option, Some, None, refl, ap, ◌∙◌, sym, arith, get_or, Bool, true, false, cond}
-use Rattle.std.proofs.lemmas.List.{length-set, get_or_past}
 use Rattle.pin_words.specs.Keepers.{KeeperState}
 use Rattle.ob_store.specs.Parts.{PartsState}
 use Rattle.ob_store.specs.UnderWay.{IsEnding}
@@ -37,24 +36,21 @@ pub ending_passed : (first : KeeperState) (p : PartsState) (s : State) (process 
     → IsEnding first p (threads_ended s process a) → IsEnding first p (threads_ended s process b)
 ending_passed first p s process a b le none ending = search (arith, passed_to)
 
--- or on their way back
-pub ending_unpassed : (first : KeeperState) (p : PartsState) (s : State) (process a b : ℕ) → a ≤ b
-    → length s.threads ≤ a → IsEnding first p (threads_ended s process b) → IsEnding first p (threads_ended s process a)
-ending_unpassed first p s process a b le past ending =
-    rw (← passed_to s process a b le (λ t above below h. let e =
-    get_or_past (threads_ended s process a).threads t None (let long = threads_long s process a in
-    omega arith) in cc (e, h))) ending
-  where
-    threads_long : (s : State) (p n : ℕ) → length (threads_ended s p n).threads ≡ length s.threads
-    threads_long s p zero = refl
-    threads_long s p (suc n) = by (is_of p (get_or (threads_ended s p n).threads n None)) (threads_long s p n)
-      where
-        by : (b : Bool) → length (threads_ended s p n).threads ≡ length s.threads
-            → length (cond b (thread_ended (threads_ended s p n) n) (threads_ended s p n)).threads ≡ length s.threads
-        by true long = search (arith, length-set)
-        by false long = long
-
 -- the ends of threads leave all tables
 pub threads_tables : (s : State) (p n : ℕ) → (threads_ended s p n).tables ≡ s.tables
 threads_tables s p zero = refl
 threads_tables s p (suc n) = search (arith, threads_tables s p n)
+
+-- the next one of the process ends
+pub ending_ended : (first : KeeperState) (p p' : PartsState) (s : State) (process thread : ℕ)
+    → is_of process (get_or p.processes.threads thread None) ≡ true → IsEnding first p (threads_ended s process thread)
+    → IsEnding first p' (thread_ended (threads_ended s process thread) thread)
+    → IsEnding first p' (threads_ended s process (thread + 1))
+ending_ended first p p' s process thread its before after =
+    let same = ap (λ (x : State). is_of process (get_or x.threads thread None)) before.under_way.rest in
+    let more : thread + 1 ≡ suc thread = omega arith in
+    rw (more, sym same ∙ its) after
+
+-- a thread of the process
+pub its_own : (p : ℕ) (x : Option ℕ) → x ≡ Some p → is_of p x ≡ true
+its_own p x is = search arith

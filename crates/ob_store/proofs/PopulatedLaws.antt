@@ -4,13 +4,15 @@ use Rattle.std.proofs.Common.{◌≡◌, ℕ, ◌≢◌, zero, suc, ◌||◌, Bo
 use Rattle.std.specs.Prelude.{IsSome, is_none}
 use Rattle.std.specs.List.{list_any}
 use Rattle.std.proofs.lemmas.Bool.{cases_eq, eq-eqb}
-use Rattle.std.proofs.lemmas.List.Folds.{list_any-append}
+use Rattle.std.proofs.lemmas.Bool.Decides.{nat_tests}
 use Rattle.ob_store.specs.Ends.{after_thread_end, exited, process_ended, thread_ended, threads_ended}
 use Rattle.ob_store.specs.Kept.{IsLive, IsPopulated}
 use Rattle.ob_store.specs.Processes.{ProcessesState, is_of}
 use Rattle.ob_store.specs.SavedProcesses.{are_populated, is_populated}
 use Rattle.ob_store.specs.State.{State}
 use Rattle.ob_store.proofs.ByPlace.{below_at, below_from}
+use Rattle.ob_tables.specs.Tables.{put}
+use Rattle.ob_store.proofs.GivenLaws.{IsFree, any_put, get_or-put}
 use Rattle.ob_store.proofs.PlacedLaws.{live_within}
 
 -- as a test
@@ -25,14 +27,21 @@ populated_from l all q live = has (get_or l.processes q None) (list_any (is_of q
     has None some live pass = absurd (cc live)
     has (Some s) some live pass = pass
 
-pub populated_thread : (ps ts : List (Option ℕ)) (process : ℕ) → IsPopulated ps ts
-    → IsPopulated ps (ts ++ Some process ∷ [])
-populated_thread ps ts process populated q live = search (arith, list_any-append)
+pub populated_thread : (ps ts : List (Option ℕ)) (m process : ℕ) → IsFree ts m → IsPopulated ps ts
+    → IsPopulated ps (put ts m (Some process))
+populated_thread ps ts m process free populated q live =
+    search (arith, any_put (is_of q) ts m (Some process) refl free, populated q live)
 
 -- a process comes with its first thread
-pub populated_process : (ps ts : List (Option ℕ)) (session : ℕ) → IsPopulated ps ts
-    → IsPopulated (ps ++ Some session ∷ []) (ts ++ Some (length ps) ∷ [])
-populated_process ps ts session populated q live = grind (arith, at_place, list_any-append)
+pub populated_process : (ps ts : List (Option ℕ)) (n m session : ℕ) → IsFree ps n → IsFree ts m → IsPopulated ps ts
+    → IsPopulated (put ps n (Some session)) (put ts m (Some n))
+populated_process ps ts n m session p t populated q live = grind (
+  arith,
+  nat_tests,
+  any_put (is_of q) ts m (Some n) refl t,
+  get_or-put ps n (Some session) p.within q None,
+  populated q,
+)
 
 -- each live process but one has a live thread
 abbrev Besides : ℕ → State → Type 0

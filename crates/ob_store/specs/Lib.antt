@@ -1,6 +1,7 @@
 pub mod Limits
 pub mod Processes
-pub mod ThreadLists
+pub mod Numbers
+pub mod Members
 pub mod Objects
 pub mod Agreement
 pub mod State

@@ -1,5 +1,5 @@
 -- The ranges of a manager's limits.
-use Rattle.std.specs.Prelude.{ℕ, ◌≤◌}
+use Rattle.std.specs.Prelude.{ℕ, ◌+◌, ◌≤◌, Bool, if◌then◌else◌}
 
 -- each number is within the range of its limit
 pub record AreInRange (slots processes threads handles waits max_pins max_gen max_recursion : ℕ) : Type 0 where
@@ -11,3 +11,8 @@ pub record AreInRange (slots processes threads handles waits max_pins max_gen ma
   pub max_pins_in_range : (1 ≤ max_pins) × (max_pins ≤ 1073741823)
   pub max_gen_in_range : (1 ≤ max_gen) × (max_gen ≤ 4294967295)
   pub max_recursion_in_range : (1 ≤ max_recursion) × (max_recursion ≤ 2147483647)
+
+-- the last number of limits in a savestate: the greatest recursion, with the highest of 32 bits set where numbers come
+-- back
+abbrev pub recursion_number : ℕ → Bool → ℕ
+recursion_number max_recursion reuse = if reuse then max_recursion + 2147483648 else max_recursion

@@ -1,8 +1,8 @@
--- The live processes and threads. A number is a place of a list; place 0 has nothing, since number 0 is never given,
--- and the next number is the length.
-use Rattle.std.specs.Prelude.{◌≡◌, ℕ, ◌==◌, ◌<◌, Bool, false, List, [], ◌∷◌, ◌++◌, Option, Some, None, length, slice_index_or}
-use Rattle.ob_tables.specs.declared.entry.Entry.{Entry}
-use Rattle.ob_tables.specs.Tables as tables
+-- The live processes and threads. A number is a place of a list; place 0 has nothing, since number 0 is never given, and
+-- a number that is gone has None.
+use Rattle.std.specs.Prelude.{◌≡◌, ℕ, ◌+◌, ◌==◌, ◌<◌, Bool, false, if◌then◌else◌, is_none, List, [], ◌∷◌, Option, Some, None, length, slice_index_or}
+use Rattle.std.specs.List.{position_or_len}
+use Rattle.ob_tables.specs.Tables.{put}
 
 pub record ProcessesState : Type 0 where
   pub processes : List (Option ℕ)  -- the session of each live process
@@ -13,24 +13,32 @@ pub record IsFromOne (numbers : List (Option ℕ)) : Type 0 where
   pub not_empty : 0 < length numbers
   pub none : slice_index_or numbers 0 None ≡ None
 
+-- the least number above 0 that no live one has
+abbrev pub least_gone : List (Option ℕ) → ℕ
+least_gone [] = 1
+least_gone (zero ∷ numbers) = position_or_len is_none numbers + 1
+
+-- The number that is given next: one that never was or, where numbers come back, the least that no live one has.
+abbrev pub next_number : Bool → List (Option ℕ) → ℕ
+next_number reuse numbers = if reuse then least_gone numbers else length numbers
+
+-- it is given to something
+abbrev pub given : Bool → List (Option ℕ) → ℕ → List (Option ℕ)
+given reuse numbers value = put numbers (next_number reuse numbers) (Some value)
+
 abbrev pub no_processes : ProcessesState
 no_processes = record { processes = None ∷ []; threads = None ∷ [] }
 
--- the next process, of a session, with the next thread
-abbrev pub with_process : ProcessesState → ℕ → ProcessesState
-with_process l session = record {
-  processes = l.processes ++ Some session ∷ [];
-  threads = l.threads ++ Some (length l.processes) ∷ [];
+-- a new process of a session, with its first thread
+abbrev pub with_process : Bool → ProcessesState → ℕ → ProcessesState
+with_process reuse l session = record {
+  processes = given reuse l.processes session;
+  threads = given reuse l.threads (next_number reuse l.processes);
 }
 
--- the table of the next process: an empty one, or one with what it inherits of a parent
-abbrev pub with_table : List (List (Option Entry)) → Option ℕ → List (List (Option Entry))
-with_table ts None = tables.with_process ts
-with_table ts (Some parent) = tables.with_child ts parent
-
--- the next thread, of a process
-abbrev pub with_thread : ProcessesState → ℕ → ProcessesState
-with_thread l process = record l { threads = l.threads ++ Some process ∷ [] }
+-- a new thread of a process
+abbrev pub with_thread : Bool → ProcessesState → ℕ → ProcessesState
+with_thread reuse l process = record l { threads = given reuse l.threads process }
 
 -- whether this stands at a number: the process, at the number of a live thread
 abbrev pub is_of : ℕ → Option ℕ → Bool

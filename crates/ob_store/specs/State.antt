@@ -19,9 +19,10 @@ use Rattle.ob_waits.specs.Waits.{Scene, blocks_among, slot_blocks}
 use Rattle.ob_waits.specs.Ends.{settled_plainly, with_ends}
 use Rattle.ob_store.specs.declared.limits.Limits.{Limits}
 use Rattle.ob_store.specs.Objects.{Object, ObjectAttributes}
+use Rattle.ob_store.specs.Processes.{given, next_number}
 
--- Numbers of processes, threads and waits are places of lists. Number 0 is never given, so place 0 has nothing, and the
--- next number is the length. A number that is gone has None.
+-- Numbers of processes, threads and waits are places of lists. Number 0 is never given, so place 0 has nothing. A number
+-- that is gone has None.
 pub record State : Type 0 where
   pub limits : Limits
   pub processes : List (Option ℕ)  -- the session of each live process
@@ -83,21 +84,30 @@ settled s = with_scene s (with_ends (settled_plainly (scene_of s)))
 abbrev pub is_full : State → ℕ → Bool
 is_full s process = entries_in (tables.table_of s.tables process) == s.limits.handles
 
--- a new process of a session, with its first thread
-abbrev pub with_process : State → ℕ → State
-with_process s session = record s {
-  processes = s.processes ++ Some session ∷ [];
-  threads = s.threads ++ Some (length s.processes) ∷ [];
-  tables = tables.with_process s.tables;
+-- the numbers of the next process and of the next thread
+abbrev pub next_process : State → ℕ
+next_process s = next_number s.limits.reuse s.processes
+
+abbrev pub next_thread : State → ℕ
+next_thread s = next_number s.limits.reuse s.threads
+
+-- a new process of a session with its first thread, and with what it inherits of another, if of one
+abbrev pub with_member : State → Option ℕ → ℕ → State
+with_member s parent session = record s {
+  processes = given s.limits.reuse s.processes session;
+  threads = given s.limits.reuse s.threads (next_process s);
+  tables = tables.with_table s.tables (next_process s) parent;
 }
 
--- a new process of a session with its first thread, and with what it inherits of another
+abbrev pub with_process : State → ℕ → State
+with_process s session = with_member s None session
+
 abbrev pub with_child : State → ℕ → ℕ → State
-with_child s parent session = record (with_process s session) { tables = tables.with_child s.tables parent }
+with_child s parent session = with_member s (Some parent) session
 
 -- a new thread of a process
 abbrev pub with_thread : State → ℕ → State
-with_thread s process = record s { threads = s.threads ++ Some process ∷ [] }
+with_thread s process = record s { threads = given s.limits.reuse s.threads process }
 
 -- a new entry at the least free value of a process
 abbrev pub with_entry : State → ℕ → Entry → State

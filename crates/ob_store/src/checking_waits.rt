@@ -89,7 +89,7 @@ fn waits_stand(
 {
     // It tells the proof that a thread has one wait.
     let _ = waits.wait_of(0);
-    for thread in 0..processes.next_thread() {
+    for thread in 0..processes.thread_places() {
         if !wait_stands(objects, limits.max_recursion, processes, waits, thread) {
             return false;
         }

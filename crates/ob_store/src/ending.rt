@@ -103,30 +103,15 @@ impl<K: PinKeeper> Parts<K> {
         self.processes.end_thread(thread);
     }
 
-    /// Ends a thread, if it is a live one of the process.
-    fn end_of(&mut self, process: u32, thread: u32)
-        ensures carries { Carries self.old self.new (λ s. if is_of process (slice_index_or s.threads thread None)
-            then thread_ended s thread else s) }
-        ensures count { length self.new.processes.threads ≡ length self.old.processes.threads }
-        ensures ended { slice_index_or self.new.processes.threads thread None ≡ Some process → ⊥ }
-        ensures none_comes { (t q : ℕ) → slice_index_or self.new.processes.threads t None ≡ Some q
-            → slice_index_or self.old.processes.threads t None ≡ Some q }
-    {
-        if self.processes.process(thread) == Some(process) {
-            self.end_one(thread);
-        }
-    }
-
-    /// Ends the threads of a process, by rising number. It looks at the threads that the process was given.
+    /// Ends the live threads of a process, by rising number. It looks at no other thread.
     fn end_all(&mut self, process: u32)
         ensures carries { Carries self.old self.new (λ s. threads_ended s process (length self.old.processes.threads)) }
         ensures ended { (t : ℕ) → slice_index_or self.new.processes.threads t None ≡ Some process → ⊥ }
     {
-        let end = self.processes.next_thread();
-        let mut thread = self.processes.first_of(process);
-        while thread < end {
-            self.end_of(process, thread);
-            thread = self.processes.next_of(process, thread);
+        let mut from = 0;
+        while let Some(thread) = self.processes.thread_from(process, from) {
+            self.end_one(thread);
+            from = thread + 1;
         }
     }
 
@@ -203,8 +188,8 @@ impl<K: PinKeeper> Store<K> {
     }
 
     /// Ends a live process: its threads end by rising number, then its entries leave by rising value, and the waits
-    /// settle once. It looks at the threads that the process was given, at no slot but those of their mutexes and of
-    /// the handles that leave, and of the pending waits only at those for the abandoned mutexes.
+    /// settle once. It looks at no other thread, at no slot but those of their mutexes and of the handles that leave, and
+    /// of the pending waits only at those for the abandoned mutexes.
     pub fn exit(&mut self, process: u32)
         requires live { IsSome (slice_index_or self.old.state.processes process None) }
         ensures state { self.new.state ≡ settled (exited self.old.state process) }

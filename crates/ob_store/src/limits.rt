@@ -1,19 +1,35 @@
-ghost use Rattle.std.specs.Prelude.{◌≡◌, ◌↔◌, IsOk, IfErr, IfOk};
-ghost use Rattle.ob_store.specs.Limits.{AreInRange};
+ghost use Rattle.std.specs.Prelude.{◌≡◌, ◌≤◌, ◌↔◌, IsOk, IfErr, IfOk, false, true};
+ghost use Rattle.ob_store.specs.Limits.{AreInRange, recursion_number};
 
 use ob_codec::{Cursor, ReadFault, Spelled, TextFault};
 use ob_rights::Fault;
 use pin_core::Shape;
 use std::alloc::{AllocError, Global};
 
+/// What is added to the last number of a savestate's limits where numbers come back: one more than it can be.
+const REUSE: u32 = 2_147_483_648;
+
+/// The last number of limits in a savestate.
+fn recursion_number(max_recursion: u32, reuse: bool) -> u32
+    requires { max_recursion ≤ 2147483647 }
+    ensures { result ≡ recursion_number max_recursion reuse }
+{
+    if reuse {
+        max_recursion + REUSE
+    } else {
+        max_recursion
+    }
+}
+
 /// How much a manager may hold. The ranges and the defaults are this project's own (*profile*).
 #[derive(Clone, Copy, Debug, PartialEq, Eq)]
 pub struct Limits {
     /// Slots of the arena: 1 to 65,536, by default 64.
     pub slots: u32,
-    /// Process numbers ever given: 1 to 65,536, by default 64.
+    /// Process numbers: those ever given, or those of live processes where numbers come back. 1 to 65,536, by default
+    /// 64.
     pub processes: u32,
-    /// Thread numbers ever given: 1 to 65,536, by default 256.
+    /// Thread numbers, counted alike: 1 to 65,536, by default 256.
     pub threads: u32,
     /// Entries of one handle table: 1 to 16,384, by default 1,024.
     pub handles: u32,
@@ -25,6 +41,9 @@ pub struct Limits {
     pub max_gen: u32,
     /// Recursion of a mutex: 1 to 2,147,483,647, the default.
     pub max_recursion: u32,
+    /// Whether numbers come back: then a new process or thread gets the least number that no live one has, as Windows
+    /// gives process and thread Ids again. By default each number is given once. [`with_reuse`](Limits::with_reuse) sets it.
+    pub reuse: bool,
     pub ghost in_range: { AreInRange slots processes threads handles waits max_pins max_gen max_recursion },
 }
 
@@ -50,6 +69,7 @@ impl Limits {
         ensures max_pins { IfOk result (λ limits. limits.max_pins ≡ max_pins) }
         ensures max_gen { IfOk result (λ limits. limits.max_gen ≡ max_gen) }
         ensures max_recursion { IfOk result (λ limits. limits.max_recursion ≡ max_recursion) }
+        ensures once { IfOk result (λ limits. limits.reuse ≡ false) }
         ensures refused { IfErr result (λ fault. fault ≡ Fault.Parameter) }
     {
         if slots < 1
@@ -81,7 +101,16 @@ impl Limits {
             max_pins,
             max_gen,
             max_recursion,
+            reuse: false,
         })
+    }
+
+    /// The same limits, for a manager whose numbers come back, or are each given once.
+    pub fn with_reuse(mut self, reuse: bool) -> Limits
+        ensures { result ≡ record self { reuse = reuse } }
+    {
+        self.reuse = reuse;
+        self
     }
 }
 
@@ -101,7 +130,8 @@ impl Limits {
     }
 }
 
-/// Eight numbers of four bytes, in the order of the fields; [`TextFault::Value`] where one is out of its range.
+/// Eight numbers of four bytes, in the order of the fields, to the last of which 2,147,483,648 is added where numbers
+/// come back; [`TextFault::Value`] where one is out of its range.
 impl Spelled for Limits {
     ghost use Rattle.ob_codec.specs.Spelling.{Any};
     ghost use Rattle.ob_store.specs.SavedLimits.{limits_at, limits_text};
@@ -121,7 +151,7 @@ impl Spelled for Limits {
         self.waits.write(out)?;
         self.max_pins.write(out)?;
         self.max_gen.write(out)?;
-        self.max_recursion.write(out)
+        recursion_number(self.max_recursion, self.reuse).write(out)
     }
 
     fn read(_alloc: Global, from: &mut Cursor<'_>) -> Result<Limits, ReadFault> {
@@ -132,7 +162,7 @@ impl Spelled for Limits {
         let waits = from.four()?;
         let max_pins = from.four()?;
         let max_gen = from.four()?;
-        let max_recursion = from.four()?;
+        let last = from.four()?;
         match Limits::checked(
             slots,
             processes,
@@ -141,9 +171,9 @@ impl Spelled for Limits {
             waits,
             max_pins,
             max_gen,
-            max_recursion,
+            last % REUSE,
         ) {
-            Ok(limits) => Ok(limits),
+            Ok(limits) => Ok(limits.with_reuse(last >= REUSE)),
             Err(_) => Err(ReadFault::Text(TextFault::Value)),
         }
     }
@@ -161,6 +191,7 @@ impl Default for Limits {
         ensures max_pins { result.max_pins ≡ 1073741823 }
         ensures max_gen { result.max_gen ≡ 4294967295 }
         ensures max_recursion { result.max_recursion ≡ 2147483647 }
+        ensures once { result.reuse ≡ false }
     {
         Limits {
             slots: 64,
@@ -171,6 +202,7 @@ impl Default for Limits {
             max_pins: 1_073_741_823,
             max_gen: 4_294_967_295,
             max_recursion: 2_147_483_647,
+            reuse: false,
         }
     }
 }

@@ -61,7 +61,7 @@ fn read_tables(
     requires some { 1 ≤ length processes.now.processes }
     ensures { Gives (λ tables. tables) result (tables_for limits processes.now.processes from.old) from.new }
 {
-    let given = processes.next_process();
+    let given = processes.process_places();
     let tables = Tables::read(alloc, limits.processes, limits.handles, given, from)?;
     if !are_vacated(processes, &tables, given) {
         return Err(ReadFault::Text(TextFault::Value));
@@ -101,7 +101,7 @@ fn read_lists(
         alloc,
         limits.waits,
         clock,
-        processes.next_thread(),
+        processes.thread_places(),
         limits.slots,
         from,
     )?;

@@ -10,7 +10,7 @@ ghost use Rattle.ob_tables.specs.Tables.{table_of};
 ghost use Rattle.ob_waits.specs.Waits.{number_of};
 ghost use Rattle.ob_store.specs.Objects.{object_of, tag_of};
 ghost use Rattle.ob_store.specs.Owners.{owns_at};
-ghost use Rattle.ob_store.specs.State.{handles_of, blocks_of, id_at, is_full, opening, shape_of, vacancy};
+ghost use Rattle.ob_store.specs.State.{handles_of, blocks_of, id_at, is_full, next_process, next_thread, opening, shape_of, vacancy};
 ghost use Rattle.ob_store.specs.Consistent.{IsConsistent};
 ghost use Rattle.ob_store.specs.Directory.{directory_of};
 
@@ -107,16 +107,16 @@ impl<K: PinKeeper> Store<K> {
 
     /// The next process number.
     pub fn next_process(&self) -> u32
-        ensures { result ≡ length self.now.state.processes }
+        ensures { result ≡ next_process self.now.state }
     {
-        self.parts.processes.next_process()
+        self.parts.processes.next_process(self.parts.limits.reuse)
     }
 
     /// The next thread number.
     pub fn next_thread(&self) -> u32
-        ensures { result ≡ length self.now.state.threads }
+        ensures { result ≡ next_thread self.now.state }
     {
-        self.parts.processes.next_thread()
+        self.parts.processes.next_thread(self.parts.limits.reuse)
     }
 
     /// The session of a live process. Such a process has a handle table.

@@ -1,7 +1,8 @@
 -- How the number of entries, and of those that name an object, changes with each change of the tables.
 use Rattle.ob_codec.proofs.AtPlace.{at_place}
 use Rattle.std.proofs.lemmas.Grind.{common_steps}
-use Rattle.std.proofs.Common.{◌≡◌, ℕ, zero, suc, ◌+◌, ◌<◌, ◌≤◌, List, [], ◌∷◌, length, Option, Some, None, refl, arith, get_or, set, map, Bool, true, false, cond, ltb}
+use Rattle.std.proofs.Common.{◌≡◌, ℕ, zero, suc, ◌+◌, ◌<◌, ◌≤◌, List, [], ◌∷◌, length, Option, Some, None, refl, arith, get_or, set, map, Bool, true, false, cond, ltb, inl, inr}
+use Rattle.std.proofs.lemmas.Bool.{cases_lt}
 use Rattle.std.specs.Prelude.{count_by, sum_by}
 use Rattle.std.proofs.lemmas.Option.{none-some}
 use Rattle.std.proofs.lemmas.List.Sums.{sum_by-cons, sum_by-append, sum_by-set, get_or-le-sum_by}
@@ -13,7 +14,7 @@ use Rattle.ob_tables.specs.declared.entry.Entry.{Entry}
 use Rattle.ob_tables.specs.Table.{place_of, entry_at, with_entry, without_entry, with_flags}
 use Rattle.ob_tables.specs.Inheritance.{before, trimmed, inheritable, inherited}
 use Rattle.ob_tables.specs.Counts.{names, handles_in, handles_among}
-use Rattle.ob_tables.specs.Tables.{table_of, with_entry_of, without_entry_of, with_flags_of, with_process, with_child, without_entries}
+use Rattle.ob_tables.specs.Tables.{new_table, table_of, with_entry_of, without_entry_of, with_flags_of, with_table, without_entries}
 
 -- 1 for an entry of the object, and else 0
 abbrev pub one_of : Id → Entry → ℕ
@@ -85,12 +86,13 @@ module _ (p : Option Entry → Bool) (none : p None ≡ false) where
       → entry_at (table_of ts k) value ≡ Some e → counted p (with_flags_of ts k value flags) ≡ counted p ts
   counted-with_flags same ts k value e flags is = search (arith, found_table, count_by-with_flags, sum_by-set)
 
-  pub counted-with_process : (ts : List (List (Option Entry))) → counted p (with_process ts) ≡ counted p ts
-  counted-with_process ts = search (arith, sum_by-append)
-
-  pub counted-with_child : (ts : List (List (Option Entry))) (from : ℕ)
-      → counted p (with_child ts from) ≡ counted p ts + count_by p (inherited (table_of ts from))
-  counted-with_child ts from = search (arith, sum_by-append)
+  -- a table comes where none had an entry
+  pub counted-with_table : (ts : List (List (Option Entry))) (k : ℕ) (from : Option ℕ) → table_of ts k ≡ []
+      → counted p (with_table ts k from) ≡ counted p ts + count_by p (new_table ts from)
+  counted-with_table ts k from none = elim (cases_lt k (length ts)) [
+    | inl lt ↦ search (arith, sum_by-set)
+    | inr le ↦ search (arith, sum_by-append)
+  ]
 
   pub counted-without_entries : (ts : List (List (Option Entry))) (k : ℕ) → k < length ts
       → counted p (without_entries ts k) + count_by p (table_of ts k) ≡ counted p ts
@@ -130,13 +132,10 @@ pub handles_among-with_flags : (id : Id) (ts : List (List (Option Entry))) (p va
     → handles_among id (with_flags_of ts p value flags) ≡ handles_among id ts
 handles_among-with_flags id = search (arith, counted-with_flags)
 
-pub handles_among-with_process : (id : Id) (ts : List (List (Option Entry)))
-    → handles_among id (with_process ts) ≡ handles_among id ts
-handles_among-with_process id = counted-with_process (names id) refl
-
-pub handles_among-with_child : (id : Id) (ts : List (List (Option Entry))) (from : ℕ)
-    → handles_among id (with_child ts from) ≡ handles_among id ts + handles_in id (inherited (table_of ts from))
-handles_among-with_child id = counted-with_child (names id) refl
+pub handles_among-with_table : (id : Id) (ts : List (List (Option Entry))) (k : ℕ) (from : Option ℕ)
+    → table_of ts k ≡ []
+    → handles_among id (with_table ts k from) ≡ handles_among id ts + handles_in id (new_table ts from)
+handles_among-with_table id = counted-with_table (names id) refl
 
 pub handles_among-without_entries : (id : Id) (ts : List (List (Option Entry))) (p : ℕ) → p < length ts
     → handles_among id (without_entries ts p) + handles_in id (table_of ts p) ≡ handles_among id ts

@@ -4,3 +4,4 @@ pub mod Limits
 pub mod Counting
 pub mod SlotCounts
 pub mod Bounds
+pub mod NewTables

@@ -11,8 +11,8 @@ use Rattle.ob_tables.specs.declared.entry.Entry.{Entry}
 use Rattle.ob_tables.specs.Table.{at, entry_at}
 use Rattle.ob_tables.specs.Inheritance.{inherited}
 use Rattle.ob_tables.specs.Counts.{names, names_slot, handles_in, handles_among, slot_handles_in, slot_handles}
-use Rattle.ob_tables.specs.Tables.{table_of, with_process, with_child, with_entry_of, without_entry_of, with_flags_of, without_entries, IsBounded}
-use Rattle.ob_tables.proofs.Counting.{counted-with_child, counted-with_entry, counted-with_flags, counted-with_process, counted-without_entries, same_id-same}
+use Rattle.ob_tables.specs.Tables.{new_table, table_of, with_table, with_entry_of, without_entry_of, with_flags_of, without_entries, IsBounded}
+use Rattle.ob_tables.proofs.Counting.{counted-with_entry, counted-with_flags, counted-with_table, counted-without_entries, same_id-same}
 
 -- 1 for an entry of the object in the slot, and else 0
 abbrev pub one_in : ℕ → Entry → ℕ
@@ -38,14 +38,10 @@ pub slot_handles-with_flags : (slot : ℕ) (ts : List (List (Option Entry))) (p 
     → slot_handles slot (with_flags_of ts p value flags) ≡ slot_handles slot ts
 slot_handles-with_flags slot = search (arith, counted-with_flags)
 
-pub slot_handles-with_process : (slot : ℕ) (ts : List (List (Option Entry)))
-    → slot_handles slot (with_process ts) ≡ slot_handles slot ts
-slot_handles-with_process slot = counted-with_process (names_slot slot) refl
-
-pub slot_handles-with_child : (slot : ℕ) (ts : List (List (Option Entry))) (from : ℕ)
-    → slot_handles slot (with_child ts from) ≡ slot_handles slot ts
-    + slot_handles_in slot (inherited (table_of ts from))
-slot_handles-with_child slot = counted-with_child (names_slot slot) refl
+pub slot_handles-with_table : (slot : ℕ) (ts : List (List (Option Entry))) (k : ℕ) (from : Option ℕ)
+    → table_of ts k ≡ []
+    → slot_handles slot (with_table ts k from) ≡ slot_handles slot ts + slot_handles_in slot (new_table ts from)
+slot_handles-with_table slot = counted-with_table (names_slot slot) refl
 
 pub slot_handles-without_entries : (slot : ℕ) (ts : List (List (Option Entry))) (p : ℕ) → p < length ts
     → slot_handles slot (without_entries ts p) + slot_handles_in slot (table_of ts p) ≡ slot_handles slot ts

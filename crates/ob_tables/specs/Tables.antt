@@ -1,5 +1,5 @@
--- The handle tables of all processes, by their numbers. Number 0 is never given: the next number is the length.
-use Rattle.std.specs.Prelude.{ℕ, ◌+◌, ◌≤◌, List, [], ◌∷◌, ◌++◌, length, Option, slice_index_or, slice_set}
+-- The handle tables of all processes, by their numbers. Number 0 is never given.
+use Rattle.std.specs.Prelude.{ℕ, ◌+◌, ◌≤◌, nat_lt, List, [], ◌∷◌, ◌++◌, length, Option, Some, None, if◌then◌else◌, slice_index_or, slice_set}
 use Rattle.ob_rights.specs.declared.handle_flags.HandleFlags.{HandleFlags}
 use Rattle.ob_tables.specs.declared.entry.Entry.{Entry}
 use Rattle.ob_tables.specs.Table.{with_entry, without_entry, with_flags}
@@ -34,6 +34,19 @@ with_process tables = tables ++ [] ∷ []
 -- the next process, with what it inherits of another
 abbrev pub with_child : List (List (Option Entry)) → ℕ → List (List (Option Entry))
 with_child tables from = tables ++ inherited (table_of tables from) ∷ []
+
+-- something comes to a place of a list, or behind the last
+abbrev pub put : {A : Type 0} → List A → ℕ → A → List A
+put xs n x = if nat_lt n (length xs) then slice_set xs n x else xs ++ x ∷ []
+
+-- the table of a new process: without an entry, or with what it inherits of another
+abbrev pub new_table : List (List (Option Entry)) → Option ℕ → List (Option Entry)
+new_table tables None = []
+new_table tables (Some parent) = inherited (table_of tables parent)
+
+-- it comes to the number of the process: the next one, or that of a process that is gone
+abbrev pub with_table : List (List (Option Entry)) → ℕ → Option ℕ → List (List (Option Entry))
+with_table tables process parent = put tables process (new_table tables parent)
 
 -- a process loses all its entries
 abbrev pub without_entries : List (List (Option Entry)) → ℕ → List (List (Option Entry))

@@ -1,13 +1,13 @@
 ghost use Rattle.std.specs.Prelude.{[], ◌∷◌, ◌++◌, ◌≡◌, ◌↔◌, ◌⊎◌, ◌+◌, ◌<◌, ◌≤◌, Err};
-ghost use Rattle.std.specs.Prelude.{IfErr, IfOk, OnErr, OnOk, IsSome, IsTrue, length, nat_le, nat_lt, ◌&&◌, true};
+ghost use Rattle.std.specs.Prelude.{IfErr, IfOk, IfSome, OnErr, OnOk, IsSome, IsTrue, length, nat_le, nat_lt, ◌&&◌, true};
 ghost use Rattle.std.specs.List.{list_all};
 ghost use Rattle.ob_codec.specs.Reading.{Gives};
 ghost use Rattle.ob_rights.specs.declared.fault.Fault.TheVariants.{Limit, Memory};
 ghost use Rattle.ob_tables.specs.Table.{entry_at, free_place, is_packed, value_of};
 ghost use Rattle.ob_tables.specs.Counts.{entries_in};
 ghost use Rattle.ob_tables.specs.Spelling.{TablesFit, is_short, tables_at, tables_text};
-ghost use Rattle.ob_tables.specs.Tables.{table_of, with_child, with_entry_of, with_flags_of, with_process};
-ghost use Rattle.ob_tables.specs.Tables.{without_entries, without_entry_of, IsBounded};
+ghost use Rattle.ob_tables.specs.Tables.{table_of, with_child, with_entry_of, with_flags_of, with_process, with_table};
+ghost use Rattle.ob_tables.specs.Tables.{new_table, without_entries, without_entry_of, IsBounded};
 
 use crate::entry::Entry;
 use crate::table::{HANDLES_MAX, Table};
@@ -22,7 +22,8 @@ pub const PROCESSES_MAX: u32 = 65_536;
 
 /// The handle tables of all processes, by their numbers.
 ///
-/// Process numbers go from 1 and are never given again. Handle values are 4, 8, 12 and so on, and the lowest two bits
+/// Process numbers go from 1. [`add_process`](Tables::add_process) and [`copy_inheritable`](Tables::copy_inheritable)
+/// give each once, [`add_table`](Tables::add_table) any that is free. Handle values are 4, 8, 12 and so on, and the lowest two bits
 /// of a value that is handed in are ignored ([Kernel objects]); values 0 to 3 name nothing.
 ///
 /// [Kernel objects]: https://learn.microsoft.com/windows/win32/sysinfo/kernel-objects
@@ -49,6 +50,18 @@ fn are_short(handles: u32, tables: &[Table]) -> bool
     ensures { result ≡ list_all (is_short handles) tables.now }
 {
     tables.iter().all(|table| table.is_short(handles))
+}
+
+/// The table of a new process: without an entry, or with what it inherits of a parent.
+#[tactic(auto, using(std::proofs::lemmas::List::get_or_read))]
+fn new_table(alloc: Global, tables: &Vec<Table>, parent: Option<u32>) -> Result<Table, AllocError>
+    requires { IfSome parent (λ from. from < length tables.now.items) }
+    ensures { IfOk result (λ table. table ≡ new_table tables.now.items parent) }
+{
+    match parent {
+        Some(from) => Table::inheriting(alloc, tables[from as usize].places()),
+        None => Ok(Table::new(alloc)),
+    }
 }
 
 impl Tables {
@@ -116,12 +129,37 @@ impl Tables {
         ensures room { OnOk result (length self.now.tables ≤ self.now.process_limit) }
         ensures limit { IfErr result (λ fault. fault ≡ Limit) }
         ensures used_up { OnErr result (length self.now.tables ≡ self.now.process_limit + 1) }
+        // Whatever the tables are, as `place` says it.
+        ensures bounded { IsBounded self.now.process_limit self.now.handle_limit self.now.tables }
     {
         let number = self.tables.len() as u32;
         if number > self.processes {
             return Err(Fault::Limit);
         }
         Ok(number)
+    }
+
+    /// Gives a process number a table: an empty one, or one that has just the inheritable entries of `parent`, with the
+    /// same values, rights and flags. What stood at the number goes, so that it is the next number, or that of a process
+    /// that is gone.
+    pub fn add_table(&mut self, process: u32, parent: Option<u32>) -> Result<(), AllocError>
+        requires number { process ≤ length self.old.tables }
+        requires limit { process ≤ self.old.process_limit }
+        requires parent { IfSome parent (λ from. from < length self.old.tables) }
+        ensures ok { OnOk result (self.new
+            ≡ record self.old { tables = with_table self.old.tables process parent }) }
+        ensures err { OnErr result (self.new ≡ self.old) }
+        // Whatever the tables are, as `place` says it.
+        ensures bounded { IsBounded self.old.process_limit self.old.handle_limit self.old.tables }
+    {
+        let table = new_table(self.alloc, &self.tables, parent)?;
+        let at = process as usize;
+        if at < self.tables.len() {
+            self.tables[at] = table;
+        } else {
+            self.tables.push(table)?;
+        }
+        Ok(())
     }
 
     /// Gives the next process number, with an empty table. 1450 where the numbers are used up, and 8 for want of
@@ -134,7 +172,7 @@ impl Tables {
         ensures err { OnErr result (self.new ≡ self.old) }
     {
         let number = self.next_number()?;
-        self.tables.push(Table::new(self.alloc))?;
+        self.add_table(number, None)?;
         Ok(number)
     }
 
@@ -143,7 +181,6 @@ impl Tables {
     /// is this profile's choice). 1450 where the numbers are used up, and 8 for want of memory.
     ///
     /// [Handle inheritance]: https://learn.microsoft.com/windows/win32/sysinfo/handle-inheritance
-    #[tactic(auto, using(std::proofs::lemmas::List::get_or_read, crate::proofs::Inheriting::length_inherited, crate::proofs::Limits::short_pushed))]
     pub fn copy_inheritable(&mut self, from: u32) -> Result<u32, Fault>
         requires { from < length self.old.tables }
         ensures number { IfOk result (λ process. process ≡ length self.old.tables) }
@@ -155,8 +192,7 @@ impl Tables {
         ensures bounded { IsBounded self.old.process_limit self.old.handle_limit self.old.tables }
     {
         let number = self.next_number()?;
-        let child = Table::inheriting(self.alloc, self.tables[from as usize].places())?;
-        self.tables.push(child)?;
+        self.add_table(number, Some(from))?;
         Ok(number)
     }
 

@@ -4,6 +4,7 @@ ghost use Rattle.ob_store.specs.State.{shape_of};
 
 use super::filling::{Fill, fills_all};
 use super::pinning::holds_what_is_pinned;
+use super::reuse::goes_round;
 use super::saved::{Edit, all_go_on, tries_edits};
 use super::{FIRST, same_at};
 use call_tables::{
@@ -53,6 +54,8 @@ pub(super) enum Scene<'a> {
     Fills(&'a [Fill], &'a [Line<'a>]),
     /// A slot is held by a pin.
     Holds,
+    /// Threads and processes that begin and end, again and again.
+    GoesRound,
     /// Calls, and others that are made once more over what is saved between them.
     Saves(&'a [Line<'a>], &'a [Line<'a>]),
     /// Calls, and how many bytes the text has that is saved behind them, with edits of it.
@@ -69,6 +72,7 @@ fn plays(
         Scene::Calls(table) => answers(rt, alloc, manager, table),
         Scene::Fills(fills, table) => fills_all(rt, alloc, manager, fills, table),
         Scene::Holds => holds_what_is_pinned(rt, alloc, manager),
+        Scene::GoesRound => goes_round(rt, alloc, manager),
         Scene::Saves(first, calls) => all_go_on(rt, alloc, manager, first, calls),
         Scene::Edits(calls, len, edits) => tries_edits(rt, alloc, manager, calls, len, edits),
     }

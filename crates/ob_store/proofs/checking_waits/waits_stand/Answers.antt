@@ -10,4 +10,4 @@ loop-thread-preserved c = waits_next c.args.limits.max_recursion c.args.processe
 pub returns : goal.returns
 returns c = sym (waits_pass c.args.limits.max_recursion c.args.processes.now.threads c.args.objects.now
     c.args.waits.now.waits (length c.args.processes.now.threads) c.args.limits.slots c.wait_of.ensures.kept c.requires
-    (λ t lt. c.loop-thread.invariant t (omega (arith, lt, c.next_thread-thread-end.ensures, c.loop-thread-test.false))))
+    (λ t lt. c.loop-thread.invariant t (omega (arith, lt, c.thread_places-thread-end.ensures, c.loop-thread-test.false))))

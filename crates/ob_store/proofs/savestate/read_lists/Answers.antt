@@ -17,4 +17,4 @@ returns-clause-handle_limit c =
 
 -- a thread that was given is one of those of the list
 pub returns-clause-within : goal.returns-clause-within
-returns-clause-within c = rw c.next_thread.ensures at c.in_ok-waits.ensures.within
+returns-clause-within c = rw c.thread_places.ensures at c.in_ok-waits.ensures.within

@@ -1,12 +1,17 @@
-use Rattle.std.proofs.Common.{ap, refl, Option}
+use Rattle.std.proofs.Common.{ap, arith, Option}
 use Rattle.ob_codec.specs.Reading.{given_at}
 use Rattle.ob_store.specs.declared.limits.Limits.{Limits}
-use Rattle.ob_store.specs.SavedLimitLaws.{limits_are, limits_none}
+use Rattle.ob_store.specs.SavedLimitLaws.{last_is, limits_are, limits_none}
 use Rattle.ob_store.proofs.limits.LimitsSpelled.read.Goals as goal
 
 pub returns-in-Ok : goal.returns-in-Ok
 returns-in-Ok c =
     let e = c.in-Ok.ensures in
+    let last = last_is c.in-Ok.limits c.in_ok-last.last (let range = c.four-8.type_inv in omega arith) in
+    let l = c.in-Ok.limits in
+    let are = limits_are c.with_reuse.result
+    (l.slots, (l.processes, (l.threads, (l.handles, (l.waits, (l.max_pins, (l.max_gen, c.in_ok-last.last)))))))
+    (rw (c.with_reuse.ensures, e.max_recursion) last) in
     rw (
       c.in_ok-slots.ensures,
       c.in_ok-processes.ensures,
@@ -15,7 +20,7 @@ returns-in-Ok c =
       c.in_ok-waits.ensures,
       c.in_ok-max_pins.ensures,
       c.in_ok-max_gen.ensures,
-      c.in_ok-max_recursion.ensures,
+      c.in_ok-last.ensures,
       ← e.slots,
       ← e.processes,
       ← e.threads,
@@ -23,8 +28,7 @@ returns-in-Ok c =
       ← e.waits,
       ← e.max_pins,
       ← e.max_gen,
-      ← e.max_recursion,
-    ) (ap (λ (o : Option Limits). given_at o c.four-8.new.self) (limits_are c.in-Ok.limits _ refl))
+    ) (ap (λ (o : Option Limits). given_at o c.four-8.new.self) are)
 
 pub returns-in-Err : goal.returns-in-Err
 returns-in-Err c =
@@ -36,6 +40,6 @@ returns-in-Err c =
       c.in_ok-waits.ensures,
       c.in_ok-max_pins.ensures,
       c.in_ok-max_gen.ensures,
-      c.in_ok-max_recursion.ensures,
+      c.in_ok-last.ensures,
     )
     (ap (λ (o : Option Limits). given_at o c.four-8.new.self) (limits_none _ (λ r. c.in-Err.ensures.in_range.1 r)))

@@ -1,4 +1,4 @@
-use Rattle.std.proofs.Common.{◌≡◌, ℕ, ◌-◌, ◌<◌, Some, None, length, get_or}
+use Rattle.std.proofs.Common.{◌≡◌, ℕ, ◌-◌, ◌<◌, ◌≤◌, Some, None, length, get_or}
 use Rattle.pin_words.specs.Keepers.{KeeperState}
 use Rattle.ob_store.specs.Ends.{threads_ended}
 use Rattle.ob_store.specs.Parts.{parts_of}
@@ -9,10 +9,11 @@ use Rattle.ob_store.proofs.parts.Parts.end_all.Given as goal
 abbrev pub invariant-loop-thread : goal.invariant-loop-thread
 invariant-loop-thread g l = record {
   carries : (first : KeeperState) (s : State) → IsEnding first (parts_of l.fn.self) s
-      → IsEnding first (parts_of l.self) (threads_ended s l.process l.thread);
+      → IsEnding first (parts_of l.self) (threads_ended s l.process l.from);
   count : length l.self.processes.threads ≡ length l.fn.self.processes.threads;
-  ended : (t : ℕ) → t < l.thread → get_or l.self.processes.threads t None ≡ Some l.process → ⊥;
+  within : l.from ≤ length l.fn.self.processes.threads;
+  ended : (t : ℕ) → t < l.from → get_or l.self.processes.threads t None ≡ Some l.process → ⊥;
 }
 
 abbrev pub decreases-loop-thread : goal.decreases-loop-thread
-decreases-loop-thread g l = l.end - l.thread
+decreases-loop-thread g l = length l.self.processes.threads - l.from

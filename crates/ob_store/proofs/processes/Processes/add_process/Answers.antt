@@ -1,28 +1,35 @@
-use Rattle.std.proofs.Common.{◌≤◌, [], ◌∷◌, Some, arith, length}
-use Rattle.std.proofs.lemmas.List.{length-append}
-use Rattle.ob_store.specs.ThreadLists.{state_of}
-use Rattle.ob_store.proofs.ThreadListLaws.{threads_born}
+use Rattle.std.proofs.Common.{◌≤◌, arith}
+use Rattle.ob_store.proofs.GivenLaws.{IsFree}
+use Rattle.ob_store.proofs.MemberLaws.{member_added, member_undone}
 use Rattle.ob_store.proofs.processes.Processes.add_process.Goals as goal
+
+pub invariant_of-self-then-is_err : goal.invariant_of-self-then-is_err
+invariant_of-self-then-is_err c =
+    let s = c.self.inside in
+    let t = c.next-thread in
+    let free : IsFree s.threads.places.items t.result =
+        record { above = t.ensures.above; within = t.ensures.within; none = t.ensures.gone } in
+    let few : t.result ≤ 65536 = rw t.ensures.value (rw (← c.self.view_is) at c.requires.threads) in
+    (
+      c.make_room.ensures.are,
+      c.make_room-2.ensures.are,
+      rw c.make_room-2.ensures.places
+          (member_undone s.threads.places.items s.members c.insert.new.self c.remove.new.self c.next-process.result
+          t.result c.self.invariant.2 free few (rw c.key.ensures at c.in_ok-insert.ensures.updates)
+          (rw c.key-then-is_err.ensures at c.remove.ensures.updates)),
+    )
 
 pub invariant_of-self-2 : goal.invariant_of-self-2
 invariant_of-self-2 c =
     let s = c.self.inside in
-    let few : length s.processes.items ≤ 65536 = rw (← c.self.view_is) at c.requires.processes in
-    rw (
-      c.push_reserved.ensures.items,
-      c.push_reserved-2.ensures.items,
-      c.push_reserved-3.ensures.items,
-      c.push_reserved-4.ensures.items,
-      c.reserve.ensures.items,
-      c.reserve-2.ensures.items,
-      c.reserve-3.ensures.items,
-      c.reserve-4.ensures.items,
-      c.next_process-process.ensures,
-      c.next_thread-thread.ensures,
-      ← c.self.view_is,
-      length-append s.processes.items (Some c.args.session ∷ []),
-    ) (
-      threads_born (length s.processes.items) s.threads.items (state_of s.lists) c.self.invariant.0
-          (rw (← c.self.view_is) at c.requires.threads),
-      omega (arith, few),
+    let t = c.next-thread in
+    let free : IsFree s.threads.places.items t.result =
+        record { above = t.ensures.above; within = t.ensures.within; none = t.ensures.gone } in
+    let few : t.result ≤ 65536 = rw t.ensures.value (rw (← c.self.view_is) at c.requires.threads) in
+    (
+      c.give.ensures.are,
+      c.give-2.ensures.are,
+      rw (c.give-2.ensures.places, c.make_room-2.ensures.places)
+          (member_added s.threads.places.items s.members c.insert.new.self c.next-process.result t.result
+          c.self.invariant.2 free few (rw c.key.ensures at c.in_ok-insert.ensures.updates)),
     )

@@ -6,8 +6,8 @@ use Rattle.ob_store.proofs.store.Store.add_process.Goals as goal
 pub invariant_of-self-2 : goal.invariant_of-self-2
 invariant_of-self-2 g c =
     rw (c.in_ok-add_process.ensures.ok, c.in_ok-add_process.ensures.table)
-    (kept_process (parts_of c.self.inside.parts) c.args.session _ c.self.view_is c.self.invariant
-    c.requires.processes c.requires.threads)
+    (kept_process (parts_of c.self.inside.parts) _ c.self.view_is c.self.invariant
+    c.requires.processes c.requires.threads c.args.session)
 
 pub returns-clause-ok : goal.returns-clause-ok
 returns-clause-ok g c = rw (← c.self.view_is) (whole_kept (record (parts_of c.self.inside.parts) {

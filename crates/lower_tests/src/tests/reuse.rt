@@ -1,0 +1,93 @@
+//! Numbers of processes and threads that come back.
+use super::playing::{Scene, answers, over_locked};
+use super::{FIRST, SECOND};
+use call_tables::{Line, PLAIN};
+use ob_manager::CallOf::{Child, EndThread, Exit, MakeEvent, MakeMutex, SetEvent, Spawn, StartThread, WaitFor};
+use ob_manager::Reply::{Code, Done, Ended, Exited, Made, Refused, Spawned, Started};
+use ob_manager::{Limits, Make, Manager, Mode};
+use ob_manager::Timeout::Zero;
+use ob_rights::Fault;
+use pin_words::LockedPins;
+use std::alloc::Global;
+use std::process::Abort;
+use std::test::Fail;
+
+const INHERITED: Make<'static> = Make {
+    name: None,
+    inherit: true,
+    access: None,
+    grant: None,
+};
+
+/// At most two processes and three threads at a time. Each new one has the least number that no live one has, and nothing
+/// of who had it before: no handle, no mutex.
+#[rattlefmt::skip]
+const BEFORE: &[Line<'static>] = &[
+    (Spawn { session: 1 }, Spawned { process: 1, thread: 1 }),
+    (Spawn { session: 2 }, Spawned { process: 2, thread: 2 }),
+    (Spawn { session: 3 }, Refused(Fault::Limit)),
+    (StartThread { process: 1 }, Started { thread: 3 }),
+    (StartThread { process: 1 }, Refused(Fault::Limit)),
+    (EndThread { thread: 1 }, Ended { thread: 1 }),
+    (StartThread { process: 2 }, Started { thread: 1 }),
+    (EndThread { thread: 1 }, Ended { thread: 1 }),
+    (MakeEvent { thread: 3, make: INHERITED, manual: false, set: false }, Made { handle: 4, id: FIRST }),
+    (Exit { process: 2 }, Exited { process: 2 }),
+    (Child { thread: 3, inherit: true }, Spawned { process: 2, thread: 1 }),
+    (SetEvent { thread: 1, handle: 4 }, Done),
+    (MakeMutex { thread: 1, make: PLAIN, owned: true }, Made { handle: 8, id: SECOND }),
+    (StartThread { process: 2 }, Started { thread: 2 }),
+    (EndThread { thread: 1 }, Ended { thread: 1 }),
+];
+
+#[rattlefmt::skip]
+const BEHIND: &[Line<'static>] = &[
+    (StartThread { process: 2 }, Started { thread: 1 }),
+    (StartThread { process: 2 }, Refused(Fault::Limit)),
+    (WaitFor { thread: 1, mode: Mode::Any, timeout: Zero, handles: &[8] }, Code { code: 128 }),
+    (EndThread { thread: 2 }, Ended { thread: 2 }),
+    (EndThread { thread: 1 }, Ended { thread: 1 }),
+    (StartThread { process: 2 }, Refused(Fault::Parameter)),
+    (Spawn { session: 1 }, Spawned { process: 2, thread: 1 }),
+    (SetEvent { thread: 1, handle: 4 }, Refused(Fault::Handle)),
+    (SetEvent { thread: 3, handle: 4 }, Done),
+];
+
+fn few() -> Result<Limits, Fault> {
+    let limits = Limits::checked(8, 2, 3, 8, 8, 8, 8, 8)?;
+    Ok(limits.with_reuse(true))
+}
+
+#[test]
+fn numbers_come_back(rt: HostRuntime) -> Result<(), Fail> {
+    over_locked(&rt, rt.alloc(), few()?, Scene::Saves(BEFORE, BEHIND))?;
+    Ok(())
+}
+
+/// A thread that begins and ends, and a process that does.
+#[rattlefmt::skip]
+const ROUND: &[Line<'static>] = &[
+    (StartThread { process: 1 }, Started { thread: 2 }),
+    (EndThread { thread: 2 }, Ended { thread: 2 }),
+    (Spawn { session: 1 }, Spawned { process: 2, thread: 2 }),
+    (Exit { process: 2 }, Exited { process: 2 }),
+];
+
+/// More rounds than there are numbers.
+pub(super) fn goes_round(
+    rt: &impl Abort,
+    alloc: Global,
+    manager: &mut Manager<LockedPins>,
+) -> Result<(), Fault> {
+    answers(rt, alloc, manager, &[(Spawn { session: 1 }, Spawned { process: 1, thread: 1 })])?;
+    for _ in 0..70_000 {
+        answers(rt, alloc, manager, ROUND)?;
+    }
+    Ok(())
+}
+
+#[test]
+fn numbers_come_back_again_and_again(rt: HostRuntime) -> Result<(), Fail> {
+    over_locked(&rt, rt.alloc(), few()?, Scene::GoesRound)?;
+    Ok(())
+}
