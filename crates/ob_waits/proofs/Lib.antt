@@ -31,3 +31,4 @@ pub mod RowLaws
 pub mod StandingLaws
 pub mod ReadLaws
 pub mod WriteLaws
+pub mod RenewedLaws

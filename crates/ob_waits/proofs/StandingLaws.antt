@@ -60,9 +60,9 @@ may-wait Any ids w = lt-ltb 0 (length ids) w.not_empty
 may-wait All ids w = search (arith, test-distinct)
 
 -- each wait that is kept passes
-standing : (clock : ℕ) (w : Option Wait) → WaitWaitable w → IsAfter clock (deadline_of w) → may_stand clock w ≡ true
-standing clock None can ahead = refl
-standing clock (Some w) can ahead = search (arith, may-wait)
+pub stands : (clock : ℕ) (w : Option Wait) → WaitWaitable w → IsAfter clock (deadline_of w) → may_stand clock w ≡ true
+stands clock None can ahead = refl
+stands clock (Some w) can ahead = search (arith, may-wait)
 
 all-stand : (clock : ℕ) (ws : List (Option Wait)) → ((n : ℕ) → may_stand clock (get_or ws n None) ≡ true)
     → list_all (may_stand clock) ws ≡ true
@@ -87,4 +87,4 @@ ones (Some w ∷ ws) alone = and_from (not (list_any (is_waits_of w.thread) ws))
 pub kept_can_be : (limit clock : ℕ) (ws : List (Option Wait)) (pending_index : PendingIndex) (dues : List (Option ℕ))
     → IsTracked limit ws pending_index → AreTimely clock ws dues → can_be limit clock ws ≡ true
 kept_can_be limit clock ws pending_index dues tracked timely =
-    search (arith, standing, all-stand, ones, le-leb, timely.ahead.each, tracked.kept.each, tracked.zero_has_none)
+    search (arith, stands, all-stand, ones, le-leb, timely.ahead.each, tracked.kept.each, tracked.zero_has_none)

@@ -1,5 +1,5 @@
 -- Waits for any and for all of some objects: when one is ready, what it takes, and how they settle.
-use Rattle.std.specs.Prelude.{ℕ, zero, suc, ◌+◌, ◌-◌, ◌==◌, nat_le, nat_lt, ◌&&◌, ◌||◌, Bool, true, false, List, [], ◌∷◌, ◌++◌, Option, Some, None, if◌then◌else◌, slice_index_or, slice_set, length, map, sum_by, count_by, position, replicate}
+use Rattle.std.specs.Prelude.{ℕ, zero, suc, ◌+◌, ◌-◌, ◌==◌, nat_le, nat_lt, ◌&&◌, ◌||◌, Bool, true, false, List, [], ◌∷◌, ◌++◌, Option, Some, None, if◌then◌else◌, slice_index_or, slice_set, length, map, sum_by, count_by, position, replicate, filter, is_some}
 use Rattle.std.specs.List.{position_or_len, list_any, list_all}
 use Rattle.pin_core.specs.Holds.{same_id}
 use Rattle.pin_core.specs.declared.id.Id.{Id}
@@ -210,6 +210,17 @@ with_wait list thread mode ids deadline = record list {
 -- the waits where the next numbers, up to this one, are given to nobody
 abbrev pub skipped : ℕ → List (Option Wait) → List (Option Wait)
 skipped last waits = waits ++ replicate (last + 1 - length waits) None
+
+-- the waits that aren't over, in their order
+abbrev pub standing : List (Option Wait) → List (Option Wait)
+standing waits = filter is_some waits
+
+-- the same at the numbers from 1 on: 0 is never given
+abbrev pub renewed : List (Option Wait) → List (Option Wait)
+renewed waits = None ∷ standing waits
+
+abbrev pub with_renewed : WaitList → WaitList
+with_renewed list = record list { waits = renewed list.waits }
 
 -- the waits with one more, which is answered
 abbrev pub with_answered : WaitList → ℕ → Option ℕ → ℕ → WaitList

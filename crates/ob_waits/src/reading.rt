@@ -1,15 +1,20 @@
-// Waits are built of what was read: one after another, by rising number.
+// Waits are built one after another, by rising number: of what was read, or as a copy of others.
 ghost use Rattle.std.specs.Prelude.{◌≡◌, ◌≤◌, ◌<◌, ◌∷◌, [], ◌++◌, None, Some, OnOk, map, true, false};
 ghost use Rattle.ob_codec.specs.Reading.{Gives, GivesAll, list_at};
+ghost use Rattle.ob_waits.specs.Deadlines.{AreAhead};
+ghost use Rattle.ob_waits.specs.PendingIndex.{IsTracked};
 ghost use Rattle.ob_waits.specs.Rows.{built, come, may_come, rows_within};
 ghost use Rattle.ob_waits.specs.Spelling.{are_below, is_within, may_list, may_stand, names_twice};
 ghost use Rattle.ob_waits.specs.Spelling.{numbered_parts, row_at};
-ghost use Rattle.ob_waits.specs.Waits.{has_slot, is_code, is_full, number_of};
+ghost use Rattle.ob_waits.specs.Waits.{has_slot, is_code, is_full, number_of, renewed};
 
 use crate::codes::{MAXIMUM_WAIT_OBJECTS, WAIT_ABANDONED_0, WAIT_TIMEOUT};
+use crate::live::Live;
 use crate::numbered_wait::NumberedWait;
+use crate::pending_index::PendingIndex;
 use crate::wait::{Mode, State, Wait};
 use crate::waits::Waits;
+use crate::writing::next_number;
 use ob_codec::{Cursor, ReadFault, TextFault, read_list};
 use pin_core::Id;
 use std::alloc::{AllocError, Global};
@@ -154,5 +159,26 @@ pub(crate) fn put_all(waits: &mut Waits, rows: &[NumberedWait], last: u32) -> Re
         put_back(waits, held, last)?;
     }
     waits.skip_to(last);
+    Ok(())
+}
+
+/// Gives the numbers from 1 on to copies of the waits that aren't over, in their order.
+pub(crate) fn copy_all(
+    copy: &mut Waits,
+    live: &Live,
+    pending_index: &PendingIndex,
+) -> Result<(), AllocError>
+    requires empty { copy.old.waits ≡ None ∷ [] }
+    requires tracked { IsTracked copy.old.limit live.now pending_index.now }
+    requires ahead { AreAhead copy.old.clock live.now }
+    ensures { OnOk result (copy.new ≡ record copy.old { waits = renewed live.now }) }
+{
+    let mut last = 0;
+    while let Some(number) = next_number(live, pending_index.order(), last) {
+        last = number;
+        if let Some(wait) = live.get(number) {
+            put_wait(copy, wait)?;
+        }
+    }
     Ok(())
 }

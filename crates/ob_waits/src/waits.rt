@@ -1,13 +1,13 @@
 ghost use Rattle.std.specs.Prelude.{[], ◌∷◌, ◌++◌, ◌≡◌, false, Err, IfNone, ◌+◌, ◌<◌, ◌≤◌, ◌↔◌, ℕ, true, None};
 ghost use Rattle.std.specs.Prelude.{Some, length, map, slice_index_or, OnOk, OnErr, IfOk, IfErr, IfSome, IsSome};
-ghost use Rattle.std.specs.Prelude.{if◌then◌else◌, is_some};
+ghost use Rattle.std.specs.Prelude.{◌⊎◌, if◌then◌else◌, is_some};
 ghost use Rattle.std.specs.Option.{option_map};
 ghost use Rattle.ob_waits.specs.Waits.{settled, blocks_among, number_of, with_wait, with_answer};
 ghost use Rattle.ob_waits.specs.Waits.{without_wait, without_thread, code_at};
 ghost use Rattle.ob_waits.specs.Waits.{is_answer, is_pending, state_at, ids_of, is_full};
 ghost use Rattle.ob_codec.specs.Reading.{Gives};
 ghost use Rattle.ob_waits.specs.Spelling.{WaitsFit, are_within, can_be, waits_at, waits_text};
-ghost use Rattle.ob_waits.specs.Waits.{is_code, new_wait, skipped, with_answered};
+ghost use Rattle.ob_waits.specs.Waits.{is_code, new_wait, renewed, skipped, with_answered, with_renewed};
 ghost use Rattle.least.specs.Dues.{IsLeast};
 ghost use Rattle.least.specs.From.{IsLeastFrom};
 ghost use Rattle.ob_waits.specs.Answers.{answer_of, is_answered};
@@ -25,7 +25,7 @@ use crate::overdue::{next_due, next_overdue};
 use crate::pass::{pass, pass_each, pass_slot};
 use crate::pending::Pending;
 use crate::pending_index::PendingIndex;
-use crate::reading::{put_all, read_rows, rows_within};
+use crate::reading::{copy_all, put_all, read_rows, rows_within};
 use crate::wait::{Mode, State, Wait, WaitState};
 use crate::writing::write_rows;
 use least::Dues;
@@ -38,8 +38,8 @@ use std::marker::Model;
 
 /// The waits of all threads, by their numbers.
 ///
-/// Numbers rise from 1 and none is given twice; a wait that is over takes no room. A thread has one wait at a time,
-/// from [`add`](Waits::add) until its answer is taken.
+/// Numbers rise from 1 and none is given twice, until [`add_renewed`](Waits::add_renewed) begins them anew; a wait
+/// that is over takes no room. A thread has one wait at a time, from [`add`](Waits::add) until its answer is taken.
 ///
 /// A thread's wait and the wait of a number are found in constant time. [`wait_of`](Waits::wait_of),
 /// [`look`](Waits::look) and [`pending`](Waits::pending) do no more; [`expire`](Waits::expire),
@@ -318,6 +318,37 @@ impl Waits {
             Ok(number) => Ok(number),
             Err(_) => Err(Fault::Memory),
         }
+    }
+
+    /// Begins the numbers anew, and adds a wait as [`add`](Waits::add) does: the waits that aren't over have the
+    /// numbers from 1 on, in their order, and the new one has the next. A number that was told before may be another
+    /// wait's then; who finds waits by their threads, or goes over them in order, sees no change but the new one.
+    ///
+    /// [`Fault::Limit`] (1450) where as many waits aren't over as numbers may be given, and [`Fault::Memory`] (8) where
+    /// memory runs out; then nothing changes. It costs what [`write`](Waits::write) costs and an `add` for each wait,
+    /// and meanwhile the waits take their memory twice.
+    pub fn add_renewed(
+        &mut self,
+        thread: u32,
+        mode: Mode,
+        ids: &[Id],
+        deadline: Option<u64>,
+    ) -> Result<u32, Fault>
+        requires ahead { IsAfter self.old.clock deadline }
+        requires waitable { IsWaitable mode ids.now }
+        requires alone { number_of thread self.old.waits ≡ None }
+        ensures number { IfOk result (λ number. number ≡ length (renewed self.old.waits)) }
+        ensures added { OnOk result (self.new ≡ with_wait (with_renewed self.old) thread mode ids.now deadline) }
+        ensures err { OnErr result (self.new ≡ self.old) }
+        ensures fault { IfErr result (λ fault. (fault ≡ Fault.Memory)
+            ⊎ ((fault ≡ Fault.Limit) × (is_full (with_renewed self.old) ≡ true))) }
+    {
+        let mut copy = Waits::new(self.alloc, self.limit);
+        copy.pass_to(self.clock);
+        copy_all(&mut copy, &self.live, &self.pending_index)?;
+        let number = copy.add(thread, mode, ids, deadline)?;
+        *self = copy;
+        Ok(number)
     }
 
     /// As long as a pending wait is satisfied, the one of least number takes effect (*profile*): it acquires what

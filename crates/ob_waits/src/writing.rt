@@ -17,7 +17,7 @@ use std::alloc::AllocError;
 
 /// A number above the last one, such that no number between has a wait. `order` has the numbers of all that are
 /// pending.
-fn next_number(live: &Live, order: &[u32], last: u32) -> Option<u32>
+pub(crate) fn next_number(live: &Live, order: &[u32], last: u32) -> Option<u32>
     requires rising { IsRising order.now }
     requires all { HasAll is_pending order.now live.now }
     ensures above { IfSome result (λ n. last < n) }

@@ -1,0 +1,162 @@
+-- What renewing waits keeps: their order, each count over them, the rules of waits, and each thread's wait; and how
+-- waits are copied one after another.
+use Rattle.ob_codec.proofs.AtPlace.{at_place}
+use Rattle.std.proofs.Common.{◌≡◌, ℕ, zero, suc, ◌+◌, ◌-◌, ◌<◌, ◌≤◌, true, false, List, [], ◌∷◌, ◌++◌, length, take, Option, Some, None, refl, ap, ◌∙◌, sym, arith, get_or}
+use Rattle.std.specs.Prelude.{is_some, sum_by}
+use Rattle.std.proofs.lemmas.List.{append-nil, get_or-take, length-take, take_all}
+use Rattle.std.proofs.lemmas.List.Sums.{count_by-le-length, length-filter, sum_by-cons}
+use Rattle.pin_core.specs.declared.id.Id.{Id}
+use Rattle.ob_body.specs.declared.body.Body.{Body}
+use Rattle.ob_waits.specs.declared.wait.Wait.{Wait}
+use Rattle.ob_waits.specs.Deadlines.{AreAhead, deadline_of}
+use Rattle.ob_waits.specs.Form.{IsAfter}
+use Rattle.ob_waits.specs.Rules.{IsSettled, WaitHasRoom, WaitWaitable, WaitsHaveRoom, WaitsInvariant, thread_of}
+use Rattle.ob_waits.specs.Waits.{blocks_among, blocks_in, ids_of, is_ready, number_of, renewed, slot_blocks, slot_places, standing}
+use Rattle.ob_waits.proofs.TrackedLaws.{has_wait, no_number, number_is, number_none, number_own}
+
+-- the same waits stand in the same order: who came first stays first
+pub order_renewed : (ws : List (Option Wait)) → standing (renewed ws) ≡ standing ws
+order_renewed [] = refl
+order_renewed (None ∷ ws) = order_renewed ws
+order_renewed (Some w ∷ ws) = ap (λ l. Some w ∷ l) (order_renewed ws)
+
+-- each count over them is what it was
+pub sum_renewed : (f : Option Wait → ℕ) (ws : List (Option Wait)) → f None ≡ 0 → sum_by f (renewed ws) ≡ sum_by f ws
+sum_renewed f [] none = search (arith, sum_by-cons)
+sum_renewed f (None ∷ ws) none = search (arith, sum_by-cons, sum_renewed f ws none)
+sum_renewed f (Some w ∷ ws) none = search (arith, sum_by-cons, sum_renewed f ws none)
+
+pub slot_blocks_renewed : (k : ℕ) (ws : List (Option Wait)) → slot_blocks k (renewed ws) ≡ slot_blocks k ws
+slot_blocks_renewed k ws = sum_renewed (λ (w : Option Wait). slot_places k (ids_of w)) ws refl
+
+pub blocks_renewed : (id : Id) (ws : List (Option Wait)) → blocks_among id (renewed ws) ≡ blocks_among id ws
+blocks_renewed id ws = sum_renewed (blocks_in id) ws refl
+
+-- what is so of each wait stays so
+each_standing : (P : Option Wait → Type 0) (ws : List (Option Wait)) → P None → ((n : ℕ) → P (get_or ws n None))
+    → (n : ℕ) → P (get_or (standing ws) n None)
+each_standing P [] none each n = none
+each_standing P (None ∷ ws) none each n = each_standing P ws none (λ k. each (suc k)) n
+each_standing P (Some w ∷ ws) none each zero = each 0
+each_standing P (Some w ∷ ws) none each (suc n) = each_standing P ws none (λ k. each (suc k)) n
+
+pub each_renewed : (P : Option Wait → Type 0) (ws : List (Option Wait)) → P None → ((n : ℕ) → P (get_or ws n None))
+    → (n : ℕ) → P (get_or (renewed ws) n None)
+each_renewed P ws none each zero = none
+each_renewed P ws none each (suc n) = each_standing P ws none each n
+
+pub room_renewed : (limit : ℕ) (bodies : List (Option Body)) (ws : List (Option Wait)) → WaitsHaveRoom limit bodies ws
+    → WaitsHaveRoom limit bodies (renewed ws)
+room_renewed limit bodies ws room = record { each = each_renewed (WaitHasRoom limit bodies) ws tt room.each }
+
+pub settled_renewed : (bodies : List (Option Body)) (ws : List (Option Wait)) → IsSettled bodies ws
+    → IsSettled bodies (renewed ws)
+settled_renewed bodies ws settled = record { each = each_renewed (λ w. is_ready bodies w ≡ false) ws refl settled.each }
+
+pub ahead_renewed : (clock : ℕ) (ws : List (Option Wait)) → AreAhead clock ws → AreAhead clock (renewed ws)
+ahead_renewed clock ws ahead = record { each = each_renewed (λ w. IsAfter clock (deadline_of w)) ws tt ahead.each }
+
+-- a thread without a wait has none then
+none_standing : (t : ℕ) (ws : List (Option Wait)) → ((n : ℕ) → thread_of (get_or ws n None) ≡ Some t → ⊥) → (n : ℕ)
+    → thread_of (get_or (standing ws) n None) ≡ Some t → ⊥
+none_standing t ws = each_standing (λ w. thread_of w ≡ Some t → ⊥) ws (λ own. absurd (cc own))
+
+pub alone_renewed : (t : ℕ) (ws : List (Option Wait)) → number_of t ws ≡ None → number_of t (renewed ws) ≡ None
+alone_renewed t ws none = number_none (renewed ws) t by
+  where
+    by : (n : ℕ) → thread_of (get_or (renewed ws) n None) ≡ Some t → ⊥
+    by zero own = absurd (cc own)
+    by (suc n) own = search (arith, none_standing, no_number)
+
+-- and no thread has two
+one_standing : (ws : List (Option Wait))
+    → ((n m t : ℕ) → thread_of (get_or ws n None) ≡ Some t → thread_of (get_or ws m None) ≡ Some t → n ≡ m)
+    → (n m t : ℕ) → thread_of (get_or (standing ws) n None) ≡ Some t
+    → thread_of (get_or (standing ws) m None) ≡ Some t → n ≡ m
+one_standing [] one n m t p q = absurd (cc p)
+one_standing (None ∷ ws) one n m t p q =
+    one_standing ws (λ i j u a b. let e = one (suc i) (suc j) u a b in omega arith) n m t p q
+one_standing (Some w ∷ ws) one zero zero t p q = refl
+one_standing (Some w ∷ ws) one zero (suc m) t p q =
+    absurd (none_standing t ws (λ k a. let e = one zero (suc k) t p a in omega arith) m q)
+one_standing (Some w ∷ ws) one (suc n) zero t p q =
+    absurd (none_standing t ws (λ k a. let e = one zero (suc k) t q a in omega arith) n p)
+one_standing (Some w ∷ ws) one (suc n) (suc m) t p q =
+    ap suc (one_standing ws (λ i j u a b. let e = one (suc i) (suc j) u a b in omega arith) n m t p q)
+
+pub kept_renewed : (ws : List (Option Wait)) → WaitsInvariant ws → WaitsInvariant (renewed ws)
+kept_renewed ws kept = record { each = each_renewed WaitWaitable ws tt kept.each; one_each = one }
+  where
+    one : (n m t : ℕ) → thread_of (get_or (renewed ws) n None) ≡ Some t
+        → thread_of (get_or (renewed ws) m None) ≡ Some t → n ≡ m
+    one zero m t p q = absurd (cc p)
+    one (suc n) zero t p q = absurd (cc q)
+    one (suc n) (suc m) t p q = ap suc (one_standing ws kept.one_each n m t p q)
+
+-- the number that the wait of a number has then: the one behind those that stand before it
+abbrev pub number_after : List (Option Wait) → ℕ → ℕ
+number_after ws n = length (renewed (take n ws))
+
+-- there its thread finds the same wait
+pub wait_renewed : (ws : List (Option Wait)) (n t : ℕ) → thread_of (get_or ws n None) ≡ Some t
+    → get_or (renewed ws) (number_after ws n) None ≡ get_or ws n None
+wait_renewed [] n t own = absurd (cc own)
+wait_renewed (None ∷ ws) zero t own = absurd (cc own)
+wait_renewed (Some w ∷ ws) zero t own = refl
+wait_renewed (None ∷ ws) (suc n) t own = wait_renewed ws n t own
+wait_renewed (Some w ∷ ws) (suc n) t own = wait_renewed ws n t own
+
+pub number_renewed : (ws : List (Option Wait)) (n t : ℕ) → WaitsInvariant ws → number_of t ws ≡ Some n
+    → number_of t (renewed ws) ≡ Some (number_after ws n)
+number_renewed ws n t kept is =
+    let own = number_own ws t n is in
+    let there = ap thread_of (wait_renewed ws n t own) ∙ own in
+    number_is (renewed ws) t (number_after ws n) there
+    (λ m has. (kept_renewed ws kept).one_each m (number_after ws n) t has there)
+
+-- what stands below a number, and what stands there
+one_more : (k : ℕ) (ws : List (Option Wait))
+    → standing (take (suc k) ws) ≡ standing (take k ws) ++ standing (get_or ws k None ∷ [])
+one_more zero [] = refl
+one_more (suc k) [] = refl
+one_more zero (w ∷ ws) = refl
+one_more (suc k) (None ∷ ws) = one_more k ws
+one_more (suc k) (Some w ∷ ws) = ap (λ l. Some w ∷ l) (one_more k ws)
+
+none_more : (d k : ℕ) (ws : List (Option Wait)) → ((i : ℕ) → k ≤ i → i < k + d → is_some (get_or ws i None) ≡ true → ⊥)
+    → standing (take (k + d) ws) ≡ standing (take k ws)
+none_more zero k ws none = search arith
+none_more (suc d) k ws none =
+    search (arith, one_more, append-nil, none_more d (suc k) ws (λ i le lt. none i (omega arith) (omega arith)))
+
+-- the next number's wait is copied next, if it has one
+pub copied_next : (ws : List (Option Wait)) (last n : ℕ) → last < n
+    → ((k : ℕ) → is_some (get_or ws k None) ≡ true → last < k → n ≤ k)
+    → renewed (take (suc n) ws) ≡ renewed (take (suc last) ws) ++ standing (get_or ws n None ∷ [])
+copied_next ws last n above least =
+    let d = n - suc last in
+    let none = none_more d (suc last) ws (λ i le lt has. let at = least i has (omega arith) in omega arith) in
+    search (arith, one_more n ws)
+
+pub copied_all : (ws : List (Option Wait)) (last : ℕ) → ((k : ℕ) → is_some (get_or ws k None) ≡ true → last < k → ⊥)
+    → renewed (take (suc last) ws) ≡ renewed ws
+copied_all ws last none =
+    let same = none_more (length ws) (suc last) ws (λ i le lt has. none i has le) in
+    let whole = take_all (suc last + length ws) ws (omega arith) in
+    search arith
+
+-- its thread has no wait before it
+pub alone_before : (ws : List (Option Wait)) (last n : ℕ) (w : Wait) → WaitsInvariant ws → last < n
+    → get_or ws n None ≡ Some w → number_of w.thread (renewed (take (suc last) ws)) ≡ None
+alone_before ws last n w kept above is =
+    alone_renewed w.thread (take (suc last) ws) (number_none (take (suc last) ws) w.thread (λ m own.
+    let lt = has_wait (take (suc last) ws) m w.thread own in
+    let long = length-take (suc last) ws in
+    let at = get_or-take (suc last) ws m None (omega arith) in
+    let same = kept.one_each m n w.thread (ap thread_of (sym at) ∙ own) (ap thread_of is) in
+    omega arith))
+
+-- and a number is left for it
+pub room_before : (ws : List (Option Wait)) (last n limit : ℕ) (w : Wait) → get_or ws 0 None ≡ None
+    → length ws ≤ limit + 1 → last < n → get_or ws n None ≡ Some w → length (renewed (take (suc last) ws)) ≤ limit
+room_before = grind (arith, at_place, count_by-le-length, length-filter, length-take)
