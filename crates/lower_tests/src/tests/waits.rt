@@ -1,7 +1,7 @@
 use crate::tests::{holds, same};
 use ob_codec::{Cursor, ReadFault, TextFault};
 use ob_rights::Fault;
-use ob_waits::{Mode, Waits};
+use ob_waits::{Answer, Mode, WAIT_TIMEOUT, Waits};
 use pin_core::Id;
 use std::alloc::{AllocError, Global};
 use std::process::Abort;
@@ -38,6 +38,48 @@ fn add_all(rt: &impl Abort, waits: &mut Waits, most: u32) -> Result<(), Fault> {
         adds(waits, thread)?;
     }
     same(rt, waits.blocks_of(D), 130);
+    Ok(())
+}
+
+/// Adds the wait of a thread that has none, with the numbers begun anew. Where memory fails nothing has changed, and the
+/// call is made again.
+fn adds_anew(rt: &impl Abort, waits: &mut Waits, thread: u32) -> Result<u32, Fault> {
+    holds(rt, waits.wait_of(thread).is_none());
+    match waits.add_renewed(thread, Mode::Any, &[D, FAR], None) {
+        Err(Fault::Memory) => waits.add_renewed(thread, Mode::Any, &[D, FAR], None),
+        added => added,
+    }
+}
+
+#[test]
+fn waits_keep_their_order_where_numbers_begin_anew(rt: HostRuntime) -> Result<(), Fail> {
+    begin_anew(&rt, &mut Waits::new(rt.alloc(), 4))?;
+    Ok(())
+}
+
+fn begin_anew(rt: &impl Abort, waits: &mut Waits) -> Result<(), Fault> {
+    for thread in 1..5 {
+        adds(waits, thread)?;
+    }
+    waits.drop_thread(1);
+    if waits.pending(3).is_some() {
+        waits.expire(3);
+    }
+    same(rt, adds_anew(rt, waits, 5)?, 4);
+    for thread in 2..6 {
+        same(rt, waits.wait_of(thread), Some(thread - 1));
+    }
+    let answer = Answer {
+        wait: 2,
+        thread: 3,
+        code: WAIT_TIMEOUT,
+    };
+    same(rt, waits.next_answered(0), Some(answer));
+    same(rt, waits.next_answered(2), None);
+    same(rt, waits.blocks_of(D), 3);
+    // All numbers are of waits that aren't over.
+    same(rt, adds_anew(rt, waits, 6), Err(Fault::Limit));
+    same(rt, waits.wait_of(5), Some(4));
     Ok(())
 }
 
