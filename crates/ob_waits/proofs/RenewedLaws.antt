@@ -1,17 +1,21 @@
 -- What renewing waits keeps: their order, each count over them, the rules of waits, and each thread's wait; and how
 -- waits are copied one after another.
 use Rattle.ob_codec.proofs.AtPlace.{at_place}
-use Rattle.std.proofs.Common.{◌≡◌, ℕ, zero, suc, ◌+◌, ◌-◌, ◌<◌, ◌≤◌, true, false, List, [], ◌∷◌, ◌++◌, length, take, Option, Some, None, refl, ap, ◌∙◌, sym, arith, get_or}
+use Rattle.std.proofs.Common.{◌≡◌, ℕ, zero, suc, ◌+◌, ◌-◌, ◌<◌, ◌≤◌, true, false, List, [], ◌∷◌, ◌++◌, length, take, Option, Some, None, refl, ap, ◌∙◌, sym, arith, get_or, eqb}
+use Rattle.std.specs.List.{list_any}
 use Rattle.std.specs.Prelude.{is_some, sum_by}
 use Rattle.std.proofs.lemmas.List.{append-nil, get_or-take, length-take, take_all}
 use Rattle.std.proofs.lemmas.List.Sums.{count_by-le-length, length-filter, sum_by-cons}
+use Rattle.std.proofs.lemmas.Map.Steps.{length-le_from_distinct_below}
 use Rattle.pin_core.specs.declared.id.Id.{Id}
 use Rattle.ob_body.specs.declared.body.Body.{Body}
 use Rattle.ob_waits.specs.declared.wait.Wait.{Wait}
 use Rattle.ob_waits.specs.Deadlines.{AreAhead, deadline_of}
 use Rattle.ob_waits.specs.Form.{IsAfter}
 use Rattle.ob_waits.specs.Rules.{IsSettled, WaitHasRoom, WaitWaitable, WaitsHaveRoom, WaitsInvariant, thread_of}
-use Rattle.ob_waits.specs.Waits.{blocks_among, blocks_in, ids_of, is_ready, number_of, renewed, slot_blocks, slot_places, standing}
+use Rattle.ob_waits.specs.SpellingLaws.{distinct, threads_of}
+use Rattle.ob_waits.specs.Waits.{blocks_among, blocks_in, is_ready, number_of, renewed, slot_blocks, standing}
+use Rattle.ob_waits.proofs.StandingLaws.{ones}
 use Rattle.ob_waits.proofs.TrackedLaws.{has_wait, no_number, number_is, number_none, number_own}
 
 -- the same waits stand in the same order: who came first stays first
@@ -22,12 +26,12 @@ order_renewed (Some w ∷ ws) = ap (λ l. Some w ∷ l) (order_renewed ws)
 
 -- each count over them is what it was
 pub sum_renewed : (f : Option Wait → ℕ) (ws : List (Option Wait)) → f None ≡ 0 → sum_by f (renewed ws) ≡ sum_by f ws
-sum_renewed f [] none = search (arith, sum_by-cons)
-sum_renewed f (None ∷ ws) none = search (arith, sum_by-cons, sum_renewed f ws none)
+sum_renewed f [] none = search arith
+sum_renewed f (None ∷ ws) none = search (arith, sum_renewed f ws none)
 sum_renewed f (Some w ∷ ws) none = search (arith, sum_by-cons, sum_renewed f ws none)
 
 pub slot_blocks_renewed : (k : ℕ) (ws : List (Option Wait)) → slot_blocks k (renewed ws) ≡ slot_blocks k ws
-slot_blocks_renewed k ws = sum_renewed (λ (w : Option Wait). slot_places k (ids_of w)) ws refl
+slot_blocks_renewed k ws = search (arith, sum_renewed)
 
 pub blocks_renewed : (id : Id) (ws : List (Option Wait)) → blocks_among id (renewed ws) ≡ blocks_among id ws
 blocks_renewed id ws = sum_renewed (blocks_in id) ws refl
@@ -91,7 +95,7 @@ kept_renewed ws kept = record { each = each_renewed WaitWaitable ws tt kept.each
         → thread_of (get_or (renewed ws) m None) ≡ Some t → n ≡ m
     one zero m t p q = absurd (cc p)
     one (suc n) zero t p q = absurd (cc q)
-    one (suc n) (suc m) t p q = ap suc (one_standing ws kept.one_each n m t p q)
+    one (suc n) (suc m) t p q = search (arith, one_standing)
 
 -- the number that the wait of a number has then: the one behind those that stand before it
 abbrev pub number_after : List (Option Wait) → ℕ → ℕ
@@ -113,6 +117,27 @@ number_renewed ws n t kept is =
     let there = ap thread_of (wait_renewed ws n t own) ∙ own in
     number_is (renewed ws) t (number_after ws n) there
     (λ m has. (kept_renewed ws kept).one_each m (number_after ws n) t has there)
+
+-- no more waits stand than there are threads
+standing_long : (ws : List (Option Wait)) → length (standing ws) ≡ length (threads_of ws)
+standing_long [] = refl
+standing_long (None ∷ ws) = standing_long ws
+standing_long (Some w ∷ ws) = ap suc (standing_long ws)
+
+threads_below : (threads : ℕ) (ws : List (Option Wait))
+    → ((n t : ℕ) → thread_of (get_or ws n None) ≡ Some t → t < threads) → (t : ℕ)
+    → list_any (eqb t) (threads_of ws) ≡ true → t < threads
+threads_below threads [] each t has = absurd cc
+threads_below threads (None ∷ ws) each t has = threads_below threads ws (λ n. each (suc n)) t has
+threads_below threads (Some w ∷ ws) each t has =
+    grind (arith, each zero w.thread refl, threads_below threads ws (λ n. each (suc n)) t)
+
+pub few_renewed : (threads : ℕ) (ws : List (Option Wait)) → WaitsInvariant ws
+    → ((n t : ℕ) → thread_of (get_or ws n None) ≡ Some t → t < threads) → length (renewed ws) ≤ threads + 1
+few_renewed threads ws kept each =
+    let few = length-le_from_distinct_below (threads_of ws) threads (distinct ws (ones ws kept.one_each))
+    (threads_below threads ws each) in
+    omega (arith, standing_long ws)
 
 -- what stands below a number, and what stands there
 one_more : (k : ℕ) (ws : List (Option Wait))

@@ -70,7 +70,7 @@ all-stand clock [] each = refl
 all-stand clock (w ∷ ws) each = and_from (may_stand clock w) (list_all (may_stand clock) ws) (each 0)
     (all-stand clock ws (λ n. each (suc n)))
 
-ones : (ws : List (Option Wait))
+pub ones : (ws : List (Option Wait))
     → ((n m t : ℕ) → thread_of (get_or ws n None) ≡ Some t → thread_of (get_or ws m None) ≡ Some t → n ≡ m)
     → one_each ws ≡ true
 ones [] alone = refl

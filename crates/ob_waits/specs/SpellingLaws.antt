@@ -54,7 +54,7 @@ pub numbered_codec : IsCodec numbered_text numbered_at NumberedFits
 numbered_codec = as_codec numbered_of numbered_parts (λ _. refl) (λ _. refl) (both_codec u32_codec wait_codec)
 
 -- the threads of waits, each of which has one, are no more than there are
-abbrev threads_of : List (Option Wait) → List ℕ
+abbrev pub threads_of : List (Option Wait) → List ℕ
 threads_of [] = []
 threads_of (None ∷ waits) = threads_of waits
 threads_of (Some wait ∷ waits) = wait.thread ∷ threads_of waits
@@ -80,7 +80,7 @@ others thread (Some wait ∷ waits) none = by (eqb wait.thread thread) refl none
       later none,
     )
 
-distinct : (waits : List (Option Wait)) → one_each waits ≡ true → IsDistinct eqb (threads_of waits)
+pub distinct : (waits : List (Option Wait)) → one_each waits ≡ true → IsDistinct eqb (threads_of waits)
 unfolding IsDistinct
 distinct [] one = tt
 distinct (None ∷ waits) one = distinct waits one
