@@ -1,10 +1,12 @@
 -- What the tree of least moments says of all places, and how it changes.
-use Rattle.std.proofs.Common.{◌≡◌, ◌≢◌, ◌∙◌, sym, ap, refl, subst, ℕ, zero, suc, ◌+◌, ◌*◌, ◌-◌, ◌/◌, ◌<◌, ◌≤◌, List, [], ◌∷◌, ◌++◌, length, arith, set, Option, Some, None, inl, inr, false}
+use Rattle.std.proofs.Common.{◌≡◌, ◌≢◌, ◌∙◌, sym, ap, refl, subst, ℕ, zero, suc, ◌+◌, ◌*◌, ◌-◌, ◌/◌, ◌<◌, ◌≤◌, List, ◌++◌, length, arith, set, Option, Some, None, inl, inr, false}
 use Rattle.std.specs.Prelude.{◌⊎◌, IfSome, IsSome}
 use Rattle.std.proofs.lemmas.Bool.{cases_eq, cases_lt}
 use Rattle.std.proofs.lemmas.List.{get_or_past, get_or-set_same, get_or-set_other, get_or_append_left, get_or-append-add}
 use Rattle.least.specs.Dues.{due_at, is_by, since, NotAfter, IsLeast}
-use Rattle.least.specs.Best.{sooner, best_below, IsBest, IsBestBut}
+use Rattle.least.specs.Best.{sooner, best_below, IsBest, IsBestBut, IsWhole}
+use Rattle.least.specs.Padded.{padded}
+use Rattle.least.proofs.PaddedLemmas.{padded_at, padded_length}
 
 -- the moment, if there is one, is that of some place
 abbrev IsOfSomePlace : List (Option ℕ) → Option ℕ → Type 0
@@ -85,16 +87,27 @@ pub unwritten : (dues best : List (Option ℕ)) (place : ℕ) → due_at best pl
     → IsBestBut place dues best → IsBest dues best
 unwritten dues best place is but n = search arith
 
--- a place with no moment more
-pub no_more : (xs : List (Option ℕ)) (k : ℕ) → due_at (xs ++ None ∷ []) k ≡ due_at xs k
-no_more [] zero = refl
-no_more [] (suc k) = refl
-no_more (x ∷ xs) zero = refl
-no_more (x ∷ xs) (suc k) = no_more xs k
-
 -- a place that has a moment is there
 pub is_there : (xs : List (Option ℕ)) (k : ℕ) → IsSome (due_at xs k) → k < length xs
 is_there xs k some = search (arith, get_or_past)
+
+-- nor have the places that aren't written one
+pub padded_best : (len : ℕ) (dues best : List (Option ℕ)) → IsBest dues best → IsBest (padded None len dues) best
+padded_best len dues best all k = search (arith, padded_at None len dues k, all k)
+
+-- both are written up to a place
+pub whole_padded : (len : ℕ) (dues best : List (Option ℕ)) → len ≤ 4294967296 → IsWhole dues best
+    → IsWhole (padded None len dues) (padded None len best)
+whole_padded len dues best few whole = record {
+  room = omega (arith, padded_length None len dues, padded_length None len best, whole.room);
+  at_most = omega (arith, padded_length None len best, whole.at_most);
+  each = λ k. rw (
+    padded_at None len dues k,
+    padded_at None len best k,
+    padded_at None len best (2 * k + 1),
+    padded_at None len best (2 * k + 2),
+  ) (whole.each k);
+}
 
 -- the least of two lists
 pub least_joined : (xs ys : List (Option ℕ)) (x y : Option ℕ) → IsLeast xs x → IsLeast ys y

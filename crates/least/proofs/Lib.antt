@@ -3,3 +3,4 @@ pub mod SpareLemmas
 pub mod TakenLemmas
 pub mod NextLemmas
 pub mod BestLemmas
+pub mod PaddedLemmas

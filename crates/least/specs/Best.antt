@@ -22,8 +22,8 @@ IsBest dues best = (place : ℕ) → due_at best place ≡ best_below dues best 
 abbrev pub IsBestBut : ℕ → List (Option ℕ) → List (Option ℕ) → Type 0
 IsBestBut but dues best = (place : ℕ) → place ≢ but → due_at best place ≡ best_below dues best place
 
--- a tree with a place for each of the list, and at most one more
+-- a tree as long as the list
 pub record IsWhole (dues best : List (Option ℕ)) : Type 0 where
-  pub room : length dues ≤ length best
+  pub room : length best ≡ length dues
   pub at_most : length best ≤ 4294967296
   pub each : IsBest dues best

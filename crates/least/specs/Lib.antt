@@ -5,3 +5,4 @@ pub mod Taken
 pub mod From
 pub mod Best
 pub mod Dues
+pub mod Padded

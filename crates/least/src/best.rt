@@ -1,9 +1,11 @@
 // The tree of least moments.
 ghost use Rattle.std.specs.Prelude.{◌≡◌, ◌≢◌, ℕ, ◌-◌, ◌/◌, ◌<◌, ◌≤◌, true, false, length, List, Option, IsSome, OnOk};
-ghost use Rattle.std.specs.Prelude.{◌+◌, ◌*◌};
+ghost use Rattle.std.specs.Prelude.{◌+◌, ◌*◌, None, vec_capacity};
 ghost use Rattle.least.specs.Best.{sooner, best_below, IsBest, IsBestBut, IsWhole};
 ghost use Rattle.least.specs.Dues.{due_at, since, IsLeastSince};
+ghost use Rattle.least.specs.Padded.{padded};
 
+use crate::reserved::reach;
 use std::alloc::AllocError;
 
 /// The greatest length of a list: each place has a number of 32 bits.
@@ -79,6 +81,7 @@ fn renew(dues: &Vec<Option<u64>>, best: &mut Vec<Option<u64>>, place: usize) -> 
     ensures done { result ≡ false → IsBest dues.now.items best.new.items }
     ensures more { result ≡ true → (0 < place) × IsBestBut ((place - 1) / 2) dues.now.items best.new.items }
     ensures len { length best.new.items ≡ length best.old.items }
+    ensures capacity { vec_capacity best.new ≡ vec_capacity best.old }
 {
     let due = best_below(dues, best, place);
     if is_same(best[place], due) {
@@ -95,6 +98,7 @@ pub(crate) fn raise(dues: &Vec<Option<u64>>, best: &mut Vec<Option<u64>>, place:
     requires others { IsBestBut place dues.now.items best.old.items }
     ensures all { IsBest dues.now.items best.new.items }
     ensures len { length best.new.items ≡ length best.old.items }
+    ensures capacity { vec_capacity best.new ≡ vec_capacity best.old }
 {
     let mut at = place;
     while renew(dues, best, at) {
@@ -133,38 +137,41 @@ pub(crate) fn place_of_least(dues: &Vec<Option<u64>>, best: &Vec<Option<u64>>) -
     at
 }
 
-/// Makes the tree longer than the list.
-#[tactic(auto, using(crate::proofs::BestLemmas::no_more))]
-fn cover(dues: &Vec<Option<u64>>, best: &mut Vec<Option<u64>>) -> Result<(), AllocError>
-    requires places { length dues.now.items < PLACES_MAX }
-    requires whole { IsWhole dues.now.items best.old.items }
-    ensures whole { IsWhole dues.now.items best.new.items }
-    ensures longer { OnOk result (length dues.now.items < length best.new.items) }
-{
-    if best.len() <= dues.len() {
-        best.push(None)?;
-    }
-    Ok(())
-}
-
-/// Makes both longer, until there is a place of this number.
+/// Makes room for so many places in both. What they have stays.
 #[inline(never)]
-#[tactic(auto, using(crate::proofs::BestLemmas::no_more))]
-pub(crate) fn grow(
+pub(crate) fn reserve_both(
     dues: &mut Vec<Option<u64>>,
     best: &mut Vec<Option<u64>>,
-    place: usize,
+    len: usize,
 ) -> Result<(), AllocError>
+    requires dues { length dues.old.items ≤ len }
+    requires best { length best.old.items ≤ len }
+    ensures dues { dues.new.items ≡ dues.old.items }
+    ensures best { best.new.items ≡ best.old.items }
+    ensures more { vec_capacity dues.old ≤ vec_capacity dues.new }
+    ensures more_best { vec_capacity best.old ≤ vec_capacity best.new }
+    ensures room { OnOk result (len ≤ vec_capacity dues.new) }
+    ensures room_best { OnOk result (len ≤ vec_capacity best.new) }
+{
+    dues.reserve(len - dues.len())?;
+    best.reserve(len - best.len())
+}
+
+/// Writes both up to a place, unless they have it.
+#[inline(always)]
+pub(crate) fn reach_both(dues: &mut Vec<Option<u64>>, best: &mut Vec<Option<u64>>, place: usize)
     requires fits { place < PLACES_MAX }
+    requires room { length dues.old.items ≤ place → place < vec_capacity dues.old }
+    requires room_best { length dues.old.items ≤ place → place < vec_capacity best.old }
     requires whole { IsWhole dues.old.items best.old.items }
     ensures whole { IsWhole dues.new.items best.new.items }
-    ensures room { OnOk result (place < length dues.new.items) }
-    ensures same { (k : ℕ) → due_at dues.new.items k ≡ due_at dues.old.items k }
-    ensures longer { length dues.old.items ≤ length dues.new.items }
+    ensures value { dues.new.items ≡ padded None (place + 1) dues.old.items }
+    ensures there { place < length dues.new.items }
+    ensures same { vec_capacity dues.new ≡ vec_capacity dues.old }
+    ensures same_best { vec_capacity best.new ≡ vec_capacity best.old }
 {
-    while dues.len() <= place {
-        cover(dues, best)?;
-        dues.push(None)?;
+    if dues.len() <= place {
+        reach(dues, place, None);
+        reach(best, place, None);
     }
-    Ok(())
 }

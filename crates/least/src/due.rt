@@ -2,28 +2,32 @@ ghost use Rattle.std.specs.Prelude.{◌≡◌, ℕ, ◌<◌, ◌≤◌, length, 
 ghost use Rattle.std.specs.Prelude.{IfOk, IfSome, IfNone, OnOk};
 ghost use Rattle.least.specs.Dues.{due_at, is_by, IsLeast, IsLeastSince};
 
-use crate::best::{grow, least_since, moment_at, place_of_least, raise};
+use crate::best::{least_since, moment_at, place_of_least, raise, reach_both, reserve_both};
 use std::alloc::{AllocError, Global};
 use std::marker::Model;
 
 /// Due moments by place: from the outside the list that has for each place its moment or none.
 // The places are a tree too, in which places 2 * n + 1 and 2 * n + 2 stand below place n. For each the least moment at
-// or below it is kept. A new place is a leaf, so the tree grows as the list does.
+// or below it is kept. A new place is a leaf, so the tree grows as the list does. There is room for `len` places in
+// both, which are written up to the highest one that ever had a moment.
 #[derive(Drop)]
 pub struct Dues {
     dues: Vec<Option<u64>>,
     best: Vec<Option<u64>>,
+    len: usize,
 }
 
 impl Model for Dues {
-    ghost use Rattle.std.specs.Prelude.{List, Option, ℕ};
+    ghost use Rattle.std.specs.Prelude.{◌≤◌, List, Option, None, ℕ, length, vec_capacity};
     ghost use Rattle.least.specs.Best.{IsWhole};
+    ghost use Rattle.least.specs.Padded.{padded};
 
     ghost Value = { List (Option ℕ) };
 
-    ghost view = { λ s. s.dues.items };
+    ghost view = { λ s. padded None s.len s.dues.items };
 
-    ghost invariant = { λ s. IsWhole s.dues.items s.best.items };
+    ghost invariant = { λ s. IsWhole s.dues.items s.best.items
+        × (length s.dues.items ≤ s.len) × (s.len ≤ vec_capacity s.dues) × (s.len ≤ vec_capacity s.best) };
 }
 
 impl Dues {
@@ -34,16 +38,19 @@ impl Dues {
         Dues {
             dues: Vec::new(alloc),
             best: Vec::new(alloc),
+            len: 0,
         }
     }
 
-    /// A list of so many places, of which none has a moment. Setting their moments takes no memory.
+    /// A list of so many places, of which none has a moment. Room for all of them is taken at once, 32 bytes each, so
+    /// setting their moments takes no memory; pages are touched only up to the highest place that had a moment.
     pub fn with_places(alloc: Global, n: u32) -> Result<Dues, AllocError>
         ensures { IfOk result (λ dues. dues ≡ replicate n None) }
     {
         Ok(Dues {
-            dues: vec![in alloc; None; n as usize]?,
-            best: vec![in alloc; None; n as usize]?,
+            dues: Vec::with_capacity(alloc, n as usize)?,
+            best: Vec::with_capacity(alloc, n as usize)?,
+            len: n as usize,
         })
     }
 
@@ -55,10 +62,12 @@ impl Dues {
         ensures same { (k : ℕ) → due_at self.new k ≡ due_at self.old k }
         ensures longer { length self.old ≤ length self.new }
     {
-        if (place as usize) < self.dues.len() {
+        if (place as usize) < self.len {
             return Ok(());
         }
-        grow(&mut self.dues, &mut self.best, place as usize)
+        reserve_both(&mut self.dues, &mut self.best, place as usize + 1)?;
+        self.len = place as usize + 1;
+        Ok(())
     }
 
     /// The moment at a place, or none past the end.
@@ -106,6 +115,7 @@ impl Dues {
         requires { place < length self.old }
         ensures { self.new ≡ slice_set self.old place due }
     {
+        reach_both(&mut self.dues, &mut self.best, place as usize);
         self.dues[place as usize] = due;
         raise(&self.dues, &mut self.best, place as usize);
     }

@@ -26,15 +26,20 @@
 //! dues.least();                 // Some(50)
 //! dues.due_by(50);              // Some(1)
 //! ```
+//!
+//! [`reach`] writes a list up to a place, within the room that it was made with: so a list that must never want memory
+//! has room for all of its places from the first, but costs pages of memory only up to the highest that was used.
 #![tactic(auto)]
 
 mod best;
 mod due;
 mod free;
 mod levels;
+mod reserved;
 mod words;
 
 pub use best::sooner;
 pub use due::Dues;
 pub use free::{LeastFree, NUMBERS_MAX};
 pub use levels::Levels;
+pub use reserved::reach;

@@ -1,6 +1,6 @@
-use Rattle.std.proofs.Common.{arith}
-use Rattle.least.proofs.BestLemmas.{least_at_root}
+use Rattle.least.proofs.BestLemmas.{least_at_root, padded_best}
 use Rattle.least.proofs.due.Dues.least.Goals as goal
 
 pub returns : goal.returns
-returns c = search (arith, least_at_root c.self.inside.dues.items c.self.inside.best.items c.self.invariant.each)
+returns c = rw (← c.self.view_is, c.moment_at.ensures)
+    (least_at_root _ _ (padded_best c.self.inside.len _ _ c.self.invariant.0.each))

@@ -1,0 +1,58 @@
+-- What stands in a list of which only the beginning is written.
+use Rattle.std.proofs.Common.{◌≡◌, ◌∙◌, sym, ap, arith, inl, inr, ℕ, suc, ◌+◌, ◌-◌, ◌<◌, ◌≤◌, List, [], ◌∷◌, ◌++◌, length, get_or, set, replicate}
+use Rattle.std.proofs.lemmas.List.{append-nil, append_assoc, get_or-replicate, get_or_past, length-append, length-replicate, length-set, replicate-append-replicate, set-append_left, set-get_or}
+use Rattle.std.proofs.Math.ListN.{get_or-append}
+use Rattle.std.proofs.Math.Seq.{get_or-append_right}
+use Rattle.std.proofs.lemmas.Bool.{cases_lt}
+use Rattle.least.specs.Padded.{padded}
+
+module _ {A : Type 0} (none : A) (len : ℕ) (xs : List A) where
+  -- a list that is so long is as it was
+  pub padded_long : len ≤ length xs → padded none len xs ≡ xs
+  padded_long le = (let short : len - length xs ≡ 0 = omega (arith, le) in rw short (append-nil xs))
+
+  pub padded_length : length (padded none len xs) ≡ length xs + (len - length xs)
+  padded_length = search (arith, length-append, length-replicate)
+
+  -- a part of it is written
+  pub padded_twice : (m : ℕ) → m ≤ len → padded none len (padded none m xs) ≡ padded none len xs
+  padded_twice m le = append_assoc xs (replicate (m - length xs) none) _
+      ∙ ap (λ ys. xs ++ ys) (replicate-append-replicate (m - length xs) _ none ∙ ap (λ k. replicate k none) rest)
+    where
+      rest : (m - length xs) + (len - length (padded none m xs)) ≡ len - length xs
+      rest = (let long : length (padded none m xs) ≡ length xs + (m - length xs)
+          = search (arith, length-append, length-replicate) in omega (arith, long, le))
+
+  -- so is one place more
+  pub padded_push : length xs < len → padded none len (xs ++ none ∷ []) ≡ padded none len xs
+  padded_push lt = append_assoc xs (none ∷ []) (replicate (len - length (xs ++ none ∷ [])) none)
+      ∙ ap (λ ys. xs ++ ys) (ap (λ k. replicate k none) rest)
+    where
+      rest : suc (len - length (xs ++ none ∷ [])) ≡ len - length xs
+      rest = (let long = length-append xs (none ∷ []) in omega (arith, long, lt))
+
+  -- what stands at a place
+  pub padded_at : (k : ℕ) → get_or (padded none len xs) k none ≡ get_or xs k none
+  padded_at k = elim (cases_lt k (length xs)) [
+    | inl lt ↦ get_or-append xs (replicate (len - length xs) none) none k lt
+    | inr le ↦ get_or-append_right xs (replicate (len - length xs) none) k none le
+        ∙ by (len - length xs) (k - length xs) ∙ sym (get_or_past xs k none le)
+  ]
+    where
+      by : (n i : ℕ) → get_or (replicate n none) i none ≡ none
+      by n i = elim (cases_lt i n) [
+        | inl lt ↦ get_or-replicate n i none none lt
+        | inr le ↦ get_or_past (replicate n none) i none (search (arith, length-replicate))
+      ]
+
+  -- a place that is written changes
+  pub padded_set : (k : ℕ) (x : A) → k < length xs → padded none len (set xs k x) ≡ set (padded none len xs) k x
+  padded_set k x lt = ap (λ n. set xs k x ++ replicate (len - n) none) (length-set xs k x)
+      ∙ sym (set-append_left xs (replicate (len - length xs) none) k x lt)
+
+  -- nothing comes to a place that isn't written
+  pub padded_past : (k : ℕ) → length xs ≤ k → set (padded none len xs) k none ≡ padded none len xs
+  padded_past k le = ap (λ x. set (padded none len xs) k x) (sym (padded_at k ∙ get_or_past xs k none le))
+      ∙ set-get_or (padded none len xs) k none
+
+pub ruleset padded_laws = (padded_long, padded_length, padded_push)
