@@ -3,6 +3,8 @@ use Rattle.std.proofs.Common.{◌≡◌, ℕ, ◌-◌, ◌+◌, ◌<◌, List, l
 use Rattle.std.specs.Prelude.{IfSome, IsSome}
 use Rattle.std.proofs.Math.Seq.{map-set_same}
 use Rattle.std.proofs.lemmas.List.{length-map, get_or-map, get_or_past, get_or-set_same, map-set, set-get_or}
+use Rattle.least.specs.Padded.{padded}
+use Rattle.least.proofs.PaddedLemmas.{padded_length}
 use Rattle.pin_core.specs.declared.id.Id.{Id}
 use Rattle.ob_body.specs.declared.body.Body.{Body}
 use Rattle.ob_arena.specs.Slots.{Slots, is_vacant_at, least_vacant}
@@ -11,8 +13,8 @@ use Rattle.ob_arena.proofs.SlotLemmas.{vacant_least}
 use Rattle.ob_waits.specs.CountedBodies.{slot_acquired, without_block}
 use Rattle.ob_store.specs.declared.object_header.ObjectHeader.{ObjectHeader}
 use Rattle.ob_store.specs.SavedWaits.{with_blocks_at}
-use Rattle.ob_store.specs.Objects.{Object, Places, places_of, rest_of, seen_in, Tag, object_at, object_of, objects_in, header_body, header_handles, header_blocks, header_handle_left, header_block_left, vacancy, vacant_places, with_header_of, with_handle, without_handle, with_block, without_header, is_last_handle}
-use Rattle.ob_store.proofs.LabelLaws.{object_read, objects_kept, objects_length, objects_none, objects_out, objects_put, header_there}
+use Rattle.ob_store.specs.Objects.{Object, Places, places_of, rest_of, seen_in, Tag, object_at, object_of, objects_in, header_body, header_handles, header_blocks, header_handle_left, header_block_left, vacancy, vacant_places, with_header_of, with_handle, without_handle, with_block, without_header, is_last_handle, no_tag}
+use Rattle.ob_store.proofs.LabelLaws.{object_read, objects_kept, objects_padded, objects_length, objects_none, objects_out, objects_put, header_there}
 
 -- what a list that is read off another has at a place
 pub read : {A B : Type 0} (f : Option A → B) (xs : List (Option A)) (k : ℕ)
@@ -128,10 +130,11 @@ least_is = search (arith, vacant_least)
 -- an object that comes to a vacant slot
 pub places_added : (s : Slots ObjectHeader) (ls : List Tag) (k : ℕ) (y : ObjectHeader) (m : Tag) (body : Option Body)
     (handles : ℕ)
-    → k < length ls → y.body ≡ body → y.handles ≡ handles → y.blocks ≡ 0
-    → places_of (record s { bodies = set s.bodies k (Some y) }) (set ls k m)
+    → y.body ≡ body → y.handles ≡ handles → y.blocks ≡ 0
+    → places_of (record s { bodies = set s.bodies k (Some y) }) (set (padded no_tag (k + 1) ls) k m)
     ≡ with_header_of (places_of s ls) k (object_of y m) body handles
-places_added s ls k y m body handles within has counts none = search (arith, map-set, objects_put)
+places_added s ls k y m body handles has counts none =
+    search (arith, map-set, padded_length, objects_put, objects_padded)
 
 -- and its handles
 pub added_handle : (xs : List (Option ObjectHeader)) (k : ℕ) (y : ObjectHeader) → k < length xs

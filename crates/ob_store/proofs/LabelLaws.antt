@@ -1,11 +1,12 @@
 -- The objects that are read off the headers and their tags, and the tags that are read off labels and names.
-use Rattle.std.proofs.Common.{◌≡◌, ℕ, zero, suc, ◌∷◌, [], ◌<◌, List, length, Option, Some, None, refl, ap, ◌∙◌, sym, arith, get_or, set, replicate, false, cond}
+use Rattle.std.proofs.Common.{◌≡◌, ℕ, zero, suc, ◌-◌, ◌∷◌, ◌++◌, [], ◌<◌, List, length, Option, Some, None, refl, ap, ◌∙◌, sym, arith, get_or, set, replicate, false, cond}
 use Rattle.std.specs.Prelude.{IsSome}
 use Rattle.std.proofs.lemmas.List.{get_or_default}
+use Rattle.least.specs.Padded.{padded}
 use Rattle.ob_name.specs.Names.{ObjectName}
 use Rattle.ob_store.specs.declared.label.Label.{Label}
 use Rattle.ob_store.specs.declared.object_header.ObjectHeader.{ObjectHeader}
-use Rattle.ob_store.specs.Objects.{Tag, name_in, object_at, object_of, objects_in, no_tag, tag_of, tags_in}
+use Rattle.ob_store.specs.Objects.{Tag, name_in, object_at, object_of, objects_in, no_label, no_tag, tag_of, tags_in}
 
 pub object_read : (xs : List (Option ObjectHeader)) (ls : List Tag) (k : ℕ)
     → get_or (objects_in xs ls) k None ≡ object_at (get_or xs k None) (get_or ls k no_tag)
@@ -46,6 +47,18 @@ objects_out (x ∷ xs) [] (suc k) = ap (λ t. object_at x no_tag ∷ t) (objects
 objects_out (x ∷ xs) (l ∷ ls) zero = refl
 objects_out (x ∷ xs) (l ∷ ls) (suc k) = ap (λ t. object_at x l ∷ t) (objects_out xs ls k)
 
+-- a tag where there was none says nothing
+objects_more : (xs : List (Option ObjectHeader)) (ls : List Tag) (n : ℕ)
+    → objects_in xs (ls ++ replicate n no_tag) ≡ objects_in xs ls
+objects_more [] ls n = refl
+objects_more (x ∷ xs) [] zero = refl
+objects_more (x ∷ xs) [] (suc n) = ap (λ t. object_at x no_tag ∷ t) (objects_more xs [] n)
+objects_more (x ∷ xs) (l ∷ ls) n = ap (λ t. object_at x l ∷ t) (objects_more xs ls n)
+
+pub objects_padded : (xs : List (Option ObjectHeader)) (ls : List Tag) (len : ℕ)
+    → objects_in xs (padded no_tag len ls) ≡ objects_in xs ls
+objects_padded xs ls len = objects_more xs ls (len - length ls)
+
 -- no header, no object
 pub objects_none : (n : ℕ) (ls : List Tag) → objects_in (replicate n None) ls ≡ replicate n None
 objects_none zero ls = refl
@@ -68,6 +81,14 @@ pub tags_length : (ls : List Label) (ns : List (Option ObjectName)) → length (
 tags_length [] ns = refl
 tags_length (l ∷ ls) [] = ap suc (tags_length ls [])
 tags_length (l ∷ ls) (n ∷ ns) = ap suc (tags_length ls ns)
+
+-- a slot's label and the place for its name are written
+pub tags_push : (ls : List Label) (ns : List (Option ObjectName)) → length ns ≡ length ls
+    → tags_in (ls ++ no_label ∷ []) (ns ++ None ∷ []) ≡ tags_in ls ns ++ no_tag ∷ []
+tags_push [] [] same = refl
+tags_push [] (n ∷ ns) same = absurd (omega arith)
+tags_push (l ∷ ls) [] same = absurd (omega arith)
+tags_push (l ∷ ls) (n ∷ ns) same = ap (λ t. tag_of l n ∷ t) (tags_push ls ns (omega arith))
 
 pub tag_read : (ls : List Label) (ns : List (Option ObjectName)) (k : ℕ) (l : Label) (n : Option ObjectName)
     → l ≡ get_or ls k l → n ≡ get_or ns k n → k < length ls → k < length ns

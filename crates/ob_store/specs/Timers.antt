@@ -1,5 +1,5 @@
 -- When the timer in each slot is due, and what is kept beside the objects.
-use Rattle.std.specs.Prelude.{◌≡◌, ℕ, Bool, List, Option, Some, None, length, map, slice_set}
+use Rattle.std.specs.Prelude.{◌≡◌, ◌<◌, ◌≤◌, ℕ, Bool, List, Option, Some, None, IsSome, length, map, slice_index_or, slice_set}
 use Rattle.ob_name.specs.Names.{ObjectName}
 use Rattle.ob_waits.specs.Form.{slot_due}
 use Rattle.ob_store.specs.declared.label.Label.{Label}
@@ -16,13 +16,14 @@ abbrev pub due_left : List (Option ℕ) → ℕ → Option ℕ → List (Option 
 due_left dues slot None = dues
 due_left dues slot (Some due) = slice_set dues slot None
 
--- the mutexes of each thread are counted, each slot's due moment is known and whether its object ended, and there is a
--- label and a place for a name for each slot
+-- the mutexes of each thread are counted, each slot's due moment is known and whether its object ended; each slot with
+-- an object has a label and a place for a name, and there is room for those of all slots
 pub record AreNoted (headers : List (Option ObjectHeader)) (counts : List ℕ) (dues : List (Option ℕ))
     (opens : List Bool)
-    (labels : List Label) (names : List (Option ObjectName)) : Type 0 where
+    (labels : List Label) (names : List (Option ObjectName)) (places : ℕ) : Type 0 where
   pub owned : IsOwned headers counts
   pub timed : dues ≡ map header_due headers
   pub opened : opens ≡ map is_open headers
-  pub labelled : length labels ≡ length headers
-  pub named : length names ≡ length headers
+  pub labelled : (k : ℕ) → IsSome (slice_index_or headers k None) → k < length labels
+  pub named : length names ≡ length labels
+  pub room : length headers ≤ places

@@ -1,8 +1,9 @@
 ghost use Rattle.std.specs.Prelude.{◌≡◌, ◌<◌, ◌≤◌, ◌&&◌, ℕ, false, true, IfNone, IfOk, IfSome, IsSome, IsTrue};
 ghost use Rattle.std.specs.Prelude.{None, Err, Ok, Some, is_some, if◌then◌else◌, length, slice_get, slice_index_or};
-ghost use Rattle.std.specs.Prelude.{slice_set};
+ghost use Rattle.std.specs.Prelude.{◌+◌, min, slice_set, vec_capacity};
 ghost use Rattle.std.specs.Option.{option_map};
 ghost use Rattle.least.specs.From.{IsLeastFrom};
+ghost use Rattle.least.specs.Padded.{padded};
 ghost use Rattle.ob_waits.specs.Form.{slot_due, slot_owner};
 ghost use Rattle.ob_arena.specs.Slots.{is_vacant_at, least_vacant};
 ghost use Rattle.ob_waits.specs.CountedBodies.{body_of, slot_room, without_block};
@@ -11,7 +12,7 @@ ghost use Rattle.ob_store.specs.Closing.{is_closing_in};
 ghost use Rattle.ob_store.specs.Owners.{owns_at};
 ghost use Rattle.ob_store.specs.Ticks.{slot_is_due};
 ghost use Rattle.ob_store.specs.Timers.{due_left};
-ghost use Rattle.ob_store.specs.Objects.{name_in, object_of, tag_of, tags_in, rest_of, vacant_places, vacancy};
+ghost use Rattle.ob_store.specs.Objects.{name_in, no_tag, object_of, tag_of, tags_in, rest_of, vacant_places, vacancy};
 ghost use Rattle.ob_store.specs.Objects.{with_handle, without_handle, is_last_handle, with_block, is_last_block};
 ghost use Rattle.ob_store.specs.Objects.{without_header, with_retired, with_header_of};
 ghost use Rattle.ob_store.specs.Counting.{counting_one, may_count};
@@ -37,9 +38,10 @@ use std::marker::Model;
 #[derive(Drop)]
 pub(crate) struct ObjectHeaders {
     arena: Arena<ObjectHeader>,
-    // By slot, beside the headers.
+    // By slot, beside the headers. There is room for each slot; those are written up to the highest that was used.
     labels: Vec<Label>,
-    // By slot, where the label says that there is a name. What an object had stays until a name comes to its slot.
+    // By slot, where the label says that there is a name. What an object had stays until a name comes to its slot. They
+    // are as many as the labels.
     names: Vec<Option<Name>>,
     owners: Owners,
     // By slot, when its timer is due.
@@ -55,11 +57,13 @@ impl Model for ObjectHeaders {
 
     ghost view = { λ s. places_of s.arena (tags_in s.labels.items s.names.items) };
 
+    ghost use Rattle.std.specs.Prelude.{min, vec_capacity};
     ghost use Rattle.ob_store.specs.Timers.{AreNoted};
 
-    // Hidden from the value: how many mutexes each thread owns, when the timer in each slot is due, and in which slots
-    // an object ended.
-    ghost invariant = { λ s. AreNoted s.arena.bodies s.owners s.timers s.closing s.labels.items s.names.items };
+    // Hidden from the value: how many mutexes each thread owns, when the timer in each slot is due, in which slots an
+    // object ended, and that there are labels and places for names.
+    ghost invariant = { λ s. AreNoted s.arena.bodies s.owners s.timers s.closing s.labels.items s.names.items
+        (min (vec_capacity s.labels) (vec_capacity s.names)) };
 }
 
 /// The thread that owns a mutex; none for other objects and where nobody does.
@@ -104,9 +108,23 @@ fn close(closing: &mut Levels, slot: u32, ended: bool)
     }
 }
 
-/// What stands where there is no name.
-fn no_name() -> Option<Name> {
-    None
+/// Writes labels and places for names, each with nothing, up to those of a slot.
+#[inline(always)]
+fn reach_label(labels: &mut Vec<Label>, names: &mut Vec<Option<Name>>, slot: usize)
+    requires room { slot < min (vec_capacity labels.old) (vec_capacity names.old) }
+    requires named { length names.old.items ≡ length labels.old.items }
+    ensures value { tags_in labels.new.items names.new.items
+        ≡ padded no_tag (slot + 1) (tags_in labels.old.items names.old.items) }
+    ensures there { slot < length labels.new.items }
+    ensures more { length labels.old.items ≤ length labels.new.items }
+    ensures named { length names.new.items ≡ length labels.new.items }
+    ensures room { min (vec_capacity labels.new) (vec_capacity names.new)
+        ≡ min (vec_capacity labels.old) (vec_capacity names.old) }
+{
+    while labels.len() <= slot {
+        labels.push_reserved(Label::none());
+        names.push_reserved(None);
+    }
 }
 
 /// Gives a slot a label and a name, if there is one. The name that stood there is let go.
@@ -126,6 +144,8 @@ fn relabel(
         (record { birth = birth; descr = descr; name = name }) }
     ensures labels { length labels.new.items ≡ length labels.old.items }
     ensures names { length names.new.items ≡ length names.old.items }
+    ensures room { min (vec_capacity labels.new) (vec_capacity names.new)
+        ≡ min (vec_capacity labels.old) (vec_capacity names.old) }
 {
     let Some(name) = name else {
         labels[slot as usize] = Label {
@@ -149,14 +169,10 @@ impl ObjectHeaders {
         requires { slots ≤ SLOTS_MAX }
         ensures { IfOk result (λ headers. headers ≡ vacant_places slots) }
     {
-        let mut labels = Vec::new(alloc);
-        labels.resize_with(slots as usize, Label::none)?;
-        let mut names = Vec::new(alloc);
-        names.resize_with(slots as usize, no_name)?;
         Ok(ObjectHeaders {
             arena: Arena::new(alloc, slots)?,
-            labels,
-            names,
+            labels: Vec::with_capacity(alloc, slots as usize)?,
+            names: Vec::with_capacity(alloc, slots as usize)?,
             owners: Owners::new(alloc, slots, threads)?,
             timers: Dues::with_places(alloc, slots)?,
             closing: Levels::with_taken(alloc, slots as usize)?,
@@ -282,6 +298,7 @@ impl ObjectHeaders {
             body,
         };
         self.arena.put(id.slot, header);
+        reach_label(&mut self.labels, &mut self.names, id.slot as usize);
         relabel(
             &mut self.labels,
             &mut self.names,

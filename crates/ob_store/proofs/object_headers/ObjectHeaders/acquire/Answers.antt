@@ -24,7 +24,7 @@ pub moved-requires : goal.moved-requires
 moved-requires c = owned_few c.self.inside.arena.bodies c.self.inside.owners c.self.invariant.owned
 
 pub invariant_of-self : goal.invariant_of-self
-invariant_of-self c = rw c.moved.ensures (noted_moved _ _ _ _ _ _ c.self.invariant c.args.id.slot c.get_mut.result.now
+invariant_of-self c = rw c.moved.ensures (noted_moved _ _ _ _ _ _ _ c.self.invariant c.args.id.slot c.get_mut.result.now
     c.acquire-acquired.new.self c.get_mut.ensures.value c.acquire-acquired.result.before
     c.acquire-acquired.result.after _ c.acquire-acquired.ensures.before c.acquire-acquired.ensures.after
     (mapped_stays header_due c.self.inside.arena.bodies c.self.inside.timers c.args.id.slot c.get_mut.result.now

@@ -1,6 +1,5 @@
-use Rattle.std.proofs.Common.{◌∙◌, refl, sym, length, ◌<◌, arith}
+use Rattle.std.proofs.Common.{◌∙◌, refl, sym, arith}
 use Rattle.ob_store.specs.Objects.{Tag, tags_in, places_of}
-use Rattle.ob_store.proofs.LabelLaws.{tags_length}
 use Rattle.ob_store.proofs.HeaderLaws.{places_added, added_handle, vacant_same}
 use Rattle.ob_store.proofs.OwnerLaws.{owned_few, vacant_header}
 use Rattle.ob_store.proofs.TimerLaws.{timed_vacant, timed_within}
@@ -16,13 +15,9 @@ put-requires c = sym (vacant_same c.self.inside.arena
 pub came-requires : goal.came-requires
 came-requires c = owned_few c.self.inside.arena.bodies c.self.inside.owners c.self.invariant.owned
 
-pub relabel-requires-clause-labelled : goal.relabel-requires-clause-labelled
-relabel-requires-clause-labelled c =
-    omega (arith, (vacant_header _ _ _ c.args.id.slot c.self.view_is c.requires).0, c.self.invariant.labelled)
-
-pub relabel-requires-clause-named : goal.relabel-requires-clause-named
-relabel-requires-clause-named c =
-    omega (arith, (vacant_header _ _ _ c.args.id.slot c.self.view_is c.requires).0, c.self.invariant.named)
+pub reach_label-requires-clause-room : goal.reach_label-requires-clause-room
+reach_label-requires-clause-room c =
+    omega (arith, (vacant_header _ _ _ c.args.id.slot c.self.view_is c.requires).0, c.self.invariant.room)
 
 pub moved-requires-clause-within : goal.moved-requires-clause-within
 moved-requires-clause-within c = timed_within c.self.inside.arena.bodies c.self.inside.timers c.args.id.slot
@@ -42,15 +37,9 @@ returns-clause-value c =
     let i = c.self.inside in
     let tags = tags_in i.labels.items i.names.items in
     let tag : Tag = record { birth = c.args.birth; descr = c.args.descr; name = c.args.name } in
-    let within : c.args.id.slot < length tags =
-    omega (
-      arith,
-      (vacant_header _ _ _ c.args.id.slot c.self.view_is c.requires).0,
-      c.self.invariant.labelled,
-      tags_length i.labels.items i.names.items,
-    ) in
-    rw (← c.self.view_is) ((λ j. places_of (c.put.ensures j) (c.relabel.ensures.value j))
-    ∙ places_added i.arena tags c.args.id.slot _ tag c.args.body c.args.handles within refl refl refl)
+    let labelled = rw c.reach_label.ensures.value at c.relabel.ensures.value in
+    rw (← c.self.view_is) ((λ j. places_of (c.put.ensures j) (labelled j))
+    ∙ places_added i.arena tags c.args.id.slot _ tag c.args.body c.args.handles refl refl refl)
 
 pub returns-clause-handles : goal.returns-clause-handles
 returns-clause-handles c = rw c.put.ensures (added_handle c.self.inside.arena.bodies c.args.id.slot _
@@ -66,5 +55,6 @@ invariant_of-self c =
       c.moved.ensures,
       c.due_of.ensures,
       c.close.ensures,
-    ) (noted_came _ _ _ _ _ _ c.self.invariant c.args.id.slot _ c.is_none.result _ _ vacant.0 vacant.1
-    c.is_none.ensures c.relabel.ensures.labels c.relabel.ensures.names)
+    ) (noted_came _ _ _ _ _ _ _ c.self.invariant c.args.id.slot _ c.is_none.result _ _ _ vacant.0 vacant.1
+    c.is_none.ensures (search arith) (search arith) (search arith)
+    (c.relabel.ensures.room ∙ c.reach_label.ensures.room))

@@ -30,7 +30,7 @@ invariant_of-self c = rw (
   c.due_of.ensures,
   c.close.ensures,
   c.is_some.ensures,
-) (noted_left _ _ _ _ _ _ c.self.invariant c.args.id.slot c.get_mut.result.now c.block_left-gone.new.self
+) (noted_left _ _ _ _ _ _ _ c.self.invariant c.args.id.slot c.get_mut.result.now c.block_left-gone.new.self
     c.get_mut.ensures.value _ c.block_left-gone.result c.block_left-gone.ensures.gone
     (ap (λ (x : ObjectHeader). x.body) c.block_left-gone.ensures.value))
 

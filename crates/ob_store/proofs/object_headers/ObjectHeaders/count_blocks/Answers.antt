@@ -24,5 +24,5 @@ returns c =
     sym (blocks_with_header arena tags c.args.slot c.args.waits.now.waits c.get.result.now c.get.ensures)))
 
 pub invariant_of-self : goal.invariant_of-self
-invariant_of-self c = noted_counts _ _ _ _ _ _ c.self.invariant c.args.slot c.get_mut.result.now _
+invariant_of-self c = noted_counts _ _ _ _ _ _ _ c.self.invariant c.args.slot c.get_mut.result.now _
     c.get_mut.ensures.value refl

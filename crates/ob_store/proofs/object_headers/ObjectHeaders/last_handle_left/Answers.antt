@@ -19,7 +19,7 @@ invariant_of-self c = rw (
   c.due_of.ensures,
   c.close.ensures,
   c.is_some.ensures,
-) (noted_left _ _ _ _ _ _ c.self.invariant c.args.slot c.get_mut.result.now c.handle_left-gone.new.self
+) (noted_left _ _ _ _ _ _ _ c.self.invariant c.args.slot c.get_mut.result.now c.handle_left-gone.new.self
     c.get_mut.ensures.value _ c.handle_left-gone.result c.handle_left-gone.ensures.gone
     (ap (λ (x : ObjectHeader). x.body) c.handle_left-gone.ensures.value))
 

@@ -1,5 +1,4 @@
 use Rattle.std.proofs.Common.{◌∙◌, sym, get_or, None, arith, refl}
-use Rattle.ob_tables.proofs.Counting.{some_within}
 use Rattle.ob_store.specs.Objects.{tag_of, tags_in}
 use Rattle.ob_store.proofs.LabelLaws.{object_here, object_read, tag_read, tags_length}
 use Rattle.ob_tables.proofs.Inheriting.{none_of}
@@ -19,10 +18,9 @@ pub returns-clause-object : goal.returns-clause-object
 returns-clause-object c =
     let labels = c.self.inside.labels.items in
     let names = c.self.inside.names.items in
-    let within = some_within c.self.inside.arena.bodies c.args.slot c.get.result.now c.get.ensures in
+    let within = c.self.invariant.labelled c.args.slot (search (arith, c.get.ensures)) in
     let tag = tag_read labels names c.args.slot c.index.result.now c.index-2.result.now c.index.ensures
-    c.index-2.ensures (omega (arith, within, c.self.invariant.labelled))
-    (omega (arith, within, c.self.invariant.named)) in
+    c.index-2.ensures within (omega (arith, within, c.self.invariant.named)) in
     rw (← c.self.view_is) (object_here c.self.inside.arena.bodies (tags_in labels names) c.args.slot c.get.result.now
     (tag_of c.index.result.now c.index-2.result.now) c.get.ensures tag
-    (omega (arith, within, c.self.invariant.labelled, tags_length labels names)))
+    (omega (arith, within, tags_length labels names)))

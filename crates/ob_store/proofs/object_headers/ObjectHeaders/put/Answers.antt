@@ -24,7 +24,7 @@ moved-requires c = owned_few c.self.inside.arena.bodies c.self.inside.owners c.s
 
 pub invariant_of-self : goal.invariant_of-self
 invariant_of-self c =
-    rw (c.moved.ensures, c.moved-2.ensures) (noted_moved _ _ _ _ _ _ c.self.invariant c.args.slot c.get_mut.result.now
+    rw (c.moved.ensures, c.moved-2.ensures) (noted_moved _ _ _ _ _ _ _ c.self.invariant c.args.slot c.get_mut.result.now
     c.put-was.new.self c.get_mut.ensures.value c.put-was.result.owner c.owner-owner.result _ c.put-was.ensures.owner
     (c.owner-owner.ensures.owner ∙ ap (λ (x : ObjectHeader). slot_owner x.body) (sym c.put-was.ensures.value))
     (mapped_set header_due c.self.inside.arena.bodies c.self.inside.timers c.args.slot (Some c.put-was.new.self)

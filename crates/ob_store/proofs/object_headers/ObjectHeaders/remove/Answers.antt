@@ -1,11 +1,11 @@
 use Rattle.std.proofs.Common.{true, ◌∙◌, refl, sym, None}
-use Rattle.std.proofs.lemmas.List.{length-set}
 use Rattle.ob_store.specs.Objects.{tags_in}
 use Rattle.ob_store.specs.Closing.{is_open}
 use Rattle.ob_store.proofs.HeaderLaws.{header_of, places_removed, vacant_same, mapped_set}
 use Rattle.ob_store.proofs.OwnerLaws.{object_within, owned_removed}
 use Rattle.ob_store.proofs.TimerLaws.{timed_removed}
 use Rattle.ob_store.proofs.ClosingLaws.{ended_here}
+use Rattle.ob_store.proofs.NotedLaws.{labelled_out, room_set}
 use Rattle.ob_store.proofs.object_headers.ObjectHeaders.remove.Goals as goal
 
 pub take-requires : goal.take-requires
@@ -25,8 +25,9 @@ invariant_of-self c =
     let ended = rw (← c.self.view_is) at c.requires.ended in
     let arena = c.self.inside.arena in
     rw c.take.ensures.after (record {
-      labelled = c.self.invariant.labelled ∙ sym (length-set arena.bodies c.args.slot None);
-      named = c.self.invariant.named ∙ sym (length-set arena.bodies c.args.slot None);
+      labelled = labelled_out _ _ _ _ _ _ _ c.self.invariant c.args.slot;
+      named = c.self.invariant.named;
+      room = room_set _ _ _ _ _ _ _ c.self.invariant c.args.slot None;
       owned = owned_removed arena.bodies c.self.inside.owners c.args.slot c.self.invariant.owned ended
           (object_within arena (tags_in c.self.inside.labels.items c.self.inside.names.items) c.args.slot there);
       opened = c.take-2.ensures
