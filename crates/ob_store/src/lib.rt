@@ -51,6 +51,7 @@ mod pins;
 mod processes;
 mod reading_objects;
 mod reclaiming;
+mod reserved;
 mod saved_slot;
 mod savestate;
 mod settling;

@@ -1,3 +1,4 @@
+use crate::reserved::put_at;
 use std::alloc::{AllocError, Global};
 
 // Ends a list: a number past all slots.
@@ -10,23 +11,26 @@ struct Link {
     next: u32,
 }
 
+// A slot in no list.
+const ALONE: Link = Link {
+    before: END,
+    next: END,
+};
+
 /// A list of slots for each thread below a limit. Nothing is promised of what it has: it is a hint.
 #[derive(Drop)]
 pub(crate) struct Links {
+    // By thread and by slot, up to the highest that was in a list.
     firsts: Vec<u32>,
     links: Vec<Link>,
 }
 
 impl Links {
-    /// Lists without a slot. They take 8 bytes for each slot and 4 for each thread.
+    /// Lists without a slot. There is room for 8 bytes for each slot and 4 for each thread.
     pub(crate) fn new(alloc: Global, slots: u32, threads: u32) -> Result<Links, AllocError> {
-        let none = Link {
-            before: END,
-            next: END,
-        };
         Ok(Links {
-            firsts: vec![in alloc; END; threads as usize]?,
-            links: vec![in alloc; none; slots as usize]?,
+            firsts: Vec::with_capacity(alloc, threads as usize)?,
+            links: Vec::with_capacity(alloc, slots as usize)?,
         })
     }
 
@@ -35,8 +39,21 @@ impl Links {
         self.firsts.get(thread as usize).copied().unwrap_or(END)
     }
 
-    // One slot stands before another, or at an end of the list.
-    fn join(&mut self, thread: u32, before: u32, next: u32) {
+    /// Puts a slot first in a thread's list.
+    pub(crate) fn add(&mut self, thread: u32, slot: u32) {
+        let next = self.first(thread);
+        put_at(&mut self.links, slot, Link { before: END, next }, ALONE);
+        if let Some(link) = self.links.get_mut(next as usize) {
+            link.before = slot;
+        }
+        put_at(&mut self.firsts, thread, slot, END);
+    }
+
+    /// Takes a slot out of a thread's list.
+    pub(crate) fn remove(&mut self, thread: u32, slot: u32) {
+        let Some(Link { before, next }) = self.links.get(slot as usize).copied() else {
+            return;
+        };
         if let Some(link) = self.links.get_mut(before as usize) {
             link.next = next;
         } else if let Some(first) = self.firsts.get_mut(thread as usize) {
@@ -44,20 +61,6 @@ impl Links {
         }
         if let Some(link) = self.links.get_mut(next as usize) {
             link.before = before;
-        }
-    }
-
-    /// Puts a slot first in a thread's list.
-    pub(crate) fn add(&mut self, thread: u32, slot: u32) {
-        let first = self.first(thread);
-        self.join(thread, slot, first);
-        self.join(thread, END, slot);
-    }
-
-    /// Takes a slot out of a thread's list.
-    pub(crate) fn remove(&mut self, thread: u32, slot: u32) {
-        if let Some(link) = self.links.get(slot as usize).copied() {
-            self.join(thread, link.before, link.next);
         }
     }
 }

@@ -3,22 +3,25 @@ ghost use Rattle.std.specs.Prelude.{slice_set};
 ghost use Rattle.ob_store.specs.Owners.{owned_came, owned_left, owned_moved};
 
 use crate::links::Links;
+use crate::reserved::put_at;
 use std::alloc::{AllocError, Global};
 use std::marker::Model;
 
 /// How many mutexes each thread below a limit owns, and a hint of where they are.
 #[derive(Drop)]
 pub(crate) struct Owners {
+    // There is room for each thread below the limit; written are those up to the highest that owned a mutex.
     counts: Vec<u32>,
     links: Links,
 }
 
 impl Model for Owners {
-    ghost use Rattle.std.specs.Prelude.{List, ℕ};
+    ghost use Rattle.std.specs.Prelude.{List, ℕ, vec_capacity};
+    ghost use Rattle.least.specs.Padded.{padded};
 
     ghost Value = { List ℕ };
 
-    ghost view = { λ o. o.counts.items };
+    ghost view = { λ o. padded 0 (vec_capacity o.counts) o.counts.items };
 }
 
 impl Owners {
@@ -26,7 +29,7 @@ impl Owners {
         ensures { IfOk result (λ owners. owners ≡ replicate threads 0) }
     {
         Ok(Owners {
-            counts: vec![in alloc; 0; threads as usize]?,
+            counts: Vec::with_capacity(alloc, threads as usize)?,
             links: Links::new(alloc, slots, threads)?,
         })
     }
@@ -36,8 +39,7 @@ impl Owners {
         ensures none { IsTrue result → slice_index_or self.now thread 0 ≡ 0 }
         ensures within { IsTrue result → thread < length self.now }
     {
-        let at = thread as usize;
-        at < self.counts.len() && self.counts[at] == 0
+        (thread as usize) < self.counts.capacity() && self.count(thread) == 0
     }
 
     /// How many mutexes a thread owns; 0 for a thread whose mutexes aren't counted.
@@ -68,10 +70,8 @@ impl Owners {
         requires { (t : ℕ) → slice_index_or self.old t 0 ≤ 65536 }
         ensures { self.new ≡ slice_set self.old thread (slice_index_or self.old thread 0 + 1) }
     {
-        let at = thread as usize;
-        if at < self.counts.len() {
-            self.counts[at] += 1;
-        }
+        let count = self.count(thread);
+        put_at(&mut self.counts, thread, count + 1, 0);
         self.links.add(thread, slot);
     }
 
