@@ -145,8 +145,8 @@ impl From<AllocError> for OptionsFault {
 
 /// Reads the arguments after the program's name, by the habits of `clap`: `--slots 4` or `--slots=4`, in any order,
 /// each option at most once, `--help` or `-h`, and `--version` or `-V`. The options are the *profile*'s: one for each
-/// limit of [`Limits`], `--lanes`, `--load` and `--save`. A savestate has limits of its own, and lanes go over new
-/// managers alone: beside `--load` stands no limit, and beside `--load` and `--save` no `--lanes`.
+/// limit of [`Limits`], `--reuse`, `--lanes`, `--load` and `--save`. A savestate has limits of its own, and lanes go over
+/// new managers alone: beside `--load` stands no limit and no `--reuse`, and beside `--load` and `--save` no `--lanes`.
 pub fn read_options(alloc: Global, args: Vec<String>) -> Result<Options, OptionsFault>
     ensures lanes { IfOk result (λ options. options.lanes ≤ 64) }
 {
@@ -205,7 +205,7 @@ fn value_of<'a>(word: &'a str, next: Option<&'a String>) -> &'a str {
     }
 }
 
-/// The command, with an option for each limit, one for lanes and two for savestates.
+/// The command, with an option for each limit, one for numbers that come back, one for lanes and two for savestates.
 fn command<'a>(alloc: Global) -> Result<Command<'a>, AllocError> {
     let mut command = Command::new(alloc, "obman")
         .no_binary_name(true)
@@ -217,6 +217,7 @@ fn command<'a>(alloc: Global) -> Result<Command<'a>, AllocError> {
         command = command.arg(number(alloc, option)?)?;
     }
     command
+        .arg(reuse(alloc)?)?
         .arg(number(alloc, LANES)?.conflicts_with("save")?)?
         .arg(path(
             alloc,
@@ -238,6 +239,18 @@ fn number<'a>(alloc: Global, option: NumberOption) -> Result<Arg<'a>, AllocError
         .value_name("NUMBER")
         .help(option.help)
         .action(ArgAction::Set)
+        .conflicts_with("load")
+}
+
+/// The option for numbers that come back, which doesn't stand beside `--load`.
+fn reuse<'a>(alloc: Global) -> Result<Arg<'a>, AllocError> {
+    Arg::new(alloc, "reuse")
+        .long("reuse")
+        .help(
+            "Numbers come back: a new process or thread has the least that no live one has, so that their limits are of \
+             those that live at a time, and a wait is called by its thread. Not beside --load",
+        )
+        .action(ArgAction::SetTrue)
         .conflicts_with("load")
 }
 
@@ -263,7 +276,10 @@ fn limits_of(matches: &ArgMatches<'_>) -> Result<Limits, OptionsFault> {
         given(matches, MAX_GEN, usual.max_gen)?,
         given(matches, MAX_RECURSION, usual.max_recursion)?,
     );
-    limits.map_err(|_| OptionsFault::BadLine)
+    match limits {
+        Ok(limits) => Ok(limits.with_reuse(matches.get_flag("reuse"))),
+        Err(_) => Err(OptionsFault::BadLine),
+    }
 }
 
 /// The number that was given for an option, or else the usual one.

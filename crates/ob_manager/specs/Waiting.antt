@@ -19,7 +19,7 @@ use Rattle.ob_manager.specs.declared.reply.Reply.TheVariants as reply
 use Rattle.ob_manager.specs.declared.waiting.Timeout.{Timeout}
 use Rattle.ob_manager.specs.declared.waiting.Timeout.TheVariants.{Zero, Infinite, Millis}
 use Rattle.ob_store.specs.State.{State, settled}
-use Rattle.ob_store.specs.Waiting.{are_waits_given, with_answer, with_taken, with_wait, without_wait}
+use Rattle.ob_store.specs.Waiting.{are_waits_given, open_waits, wait_name, wait_number, with_answer, with_taken, with_wait, without_wait}
 use Rattle.ob_manager.specs.Outcomes.{Outcome, ◌>>=◌, or_refuse, refuse_if}
 use Rattle.ob_manager.specs.Checks.{caller, found}
 
@@ -88,11 +88,14 @@ deadline_in now Zero = None
 deadline_in now Infinite = None
 deadline_in now (Millis n) = if nat_lt n 4294967295 then Some (now + 10000 * n) else None
 
--- 1450 where a wait would become pending and each wait number was given
+-- 1450 where a wait would become pending and no number is left for it
 abbrev pub pending : State → ℕ → Mode → Option ℕ → List Id → Result Outcome Fault
 pending s thread mode deadline ids = do
   _ ← refuse_if (are_waits_given s) fault.Limit
-  Ok (record { reply = reply.Pending (length s.waits); state = settled (with_wait s thread mode ids deadline) })
+  Ok (record {
+    reply = reply.Pending (wait_name s thread (length (open_waits s)));
+    state = settled (with_wait s thread mode ids deadline);
+  })
 
 -- what a wait comes to that isn't satisfied now
 abbrev pub unsatisfied : State → ℕ → Mode → Timeout → List Id → Result Outcome Fault
@@ -132,16 +135,19 @@ becomes_pending (Err e) = false
 
 -- what a thread gets of its wait: its answer, with which it is over, or that it is pending
 abbrev pub shown : State → ℕ → WaitState → Outcome
-shown s number Pending = record { reply = reply.Pending number; state = s }
-shown s number (Answered code) = record { reply = reply.Code code; state = settled (without_wait s number) }
+shown s wait Pending = record { reply = reply.Pending wait; state = s }
+shown s wait (Answered code) = record {
+  reply = reply.Code code;
+  state = settled (without_wait s (wait_number s wait));
+}
 
 abbrev pub wait_result : State → ℕ → Result Outcome Fault
-wait_result s number = do
-  stands ← or_refuse (state_at (slice_index_or s.waits number None)) fault.Parameter
-  Ok (shown s number stands)
+wait_result s wait = do
+  stands ← or_refuse (state_at (slice_index_or s.waits (wait_number s wait) None)) fault.Parameter
+  Ok (shown s wait stands)
 
 -- a pending wait is answered with 258
 abbrev pub expire : State → ℕ → Result Outcome Fault
-expire s number = do
-  _ ← refuse_if (not (is_pending (slice_index_or s.waits number None))) fault.Parameter
-  Ok (record { reply = reply.Expired number; state = settled (with_answer s number 258) })
+expire s wait = do
+  _ ← refuse_if (not (is_pending (slice_index_or s.waits (wait_number s wait) None))) fault.Parameter
+  Ok (record { reply = reply.Expired wait; state = settled (with_answer s (wait_number s wait) 258) })

@@ -1,17 +1,16 @@
-ghost use Rattle.std.specs.Prelude.{◌≡◌, ◌+◌, IfSome, None, Some, slice_index_or};
-ghost use Rattle.std.specs.Option.{option_map};
+ghost use Rattle.std.specs.Prelude.{◌≡◌};
 ghost use Rattle.least.specs.Dues.{IsLeast};
-ghost use Rattle.least.specs.From.{IsLeastFrom};
-ghost use Rattle.ob_waits.specs.Answers.{answer_of, is_answered};
 ghost use Rattle.ob_store.specs.Dues.{dues_of};
+ghost use Rattle.ob_store.specs.Waiting.{IsNextAnswered};
 
 use crate::manager::Manager;
 use ob_waits::Answer;
 use pin_words::PinKeeper;
 
 impl<K: PinKeeper> Manager<K> {
-    /// The answer of the least wait number above `after`, of the waits that are answered and whose answer was not
-    /// taken: which wait, whose, and its code. 0 is below all numbers. Nothing changes: the answer stays until
+    /// The answer of the next wait behind the one that is called `after`, by the order in which waits began, of those
+    /// that are answered and whose answer was not taken: which wait, whose, and its code. 0 is before all waits, and so
+    /// is what is called like no wait where numbers come back. Nothing changes: the answer stays until
     /// [`wait_result`](Manager::wait_result) takes it or its thread ends.
     ///
     /// A host that asks from 0 on after each call, and takes what it is told until there is none, wakes just the
@@ -21,10 +20,7 @@ impl<K: PinKeeper> Manager<K> {
     ///
     /// It takes no memory, and its cost does not grow with the waits that are pending.
     pub fn next_answered(&self, after: u32) -> Option<Answer>
-        ensures least { IsLeastFrom (after + 1) (λ n. is_answered (slice_index_or self.now.state.waits n None))
-            (option_map (λ a. a.wait) result) }
-        ensures answer { IfSome result (λ a. answer_of a.wait (slice_index_or self.now.state.waits a.wait None)
-            ≡ Some a) }
+        ensures { IsNextAnswered self.now.state after result }
     {
         self.store.next_answered(after)
     }

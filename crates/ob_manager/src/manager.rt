@@ -8,6 +8,7 @@ ghost use Rattle.ob_store.specs.Consistent.{IsConsistent};
 ghost use Rattle.ob_store.specs.Objects.{object_of, tag_of};
 ghost use Rattle.ob_store.specs.State.{blocks_of, handles_of, hold_of, opening, shape_of};
 ghost use Rattle.ob_store.specs.Stored.{MatchesState, hold_in};
+ghost use Rattle.ob_store.specs.Waiting.{wait_number};
 ghost use Rattle.ob_manager.specs.declared.call.CallOf.TheVariants as calls;
 ghost use Rattle.ob_manager.specs.Makings.{making_of};
 ghost use Rattle.ob_manager.specs.Counting.{card};
@@ -467,7 +468,7 @@ impl<K: PinKeeper> Manager<K> {
 
     /// Whether a wait is pending.
     pub fn is_pending(&self, wait: u32) -> bool
-        ensures { result ≡ waits.is_pending (slice_index_or self.now.state.waits wait None) }
+        ensures { result ≡ waits.is_pending (slice_index_or self.now.state.waits (wait_number self.now.state wait) None) }
     {
         waiting::is_pending(&self.store, wait)
     }

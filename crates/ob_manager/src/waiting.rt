@@ -7,6 +7,7 @@ ghost use Rattle.std.proofs.Common.{rules};
 ghost use Rattle.ob_waits.specs.Waits as waits;
 ghost use Rattle.ob_waits.specs.Waits.{nowhere, number_of};
 ghost use Rattle.ob_store.specs.State.{handles_of};
+ghost use Rattle.ob_store.specs.Waiting.{wait_number};
 ghost use Rattle.ob_manager.specs.Waiting.{becomes_pending, collected, deadline_in, expire, has_twice, have_room};
 ghost use Rattle.ob_manager.specs.Waiting.{is_for_one_twice, is_misshapen, is_zero, lacks_synchronize, objects_of};
 ghost use Rattle.ob_manager.specs.Waiting.{same_handle, wait, wait_on, wait_result};
@@ -390,7 +391,7 @@ pub fn wait_result<K: PinKeeper>(store: &mut Store<K>, wait: u32) -> Result<Repl
 
 /// Whether a wait is pending.
 pub fn is_pending<K: PinKeeper>(store: &Store<K>, wait: u32) -> bool
-    ensures { result ≡ waits.is_pending (slice_index_or store.now.state.waits wait None) }
+    ensures { result ≡ waits.is_pending (slice_index_or store.now.state.waits (wait_number store.now.state wait) None) }
 {
     match store.wait_state(wait) {
         Some(WaitState::Pending) => true,

@@ -6,6 +6,7 @@ ghost use Rattle.ob_tables.specs.Tables.{table_of};
 ghost use Rattle.ob_waits.specs.Waits.{is_pending, new_wait, number_of};
 ghost use Rattle.ob_store.specs.Closing.{is_closing_at};
 ghost use Rattle.ob_store.specs.Kept.{IsThere};
+ghost use Rattle.ob_store.specs.Waiting.{wait_name, wait_number};
 ghost use Rattle.ob_store.specs.Walking.{is_object_at, is_process, is_thread_of, is_value_of};
 ghost use Rattle.ob_manager.specs.Handles.{entry_of};
 ghost use Rattle.ob_manager.specs.States.{state_of};
@@ -91,9 +92,10 @@ impl<K: PinKeeper> Manager<K> {
         self.store.session(process)
     }
 
-    /// The number of the thread's wait, whether it is pending or answered and not taken.
+    /// What the thread's wait is called, whether it is pending or answered and not taken: its number or, where numbers
+    /// come back, that of the thread.
     pub fn wait_of(&self, thread: u32) -> Option<u32>
-        ensures { result ≡ number_of thread self.now.state.waits }
+        ensures { result ≡ option_map (wait_name self.now.state thread) (number_of thread self.now.state.waits) }
     {
         self.store.wait_of(thread)
     }
@@ -101,8 +103,9 @@ impl<K: PinKeeper> Manager<K> {
     /// A pending wait as its thread asked for it: the thread, whether one of the objects satisfies it or all together,
     /// until when, and the objects in the order of their handles. None where there is no pending wait of that number.
     pub fn objects_waited_for(&self, wait: u32) -> Option<Pending<'_>>
-        ensures is_there { is_some result ≡ is_pending (slice_index_or self.now.state.waits wait None) }
-        ensures wait { IfSome result (λ p. slice_index_or self.now.state.waits wait None
+        ensures is_there { is_some result
+            ≡ is_pending (slice_index_or self.now.state.waits (wait_number self.now.state wait) None) }
+        ensures wait { IfSome result (λ p. slice_index_or self.now.state.waits (wait_number self.now.state wait) None
             ≡ Some (new_wait p.thread p.mode p.ids.now p.deadline)) }
     {
         self.store.pending(wait)

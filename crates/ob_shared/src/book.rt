@@ -1,6 +1,7 @@
 ghost use Rattle.std.specs.Prelude.{◌≡◌, ◌↔◌, ◌<◌, [], ◌∷◌, ◌++◌, IfNone, IfOk, IfErr, IfSome, IsTrue, None, Ok};
 ghost use Rattle.std.specs.Prelude.{slice_index_or, vec_len, vec_capacity};
 ghost use Rattle.ob_rights.specs.declared.fault.Fault.TheVariants.{Memory};
+ghost use Rattle.ob_store.specs.Waiting.{wait_number};
 ghost use Rattle.ob_waits.specs.Waits.{is_pending};
 ghost use Rattle.ob_store.specs.Consistent.{IsConsistent};
 ghost use Rattle.ob_store.specs.State.{State, Whole, opening};
@@ -218,7 +219,8 @@ impl<K: PinKeeper> Book<K> {
 
     /// Whether the manager says that a wait is pending.
     pub fn is_pending(&self, wait: u32) -> bool
-        ensures { result ≡ is_pending (slice_index_or self.now.manager.state.waits wait None) }
+        ensures { result ≡ is_pending (slice_index_or self.now.manager.state.waits
+            (wait_number self.now.manager.state wait) None) }
     {
         self.manager.is_pending(wait)
     }

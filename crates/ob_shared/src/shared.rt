@@ -115,6 +115,7 @@ impl Shared {
     ghost use Rattle.std.specs.Prelude.{slice_index_or};
     ghost use Rattle.ob_rights.specs.declared.fault.Fault.TheVariants.{Limit, Memory};
     ghost use Rattle.pin_core.specs.Holds.{tally, same_id};
+    ghost use Rattle.ob_store.specs.Waiting.{wait_number};
     ghost use Rattle.ob_waits.specs.Waits.{is_pending};
     ghost use Rattle.ob_store.specs.State.{Whole, opening};
     ghost use Rattle.ob_manager.specs.declared.call.CallOf.TheVariants as calls;
@@ -257,7 +258,8 @@ impl Shared {
             rt,
             held,
             |held| -> bool
-                ensures { (result ≡ is_pending (slice_index_or held.entry.now.manager.state.waits wait None))
+                ensures { (result ≡ is_pending (slice_index_or held.entry.now.manager.state.waits
+                    (wait_number held.entry.now.manager.state wait) None))
                     × (held.exit.now ≡ held.entry.now) }
             { held.book().is_pending(wait) },
         );

@@ -167,52 +167,52 @@ with_member p parent session = record p {
 
 module _ (p : PartsState) (w : Whole) (view : whole_of p ≡ w) (kept : StoreInvariant p)
     (processes : next_process w.state ≤ w.state.limits.processes) (threads : next_thread w.state ≤ w.state.limits.threads)
-    where
-  abbrev pub next : ℕ
-  next = next_number p.limits.reuse p.processes.processes
+  where
+    abbrev pub next : ℕ
+    next = next_number p.limits.reuse p.processes.processes
 
-  process_free : IsFree p.processes.processes next
-  process_free = next_is_free p.limits.reuse p.processes.processes kept.sound.processes_kept.processes_from_one
+    process_free : IsFree p.processes.processes next
+    process_free = next_is_free p.limits.reuse p.processes.processes kept.sound.processes_kept.processes_from_one
 
-  thread_free : IsFree p.processes.threads (next_number p.limits.reuse p.processes.threads)
-  thread_free = next_is_free p.limits.reuse p.processes.threads kept.sound.processes_kept.threads_from_one
+    thread_free : IsFree p.processes.threads (next_number p.limits.reuse p.processes.threads)
+    thread_free = next_is_free p.limits.reuse p.processes.threads kept.sound.processes_kept.threads_from_one
 
-  -- its table has no entry yet
-  pub none_in : table_of p.tables.tables next ≡ []
-  none_in = kept.sound.processes_kept.vacated next process_free.none
+    -- its table has no entry yet
+    pub none_in : table_of p.tables.tables next ≡ []
+    none_in = kept.sound.processes_kept.vacated next process_free.none
 
-  pub member_kept : (parent : Option ℕ) (session : ℕ)
-      → ProcessesKept p.limits (with_member p parent session).processes (with_member p parent session).tables.tables
-  member_kept parent session = process_kept p.limits p.processes p.tables.tables next _ session _ process_free thread_free
-      (rw (← view) at processes) (rw (← view) at threads) kept.sound.processes_kept
+    pub member_kept : (parent : Option ℕ) (session : ℕ)
+        → ProcessesKept p.limits (with_member p parent session).processes (with_member p parent session).tables.tables
+    member_kept parent session = process_kept p.limits p.processes p.tables.tables next _ session _ process_free thread_free
+        (rw (← view) at processes) (rw (← view) at threads) kept.sound.processes_kept
 
-  pub member_live : (parent : Option ℕ) (session : ℕ)
-      → AreOfLive (with_member p parent session).processes.threads p.objects.seen.bodies p.waits.waits
-  member_live parent session = of_live_more p.processes.threads _ p.objects.seen.bodies p.waits.waits
-      (λ k. live_put p.processes.threads _ next k thread_free) kept.sound.of_live
+    pub member_live : (parent : Option ℕ) (session : ℕ)
+        → AreOfLive (with_member p parent session).processes.threads p.objects.seen.bodies p.waits.waits
+    member_live parent session = of_live_more p.processes.threads _ p.objects.seen.bodies p.waits.waits
+        (λ k. live_put p.processes.threads _ next k thread_free) kept.sound.of_live
 
-  pub member_populated : (parent : Option ℕ) (session : ℕ)
-      → IsPopulated (with_member p parent session).processes.processes (with_member p parent session).processes.threads
-  member_populated parent session = populated_process p.processes.processes p.processes.threads next _ session
-      process_free thread_free kept.populated
+    pub member_populated : (parent : Option ℕ) (session : ℕ)
+        → IsPopulated (with_member p parent session).processes.processes (with_member p parent session).processes.threads
+    member_populated parent session = populated_process p.processes.processes p.processes.threads next _ session
+        process_free thread_free kept.populated
 
-  pub kept_process : (session : ℕ) → StoreInvariant (with_member p None session)
-  kept_process session = record {
-    sound = record {
-      limited = kept.sound.limited;
-      processes_kept = member_kept None session;
-      counted = counted_process p.objects.seen (length p.objects.objects) p.tables.tables p.waits.waits
-          kept.sound.counted next none_in;
-      named = named_process p.objects.objects p.tables.tables p.waits.waits kept.sound.named next none_in;
-      formed = kept.sound.formed;
-      of_live = member_live None session;
-      room = kept.sound.room;
-      listing = listing_process p.rows p.tables.tables p.objects.objects p.objects.births kept.sound.listing next None
-          none_in;
-    };
-    populated = member_populated None session;
-    settled = kept.settled;
-  }
+    pub kept_process : (session : ℕ) → StoreInvariant (with_member p None session)
+    kept_process session = record {
+      sound = record {
+        limited = kept.sound.limited;
+        processes_kept = member_kept None session;
+        counted = counted_process p.objects.seen (length p.objects.objects) p.tables.tables p.waits.waits
+            kept.sound.counted next none_in;
+        named = named_process p.objects.objects p.tables.tables p.waits.waits kept.sound.named next none_in;
+        formed = kept.sound.formed;
+        of_live = member_live None session;
+        room = kept.sound.room;
+        listing = listing_process p.rows p.tables.tables p.objects.objects p.objects.births kept.sound.listing next None
+            none_in;
+      };
+      populated = member_populated None session;
+      settled = kept.settled;
+    }
 
 -- a thread comes
 abbrev pub with_thread : PartsState → ℕ → PartsState

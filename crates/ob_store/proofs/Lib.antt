@@ -63,3 +63,4 @@ pub mod StoredLaws
 pub mod GivenLaws
 pub mod MemberLaws
 pub mod NumberLaws
+pub mod OpenedLaws

@@ -84,6 +84,7 @@ any_least threads p None is = sym (none threads (λ t. at t))
   where
     at : (t : ℕ) → is_of p (get_or threads t None) ≡ true → ⊥
     at t h = is.least t (omega arith) h
+
     none : (ts : List (Option ℕ)) → ((t : ℕ) → is_of p (get_or ts t None) ≡ true → ⊥) → list_any (is_of p) ts ≡ false
     none [] nope = refl
     none (x ∷ ts) nope = search (arith, is_false (is_of p x) (nope 0), none ts (λ t. nope (suc t)))
@@ -118,7 +119,7 @@ module _ (members : BTreeSet ℕ) (p from : ℕ) (threads : List (Option ℕ)) (
         least = λ t since h.
             let lt = own_within threads p t h in
             let low = least (key p t) (omega (arith, since)) (omega (arith, lt, are.few))
-                (are.each p t (omega (arith, lt, are.few)) ∙ h) in
+            (are.each p t (omega (arith, lt, are.few)) ∙ h) in
             omega (arith, low, above, below);
       }
 

@@ -14,7 +14,7 @@ use Rattle.ob_store.specs.Processes.{no_processes}
 use Rattle.ob_store.specs.Objects.{ObjectsState, with_keeper, vacant_places}
 use Rattle.ob_store.specs.Parts.{PartsState, whole_of}
 use Rattle.ob_store.specs.Signaled.{none_signaled}
-use Rattle.ob_store.specs.State.{Whole, opening, shape_of}
+use Rattle.ob_store.specs.State.{Whole, opening, shape_of, last_wait}
 use Rattle.ob_store.specs.Kept.{StoreInvariant}
 use Rattle.ob_store.proofs.CountedLaws.{counted_opening}
 use Rattle.ob_store.proofs.NamedLaws.{named_opening}
@@ -24,7 +24,7 @@ abbrev pub no_tables : Limits → HandleTables
 no_tables limits = record { process_limit = limits.processes; handle_limit = limits.handles; tables = [] ∷ [] }
 
 abbrev pub no_waits : Limits → WaitList
-no_waits limits = record { limit = limits.waits; waits = None ∷ []; clock = 0 }
+no_waits limits = record { limit = last_wait limits; waits = None ∷ []; clock = 0 }
 
 module _ (limits : Limits) (keeper : KeeperState) (fresh : IsFresh keeper (shape_of limits)) where
   abbrev pub no_objects : ObjectsState

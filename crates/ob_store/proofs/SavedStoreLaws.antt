@@ -35,7 +35,7 @@ use Rattle.ob_store.specs.SavedObjects.{begun_over, objects_at, objects_text, sl
 use Rattle.ob_store.specs.SavedProcesses.{ListsFit, processes_at, processes_text}
 use Rattle.ob_store.specs.SavedSlots.{SlotFits, keeper_slot, slot_text}
 use Rattle.ob_store.specs.SavedStore.{is_moment, lists_at, moment_at, parts_at, begun_again, slot_bytes, store_at, store_text, tables_for, behind_lists, whole_with}
-use Rattle.ob_store.specs.State.{Whole, generation_of, shape_of}
+use Rattle.ob_store.specs.State.{Whole, generation_of, shape_of, last_wait}
 use Rattle.ob_store.proofs.NamedLaws.{place_counted, there_within}
 use Rattle.ob_store.proofs.PlacedLaws.{live_within}
 use Rattle.ob_store.proofs.SavedAgain.{objects_again, xs-at, xs-long}
@@ -126,7 +126,7 @@ module _ (p : PartsState) (kept : StoreInvariant p) (tied : ObjectsInvariant p.o
       (tables_text p.tables.tables ++ rest) ≡ Ok (p.tables, rest)
   tables_back rest = search (arith, tables_there, vacated_pass)
 
-  waits_back : (rest : List ℕ) → waits_at p.limits.waits p.waits.clock (length p.processes.threads) p.limits.slots
+  waits_back : (rest : List ℕ) → waits_at (last_wait p.limits) p.waits.clock (length p.processes.threads) p.limits.slots
       (waits_text p.waits.waits ++ rest) ≡ Ok (p.waits, rest)
   waits_back rest = rw (← sound.limited.waits_are)
       (waits_again (length p.processes.threads) p.limits.slots p.waits rest waits (waits_within p kept tied))
@@ -213,9 +213,9 @@ lists_were limits clock bytes l are e =
     let t = d.0.0 in
     let ld = (tables_take limits.processes limits.handles (length p.processes) c.0.1 t d.0.1 lc.rest_fits
     (tables_kept limits p.processes c.0.1 t d.0.1 d.1).0).0 in
-    let f = bind_ok (waits_at limits.waits clock (length p.threads) limits.slots d.0.1) _ l d.2 in
+    let f = bind_ok (waits_at (last_wait limits) clock (length p.threads) limits.slots d.0.1) _ l d.2 in
     let list = f.0.0 in
-    let lf = (waits_take limits.waits clock (length p.threads) limits.slots d.0.1 list f.0.1 ld.rest_fits f.1).0 in
+    let lf = (waits_take (last_wait limits) clock (length p.threads) limits.slots d.0.1 list f.0.1 ld.rest_fits f.1).0 in
     search arith
 
 pub store_takes : (bytes : List ℕ) (w : Whole) (rest : List ℕ) → AreBytes bytes → store_at bytes ≡ Ok (w, rest)

@@ -32,7 +32,7 @@ use Rattle.ob_store.specs.Objects.{Object, ObjectsState, KeptRest, kept_rest, wi
 use Rattle.ob_store.specs.Parts.{PartsState, state_of, whole_of}
 use Rattle.ob_store.specs.State.{settled}
 use Rattle.ob_store.specs.UnderWay.{AreLeft, IsUnderWay}
-use Rattle.ob_store.specs.Waiting.{with_answer, with_taken, with_wait, without_wait}
+use Rattle.ob_store.specs.Waiting.{joined, with_answer, with_taken, without_wait}
 use Rattle.ob_store.proofs.BodyLaws.{formed_by}
 use Rattle.ob_store.proofs.BySlot.{recounted, count_few}
 use Rattle.ob_store.proofs.CameLaws.{came_counts, came_long, came_stays}
@@ -156,9 +156,9 @@ module _ (p : PartsState) (t : ℕ) (mode : Mode) (ids : List Id) (d : Option �
   came = came_stays ids p.objects
 
   pub whole_waiting : StoreInvariant waiting → ObjectsInvariant (with_blocks_of p.objects ids)
-      → whole_of waiting ≡ record (whole_of p) { state = settled (with_wait (state_of p) t mode ids d) }
+      → whole_of waiting ≡ record (whole_of p) { state = settled (joined (state_of p) t mode ids d) }
   whole_waiting after tied =
-      let same : state_of waiting ≡ with_wait (state_of p) t mode ids d = search (arith, came_stays) in
+      let same : state_of waiting ≡ joined (state_of p) t mode ids d = search (arith, came_stays) in
       let is = sym (settled_kept waiting after tied) ∙ ap settled same in
       search (arith, came_stays)
 

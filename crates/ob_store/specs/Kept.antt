@@ -19,14 +19,14 @@ use Rattle.ob_store.specs.declared.limits.Limits.{Limits}
 use Rattle.ob_store.specs.Processes.{IsFromOne, ProcessesState, is_of}
 use Rattle.ob_store.specs.Objects.{Object}
 use Rattle.ob_store.specs.Parts.{PartsState}
-use Rattle.ob_store.specs.State.{by_slot, shape_of}
+use Rattle.ob_store.specs.State.{by_slot, last_wait, shape_of}
 use Rattle.ob_store.specs.Directory.{rows_of}
 
 -- each part has the limits of the whole
 pub record AreLimited (limits : Limits) (processes handles waits : ℕ) (shape : Shape) : Type 0 where
   pub processes_are : processes ≡ limits.processes
   pub handles_are : handles ≡ limits.handles
-  pub waits_are : waits ≡ limits.waits
+  pub waits_are : waits ≡ last_wait limits
   pub shape_is : shape ≡ shape_of limits
 
 -- the number is live

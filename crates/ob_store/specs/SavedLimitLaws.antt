@@ -88,10 +88,13 @@ limits_back l = by (are_in_range (numbers_of l)) refl (range_in (numbers_of l) r
   where
     same : recursion_in (recursion_number l.max_recursion l.reuse) ≡ l.max_recursion
     same = recursion_is l.max_recursion l.reuse l.in_range.max_recursion_in_range.1
+
     reuse : reuse_in (recursion_number l.max_recursion l.reuse) ≡ l.reuse
     reuse = reuse_is l.max_recursion l.reuse l.in_range.max_recursion_in_range.1
+
     range : InRange (numbers_of l)
     range = rw same l.in_range
+
     with : (m : ℕ) (b : Bool) → l.max_recursion ≡ m → l.reuse ≡ b
         → (r : AreInRange l.slots l.processes l.threads l.handles l.waits l.max_pins l.max_gen m)
         → Some (record l { max_recursion = m; reuse = b; in_range = r }) ≡ Some l
@@ -103,6 +106,7 @@ limits_back l = by (are_in_range (numbers_of l)) refl (range_in (numbers_of l) r
         → Some (record l { reuse = b; in_range = r }) ≡ Some l) d
         (λ r. ap (λ (r : AreInRange l.slots l.processes l.threads l.handles l.waits l.max_pins l.max_gen
         l.max_recursion). Some (record l { in_range = r })) (same_range r l.in_range)))
+
     by : (b : Bool) (e : are_in_range (numbers_of l) ≡ b) → b ≡ true → limits_where (numbers_of l) b e ≡ Some l
     by true e is = with _ _ (sym same) (sym reuse) (in_range (numbers_of l) e)
     by false e is = absurd (cc is)

@@ -15,7 +15,7 @@ use Rattle.ob_store.specs.SavedLimits.{limits_at, limits_text}
 use Rattle.ob_store.specs.SavedObjects.{begun_over, objects_at, objects_text, slots_saved}
 use Rattle.ob_store.specs.SavedProcesses.{processes_at, processes_text}
 use Rattle.ob_store.specs.SavedSlots.{keeper_slot}
-use Rattle.ob_store.specs.State.{Whole, generation_of, shape_of}
+use Rattle.ob_store.specs.State.{Whole, generation_of, last_wait, shape_of}
 
 -- the processes and threads, and the objects of a state, of which no count is saved
 abbrev pub processes_in : Whole → ProcessesState
@@ -78,7 +78,7 @@ abbrev pub lists_at : Limits → ℕ → List ℕ → Read (ProcessesState × (H
 lists_at limits clock bytes = do
   p ← processes_at limits.processes limits.threads bytes
   t ← tables_for limits p.0.processes p.1
-  w ← waits_at limits.waits clock (length p.0.threads) limits.slots t.1
+  w ← waits_at (last_wait limits) clock (length p.0.threads) limits.slots t.1
   Ok ((p.0, (t.0, w.0)), w.1)
 
 -- the whole state, once these are read and slots with their objects stand behind them

@@ -162,6 +162,10 @@ vacancy s = record { bodies = s.objects; retired = s.retired }
 abbrev pub shape_of : Limits → Shape
 shape_of limits = record { slots = limits.slots; max_pins = limits.max_pins; max_gen = limits.max_gen }
 
+-- the last number that a wait may have: behind it none is given or, where numbers come back, they begin anew
+abbrev pub last_wait : Limits → ℕ
+last_wait limits = if limits.reuse then 4294967295 else limits.waits
+
 -- the state before any call
 abbrev pub opening : Limits → State
 opening limits = record {

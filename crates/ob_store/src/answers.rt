@@ -1,20 +1,20 @@
-ghost use Rattle.std.specs.Prelude.{◌≡◌, ◌+◌, IfSome, None, Some, slice_index_or};
-ghost use Rattle.std.specs.Option.{option_map};
-ghost use Rattle.least.specs.From.{IsLeastFrom};
-ghost use Rattle.ob_waits.specs.Answers.{answer_of, is_answered};
+ghost use Rattle.ob_store.specs.Waiting.{IsNextAnswered};
 
 use crate::store::Store;
 use ob_waits::Answer;
 use pin_words::PinKeeper;
 
 impl<K: PinKeeper> Store<K> {
-    /// The answer of the least wait number above `after`, of the waits whose answer was not taken yet.
+    /// The answer of the next wait, behind the one that is called `after`, of those whose answer was not taken yet: in
+    /// the order in which waits began.
     pub fn next_answered(&self, after: u32) -> Option<Answer>
-        ensures least { IsLeastFrom (after + 1) (λ n. is_answered (slice_index_or self.now.state.waits n None))
-            (option_map (λ a. a.wait) result) }
-        ensures answer { IfSome result (λ a. answer_of a.wait (slice_index_or self.now.state.waits a.wait None)
-            ≡ Some a) }
+        ensures { IsNextAnswered self.now.state after result }
     {
-        self.parts.waits.next_answered(after)
+        self.kept();
+        let mut answer = self.parts.waits.next_answered(self.wait_number(after))?;
+        if self.parts.limits.reuse {
+            answer.wait = answer.thread;
+        }
+        Some(answer)
     }
 }

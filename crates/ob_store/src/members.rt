@@ -15,11 +15,7 @@ pub(crate) fn key(process: u32, thread: u32) -> u64
 }
 
 /// The least thread of a process, from `from` on. Its cost grows with the logarithm of the threads.
-pub(crate) fn first_from(
-    members: &BTreeSet<u64, Global>,
-    process: u32,
-    from: u32,
-) -> Option<u32>
+pub(crate) fn first_from(members: &BTreeSet<u64, Global>, process: u32, from: u32) -> Option<u32>
     ensures { (threads : List (Option ℕ)) → AreMembers threads members.now
         → IsLeastFrom from (λ thread. is_of process (slice_index_or threads thread None)) result }
 {

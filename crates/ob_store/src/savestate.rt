@@ -6,6 +6,7 @@ ghost use Rattle.ob_store.specs.Parts.{parts_of, whole_of};
 ghost use Rattle.ob_store.specs.SavedProcesses.{are_populated};
 ghost use Rattle.ob_store.specs.SavedStore.{are_vacated, begun_again, is_vacated, lists_at, moment_at, parts_at};
 ghost use Rattle.ob_store.specs.SavedStore.{store_at, store_text, tables_for};
+ghost use Rattle.ob_store.specs.State.{last_wait};
 
 use crate::limits::Limits;
 use crate::objects::Objects;
@@ -91,7 +92,7 @@ fn read_lists(
     ensures populated { IfOk result (λ lists. are_populated lists.processes ≡ true) }
     ensures process_limit { IfOk result (λ lists. lists.tables.process_limit ≡ limits.processes) }
     ensures handle_limit { IfOk result (λ lists. lists.tables.handle_limit ≡ limits.handles) }
-    ensures wait_limit { IfOk result (λ lists. lists.waits.limit ≡ limits.waits) }
+    ensures wait_limit { IfOk result (λ lists. lists.waits.limit ≡ last_wait limits) }
     ensures within { IfOk result (λ lists. are_within (length lists.processes.threads) limits.slots
         lists.waits.waits ≡ true) }
 {
@@ -99,7 +100,7 @@ fn read_lists(
     let tables = read_tables(alloc, limits, &processes, from)?;
     let waits = Waits::read(
         alloc,
-        limits.waits,
+        limits.last_wait(),
         clock,
         processes.thread_places(),
         limits.slots,

@@ -71,7 +71,7 @@ impl<K: PinKeeper> Store<K> {
                     processes,
                     tables,
                     objects,
-                    waits: Waits::new(alloc, limits.waits),
+                    waits: Waits::new(alloc, limits.last_wait()),
                     names: Directory::new(alloc),
                     signaled,
                 };

@@ -70,7 +70,7 @@ impl<K: PinKeeper> Store<K> {
     {
         self.kept();
         while let Some(wait) = self.overdue(now) {
-            self.expire(wait);
+            self.expire_at(wait);
             self.kept();
         }
         self.pass_to(now);

@@ -1,4 +1,4 @@
-ghost use Rattle.std.specs.Prelude.{ℕ, ◌≡◌, ◌<◌, ◌↔◌, true, false, Err, IfErr, IfOk, IsSome, None, OnErr, OnOk, Some};
+ghost use Rattle.std.specs.Prelude.{ℕ, ◌≡◌, ◌<◌, ◌≤◌, ◌↔◌, true, false, Err, IfErr, IfOk, IsSome, None, OnErr, OnOk, Some};
 ghost use Rattle.std.specs.Prelude.{if◌then◌else◌, length, slice_index_or};
 ghost use Rattle.std.specs.Option.{IfNone, OnSome};
 ghost use Rattle.ob_rights.specs.declared.fault.Fault.TheVariants.{Limit, Memory};
@@ -6,21 +6,64 @@ ghost use Rattle.ob_waits.specs.Form.{IsAfter};
 ghost use Rattle.ob_waits.specs.Rules.{HasRoom, IsWaitable};
 ghost use Rattle.ob_waits.specs.Waits.{code_now, is_answer, is_pending, list_ready, nowhere, number_of, state_at};
 ghost use Rattle.ob_store.specs.State.{handles_of, settled};
-ghost use Rattle.ob_store.specs.Waiting.{are_waits_given, with_answer, with_taken, with_wait, without_wait};
+ghost use Rattle.ob_waits.specs.Rules.{WaitsInvariant};
+ghost use Rattle.ob_waits.specs.Waits.{is_full, with_wait as list_with_wait};
+ghost use Rattle.ob_store.specs.Waiting.{are_waits_given, open_waits, opened, wait_name, wait_number};
+ghost use Rattle.ob_store.specs.Waiting.{with_answer, with_taken, with_wait, without_wait};
 ghost use Rattle.ob_store.specs.Moves.{OnlyCloses};
 
 use crate::store::Store;
 use ob_rights::Fault;
-use ob_waits::{Mode, WAIT_TIMEOUT, WaitState, leave_all, try_now};
+use ob_waits::{Mode, WAIT_TIMEOUT, WaitState, Waits, leave_all, try_now};
 use pin_core::Id;
 use pin_words::PinKeeper;
 
+/// Adds a pending wait, for which the numbers begin anew where they come back and each is given.
+fn add_open(
+    waits: &mut Waits,
+    reuse: bool,
+    thread: u32,
+    mode: Mode,
+    ids: &[Id],
+    deadline: Option<u64>,
+) -> Result<u32, Fault>
+    requires ahead { IsAfter waits.old.clock deadline }
+    requires waitable { IsWaitable mode ids.now }
+    requires alone { number_of thread waits.old.waits ≡ None }
+    ensures number { IfOk result (λ number. number ≡ length (opened reuse waits.old).waits) }
+    ensures added { OnOk result (waits.new ≡ list_with_wait (opened reuse waits.old) thread mode ids.now deadline) }
+    ensures err { OnErr result (waits.new ≡ waits.old) }
+    ensures full { result ≡ Err Limit → is_full (opened reuse waits.old) ≡ true }
+    ensures once { reuse ≡ false → is_full waits.old ≡ true → result ≡ Err Limit }
+    ensures memory { IfErr result (λ fault. is_full (opened reuse waits.old) ≡ false → fault ≡ Memory) }
+    ensures kept { WaitsInvariant waits.old.waits }
+    ensures at_most { length waits.old.waits ≤ 4294967296 }
+{
+    match waits.add(thread, mode, ids, deadline) {
+        Err(Fault::Limit) if reuse => waits.add_renewed(thread, mode, ids, deadline),
+        added => added,
+    }
+}
+
 impl<K: PinKeeper> Store<K> {
-    /// Where the wait of a number stands: none where no wait has it.
-    pub fn wait_state(&self, wait: u32) -> Option<WaitState>
-        ensures { result ≡ state_at (slice_index_or self.now.state.waits wait None) }
+    /// The number of the wait that is called so; 0, which no wait has, where numbers come back and the thread has none.
+    #[inline]
+    pub(crate) fn wait_number(&self, wait: u32) -> u32
+        ensures { result ≡ wait_number self.now.state wait }
     {
-        self.parts.waits.look(wait).map(|(state, _)| state)
+        if self.parts.limits.reuse {
+            self.parts.waits.wait_of(wait).unwrap_or(0)
+        } else {
+            wait
+        }
+    }
+
+    /// Where a wait stands: none where no wait is called so.
+    pub fn wait_state(&self, wait: u32) -> Option<WaitState>
+        ensures { result ≡ state_at (slice_index_or self.now.state.waits (wait_number self.now.state wait) None) }
+    {
+        let number = self.wait_number(wait);
+        self.parts.waits.look(number).map(|(state, _)| state)
     }
 
     /// Has a thread take at once what satisfies its wait for these objects, and answers the wait's code. Where the wait
@@ -42,9 +85,11 @@ impl<K: PinKeeper> Store<K> {
     }
 
     /// Makes the wait of a thread, which isn't satisfied now, pending until a moment after now or without end, and
-    /// answers its number. It counts among what refers to its objects.
+    /// answers what it is called. It counts among what refers to its objects.
     ///
-    /// Refused with 1450 where each wait number was given, and else with 8 for want of memory.
+    /// Refused with 1450 where each wait number was given and they don't come back, and else with 8 for want of memory.
+    /// One wait in 4,294,967,295 begins the numbers anew where they come back, which takes a time that grows with the
+    /// waits that aren't over.
     pub fn add_wait(
         &mut self,
         thread: u32,
@@ -60,7 +105,8 @@ impl<K: PinKeeper> Store<K> {
         requires unready { list_ready mode thread self.old.state.bodies ids.now ≡ false }
         requires handled { (i : ℕ) → i < length ids.now → 0 < handles_of self.old.state
             (slice_index_or ids.now i nowhere) }
-        ensures number { IfOk result (λ number. number ≡ length self.old.state.waits) }
+        ensures name { IfOk result (λ name. name
+            ≡ wait_name self.old.state thread (length (open_waits self.old.state))) }
         ensures ok { OnOk result (self.new ≡ record self.old {
           state = settled
               (with_wait self.old.state thread mode ids.now deadline);
@@ -70,11 +116,12 @@ impl<K: PinKeeper> Store<K> {
         ensures err { OnErr result (self.new ≡ self.old) }
     {
         self.parts.objects.kept();
-        match self.parts.waits.add(thread, mode, ids, deadline) {
+        let reuse = self.parts.limits.reuse;
+        match add_open(&mut self.parts.waits, reuse, thread, mode, ids, deadline) {
             Ok(number) => {
                 self.parts.objects.blocks_came(ids);
                 self.parts.objects.kept();
-                return Ok(number);
+                return Ok(if reuse { thread } else { number });
             }
             Err(fault) => return Err(fault),
         }
@@ -82,6 +129,17 @@ impl<K: PinKeeper> Store<K> {
 
     /// Answers a pending wait with 258, `WAIT_TIMEOUT`. It no longer refers to its objects.
     pub fn expire(&mut self, wait: u32)
+        requires { is_pending (slice_index_or self.old.state.waits (wait_number self.old.state wait) None) ≡ true }
+        ensures state { self.new.state
+            ≡ settled (with_answer self.old.state (wait_number self.old.state wait) WAIT_TIMEOUT) }
+        ensures keeper { OnlyCloses self.old.keeper self.new.keeper }
+    {
+        let number = self.wait_number(wait);
+        self.expire_at(number);
+    }
+
+    /// The same for the wait of a number.
+    pub(crate) fn expire_at(&mut self, wait: u32)
         requires { is_pending (slice_index_or self.old.state.waits wait None) ≡ true }
         ensures state { self.new.state ≡ settled (with_answer self.old.state wait WAIT_TIMEOUT) }
         ensures keeper { OnlyCloses self.old.keeper self.new.keeper }
@@ -95,9 +153,21 @@ impl<K: PinKeeper> Store<K> {
         self.parts.waits.expire(wait);
     }
 
-    /// Where the wait of a number stands: none where no wait has it. One that is answered is then over, and its thread
-    /// may wait again.
+    /// Where a wait stands: none where no wait is called so. One that is answered is then over, and its thread may wait
+    /// again.
+    #[inline]
     pub fn take_if_answered(&mut self, wait: u32) -> Option<WaitState>
+        ensures state { result ≡ state_at (slice_index_or self.old.state.waits (wait_number self.old.state wait) None) }
+        ensures over { self.new ≡ (if is_answer result then record self.old {
+          state = settled (without_wait self.old.state (wait_number self.old.state wait));
+        } else self.old) }
+    {
+        let number = self.wait_number(wait);
+        self.take_at(number)
+    }
+
+    /// The same for the wait of a number.
+    fn take_at(&mut self, wait: u32) -> Option<WaitState>
         ensures state { result ≡ state_at (slice_index_or self.old.state.waits wait None) }
         ensures over { self.new ≡ (if is_answer result
             then record self.old { state = settled (without_wait self.old.state wait) } else self.old) }

@@ -6,6 +6,7 @@ ghost use Rattle.ob_tables.specs.Tables.{table_of};
 ghost use Rattle.ob_waits.specs.Waits.{is_pending, new_wait, number_of};
 ghost use Rattle.ob_store.specs.Closing.{is_closing_at};
 ghost use Rattle.ob_store.specs.Kept.{IsThere};
+ghost use Rattle.ob_store.specs.Waiting.{wait_name, wait_number};
 ghost use Rattle.ob_store.specs.Walking.{is_object_at, is_process, is_thread_of, is_value_in, is_value_of};
 
 use crate::finding::next_place;
@@ -72,19 +73,25 @@ impl<K: PinKeeper> Store<K> {
         next_entry(self.parts.tables.entries(process), after)
     }
 
-    /// The number of the thread's wait, pending or answered.
+    /// What the thread's wait is called, pending or answered.
     pub fn wait_of(&self, thread: u32) -> Option<u32>
-        ensures { result ≡ number_of thread self.now.state.waits }
+        ensures { result ≡ option_map (wait_name self.now.state thread) (number_of thread self.now.state.waits) }
     {
-        self.parts.waits.wait_of(thread)
+        let number = self.parts.waits.wait_of(thread)?;
+        if self.parts.limits.reuse {
+            Some(thread)
+        } else {
+            Some(number)
+        }
     }
 
-    /// The wait of a number, where it is pending.
+    /// The wait that is called so, where it is pending.
     pub fn pending(&self, wait: u32) -> Option<Pending<'_>>
-        ensures is_there { is_some result ≡ is_pending (slice_index_or self.now.state.waits wait None) }
-        ensures wait { IfSome result (λ p. slice_index_or self.now.state.waits wait None
+        ensures is_there { is_some result
+            ≡ is_pending (slice_index_or self.now.state.waits (wait_number self.now.state wait) None) }
+        ensures wait { IfSome result (λ p. slice_index_or self.now.state.waits (wait_number self.now.state wait) None
             ≡ Some (new_wait p.thread p.mode p.ids.now p.deadline)) }
     {
-        self.parts.waits.pending(wait)
+        self.parts.waits.pending(self.wait_number(wait))
     }
 }

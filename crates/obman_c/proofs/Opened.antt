@@ -1,14 +1,29 @@
 -- How a manager comes to be at a place, by what a function knows of it.
-use Rattle.std.proofs.Common.{◌≡◌, ℕ, Option}
+use Rattle.std.proofs.Common.{◌≡◌, ℕ, Bool, Option}
 use Rattle.obman_c_base.specs.declared.owned.OwnedManager.{OwnedManager}
 use Rattle.obman_c_base.specs.declared.limits.CLimits.{CLimits}
-use Rattle.obman_c_base.specs.Allowed.{AreAllowed}
+use Rattle.ob_store.specs.declared.limits.Limits.{Limits}
+use Rattle.obman_c_base.specs.Allowed.{AreAllowed, AreAs}
 use Rattle.obman_c.specs.Opening.{Opens, outside, lacks}
 
-pub out_of_range : {b : CLimits} {status : ℕ} {before after : Option OwnedManager} → (AreAllowed b → ⊥) → status ≡ 87
-    → after ≡ before → Opens b status before after
+pub out_of_range : {reuse : Bool} {b : CLimits} {status : ℕ} {before after : Option OwnedManager} → (AreAllowed b → ⊥) → status ≡ 87
+    → after ≡ before → Opens reuse b status before after
 out_of_range = outside
 
-pub no_memory : {b : CLimits} {status : ℕ} {before after : Option OwnedManager} → AreAllowed b → status ≡ 8
-    → after ≡ before → Opens b status before after
+pub no_memory : {reuse : Bool} {b : CLimits} {status : ℕ} {before after : Option OwnedManager} → AreAllowed b → status ≡ 8
+    → after ≡ before → Opens reuse b status before after
 no_memory = lacks
+
+-- limits are as C gave them, whether numbers come back or not
+pub same_but_reuse : {b : CLimits} {limits : Limits} (reuse : Bool) → AreAs b limits
+    → AreAs b (record limits { reuse = reuse })
+same_but_reuse reuse are = record {
+  slots = are.slots;
+  processes = are.processes;
+  threads = are.threads;
+  handles = are.handles;
+  waits = are.waits;
+  max_pins = are.max_pins;
+  max_gen = are.max_gen;
+  max_recursion = are.max_recursion;
+}

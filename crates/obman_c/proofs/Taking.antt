@@ -8,18 +8,16 @@ use Rattle.ob_rights.specs.declared.fault.Fault.TheVariants as fault
 use Rattle.pin_core.specs.declared.id.Id.{Id}
 use Rattle.pin_words.specs.declared.pin_keeper.Reclaim.{Reclaim}
 use Rattle.ob_body.specs.declared.body.Body.{Body}
-use Rattle.ob_waits.specs.declared.answer.Answer.{Answer}
-use Rattle.ob_waits.specs.declared.wait.Wait.{Wait}
-use Rattle.ob_waits.specs.declared.wait.State.{State as WaitsState}
-use Rattle.ob_waits.specs.declared.wait.State.TheVariants.{Pending as StillPending, Answered}
-use Rattle.ob_waits.specs.Answers.{answer_of, state_answer}
-use Rattle.ob_waits.specs.Waits.{state_at, state_shown}
+use Rattle.ob_waits.specs.declared.wait.WaitState.{WaitState}
+use Rattle.ob_waits.specs.declared.wait.WaitState.TheVariants.{Pending, Answered}
+use Rattle.ob_waits.specs.Waits.{state_at}
 use Rattle.ob_store.specs.Closing.{is_closing, is_closing_at}
 use Rattle.ob_store.specs.Consistent.{IsConsistent}
 use Rattle.ob_store.specs.Kept.{IsThere, id_in}
 use Rattle.ob_store.specs.Moves.{after_reclaim}
 use Rattle.ob_store.specs.Objects.{Object}
 use Rattle.ob_store.specs.State.{State, Whole, settled}
+use Rattle.ob_store.specs.Waiting.{wait_number}
 use Rattle.ob_manager.specs.declared.call.CallOf.TheVariants as calls
 use Rattle.ob_manager.specs.declared.reply.Reply.{Reply}
 use Rattle.ob_manager.specs.declared.reply.Reply.TheVariants.{Code, Reaped}
@@ -30,34 +28,25 @@ use Rattle.ob_manager.specs.Waiting.{shown}
 use Rattle.obman_c.specs.declared.values.Reaping.{Reaping}
 use Rattle.obman_c.specs.Telling.{reaping_in}
 
-abbrev code_in : Option Answer → ℕ
-code_in None = 0
-code_in (Some a) = a.code
-
-stands : (s t : State) (n thread : ℕ) (a : Answer) (reply : Reply) (state : WaitsState)
-    → state_answer n thread state ≡ Some a
-    → final s (Ok (shown s n (state_shown state))) ≡ record { reply = reply; state = t } → reply ≡ Code a.code
-stands s t n thread a reply (StillPending mode ids) is comes = cc
-stands s t n thread a reply (Answered c) is comes = let told : Code c ≡ reply = ap (λ (o : Outcome). o.reply) comes in
-    sym told ∙ ap Code (ap code_in is)
-
-there : (s t : State) (n : ℕ) (a : Answer) (reply : Reply) (wait : Option Wait) → answer_of n wait ≡ Some a
-    → final s (or_refuse (state_at wait) fault.Parameter >>= (λ stands. Ok (shown s n stands))) ≡ record {
+answers : (s t : State) (wait code : ℕ) (reply : Reply) (stands : Option WaitState) → stands ≡ Some (Answered code)
+    → final s (or_refuse stands fault.Parameter >>= (λ stands. Ok (shown s wait stands))) ≡ record {
       reply =
           reply;
       state = t;
-    } → reply ≡ Code a.code
-there s t n a reply None is comes = cc
-there s t n a reply (Some wait) is comes = stands s t n wait.thread a reply wait.state is comes
+    } → reply ≡ Code code
+answers s t wait code reply None is comes = cc
+answers s t wait code reply (Some Pending) is comes = cc
+answers s t wait code reply (Some (Answered c)) is comes =
+    let told : Code c ≡ reply = ap (λ (o : Outcome). o.reply) comes in cc
 
 -- an answer that is there is what wait_result tells
-pub answered : (w v : Whole) (n : ℕ) (a : Answer) (reply : Reply)
-    → answer_of n (slice_index_or w.state.waits n None) ≡ Some a → Step w (calls.WaitResult n) reply v
-    → reply ≡ Code a.code
-answered w v n a reply is (does comes keeps) = there w.state v.state n a reply
-    (slice_index_or w.state.waits n None) is comes
-answered w v n a reply is (closes it comes keeps) = cc
-answered w v n a reply is (lacks takes ok fault same) = cc
+pub answered : (w v : Whole) (wait code : ℕ) (reply : Reply)
+    → state_at (slice_index_or w.state.waits (wait_number w.state wait) None) ≡ Some (Answered code)
+    → Step w (calls.WaitResult wait) reply v → reply ≡ Code code
+answered w v wait code reply is (does comes keeps) = answers w.state v.state wait code reply
+    (state_at (slice_index_or w.state.waits (wait_number w.state wait) None)) is comes
+answered w v wait code reply is (closes it comes keeps) = cc
+answered w v wait code reply is (lacks takes ok fault same) = cc
 
 in_place : (xs : List (Option Object)) (k : ℕ) (id : Id) → id_in (slice_index_or xs k None) ≡ Some id → k < length xs
 in_place xs k id there = ⊎_elim (λ (lt : k < length xs). lt)

@@ -1,5 +1,5 @@
 -- How a manager comes to be at a place.
-use Rattle.std.specs.Prelude.{◌≡◌, ℕ, Option, Some}
+use Rattle.std.specs.Prelude.{◌≡◌, ℕ, Bool, Option, Some}
 use Rattle.pin_core.specs.declared.shape.Shape.{Shape}
 use Rattle.pin_words.specs.Keepers.{state_of}
 use Rattle.pin_words.specs.Seats.{KeeperSeat, TableState}
@@ -23,10 +23,10 @@ new_manager limits t = record { state = opening limits; keeper = state_of (new_k
 abbrev pub new_owned : Limits → TableState → OwnedManager
 new_owned limits t = unrecorded (new_manager limits t)
 
--- A place gets a new manager with these limits, over words of its own, and 0 is told; or it stays as it is, and 87 is
+-- A place gets a new manager with these limits, whose numbers come back or not, over words of its own, and 0 is told; or it stays as it is, and 87 is
 -- told where a limit is out of its range, else 8, for want of memory.
-pub data Opens (b : CLimits) (status : ℕ) (before after : Option OwnedManager) : Type 0 where
-  opens : (limits : Limits) (t : TableState) → AreAs b limits → status ≡ 0
-      → after ≡ Some (new_owned limits t) → Opens b status before after
-  outside : (AreAllowed b → ⊥) → status ≡ 87 → after ≡ before → Opens b status before after
-  lacks : AreAllowed b → status ≡ 8 → after ≡ before → Opens b status before after
+pub data Opens (reuse : Bool) (b : CLimits) (status : ℕ) (before after : Option OwnedManager) : Type 0 where
+  opens : (limits : Limits) (t : TableState) → AreAs b limits → limits.reuse ≡ reuse → status ≡ 0
+      → after ≡ Some (new_owned limits t) → Opens reuse b status before after
+  outside : (AreAllowed b → ⊥) → status ≡ 87 → after ≡ before → Opens reuse b status before after
+  lacks : AreAllowed b → status ≡ 8 → after ≡ before → Opens reuse b status before after

@@ -1,8 +1,10 @@
 //! What there is, and what state it is in, for debuggers and monitors and for whoever runs the guests. Nothing is
 //! changed.
 ghost use Rattle.std.specs.Prelude.{◌≡◌, ◌+◌, ◌++◌, ◌≤◌, None, drop, length, map, slice_index_or};
+ghost use Rattle.std.specs.Option.{option_map};
 ghost use Rattle.least.specs.From.{IsLeastFrom};
 ghost use Rattle.ob_waits.specs.Waits.{number_of};
+ghost use Rattle.ob_store.specs.Waiting.{wait_name, wait_number};
 ghost use Rattle.ob_store.specs.Walking.{is_process, is_thread_of};
 ghost use Rattle.ob_manager.specs.Handles.{entry_of};
 ghost use Rattle.ob_manager.specs.States.{state_of};
@@ -273,7 +275,8 @@ pub extern "C" fn om_session_of(owner: &mut ManagerOwner, process: u32, session:
 /// [`Manager::wait_of`](ob_manager::Manager::wait_of): 0 where the thread has no wait.
 #[unsafe(no_mangle)]
 pub extern "C" fn om_wait_of(owner: &mut ManagerOwner, thread: u32) -> u32
-    ensures wait { result ≡ or_zero (number_of thread owner.old.value.manager.state.waits) }
+    ensures wait { result ≡ or_zero (option_map (wait_name owner.old.value.manager.state thread)
+        (number_of thread owner.old.value.manager.state.waits)) }
     ensures same { owner.new.value ≡ owner.old.value }
 {
     or_zero(owner.lend().manager.wait_of(thread))
@@ -332,7 +335,8 @@ pub extern "C" fn om_objects_waited_for(
     objects: &mut [Object],
     count: &mut usize,
 ) -> u32
-    ensures told { WaitTells (slice_index_or owner.old.value.manager.state.waits wait None) result
+    ensures told { WaitTells (slice_index_or owner.old.value.manager.state.waits
+        (wait_number owner.old.value.manager.state wait) None) result
         (places pending.old objects.old count.old) (places pending.new objects.new count.new) }
     ensures same { owner.new.value ≡ owner.old.value }
 {

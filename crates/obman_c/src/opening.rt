@@ -1,5 +1,5 @@
 //! A manager's beginning and its end.
-ghost use Rattle.std.specs.Prelude.{◌≡◌, IfErr, IfOk};
+ghost use Rattle.std.specs.Prelude.{◌≡◌, IfErr, IfOk, false, true};
 ghost use Rattle.pin_core.specs.Shapes.{IsWithinLimits};
 ghost use Rattle.pin_words.specs.Seats.{TableState};
 ghost use Rattle.obman_c_base.specs.Allowed.{AreAs};
@@ -16,15 +16,30 @@ use pin_words::{Keeper, Pins};
 use std::alloc::Global;
 
 /// A new manager, at a place of C's: 0, 87 where a limit is out of its range, or 8. What stood at the place isn't read.
-#[tactic(auto, using(crate::proofs::Opened::out_of_range, crate::proofs::Opened::no_memory))]
 #[unsafe(no_mangle)]
 pub extern "C" fn om_new(alloc: Global, bounds: &CLimits, place: &mut ManagerOut) -> u32
-    ensures { Opens bounds.now result place.old.value place.new.value }
+    ensures { Opens false bounds.now result place.old.value place.new.value }
+{
+    opened(alloc, bounds, false, place)
+}
+
+/// The same, and the manager's numbers come back.
+#[unsafe(no_mangle)]
+pub extern "C" fn om_new_reusing(alloc: Global, bounds: &CLimits, place: &mut ManagerOut) -> u32
+    ensures { Opens true bounds.now result place.old.value place.new.value }
+{
+    opened(alloc, bounds, true, place)
+}
+
+/// A new manager, whose numbers come back or not.
+#[tactic(auto, using(crate::proofs::Opened::out_of_range, crate::proofs::Opened::no_memory))]
+fn opened(alloc: Global, bounds: &CLimits, reuse: bool, place: &mut ManagerOut) -> u32
+    ensures { Opens reuse bounds.now result place.old.value place.new.value }
 {
     let Ok(limits) = limits_of(bounds) else {
         return code_of(Fault::Parameter);
     };
-    match held(alloc, limits) {
+    match held(alloc, limits.with_reuse(reuse)) {
         Ok(held) => {
             *place = ManagerOut::of(held);
             SUCCESS

@@ -1,5 +1,6 @@
 //! Waits.
 ghost use Rattle.std.specs.Prelude.{◌≡◌, None, slice_index_or};
+ghost use Rattle.ob_store.specs.Waiting.{wait_number};
 ghost use Rattle.ob_waits.specs.Waits as waits;
 ghost use Rattle.ob_manager.specs.declared.call.CallOf.TheVariants as Call;
 ghost use Rattle.obman_c.specs.Telling.{TellsStatus, TellsValue, answer_in};
@@ -68,8 +69,8 @@ pub extern "C" fn om_wait_result(owner: &mut ManagerOwner, wait: u32, answer: &m
     tell_answer(owner.call(&Ask::WaitResult { wait }), answer)
 }
 
-/// The answers of waits by rising number, each taken by [`Manager::wait_result`], as far as there are any and places
-/// for them. Answers how many.
+/// The answers of waits in the order in which they began, each taken by [`Manager::wait_result`], as far as there are
+/// any and places for them. Answers how many.
 fn take_answers(held: &mut OwnedManager, answers: &mut [CAnswer]) -> usize
     ensures { TakesAll held.old answers.old result held.new answers.new }
 {
@@ -83,7 +84,8 @@ fn take_answers(held: &mut OwnedManager, answers: &mut [CAnswer]) -> usize
     answers.len()
 }
 
-/// As many steps [`Manager::wait_result`] as waits are answered, by rising number, or as there are places: always 0.
+/// As many steps [`Manager::wait_result`] as waits are answered, in the order in which they began, or as there are
+/// places: always 0.
 #[unsafe(no_mangle)]
 pub extern "C" fn om_take_answered(
     owner: &mut ManagerOwner,
@@ -109,7 +111,8 @@ pub extern "C" fn om_expire(owner: &mut ManagerOwner, wait: u32) -> u32
 /// [`Manager::is_pending`](ob_manager::Manager::is_pending).
 #[unsafe(no_mangle)]
 pub extern "C" fn om_is_pending(owner: &mut ManagerOwner, wait: u32) -> bool
-    ensures pending { result ≡ waits.is_pending (slice_index_or owner.old.value.manager.state.waits wait None) }
+    ensures pending { result ≡ waits.is_pending (slice_index_or owner.old.value.manager.state.waits
+        (wait_number owner.old.value.manager.state wait) None) }
     ensures same { owner.new.value ≡ owner.old.value }
 {
     owner.lend().manager.is_pending(wait)

@@ -11,13 +11,13 @@ use ob_rights::Fault;
 pub struct CLimits {
     /// Slots of the arena: 1 to 65,536.
     pub slots: u32,
-    /// Process numbers ever given: 1 to 65,536.
+    /// Process numbers ever given, or of live processes where they come back: 1 to 65,536.
     pub processes: u32,
-    /// Thread numbers ever given: 1 to 65,536.
+    /// Thread numbers, counted alike: 1 to 65,536.
     pub threads: u32,
     /// Entries of one handle table: 1 to 16,384.
     pub handles: u32,
-    /// Wait numbers ever given: 1 to 4,294,967,295.
+    /// Wait numbers ever given, unless they come back: 1 to 4,294,967,295.
     pub waits: u32,
     /// Pins of one slot: 1 to 1,073,741,823.
     pub max_pins: u32,

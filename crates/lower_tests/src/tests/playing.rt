@@ -5,7 +5,7 @@ ghost use Rattle.ob_store.specs.State.{shape_of};
 use super::filling::{Fill, fills_all};
 use super::pinning::holds_what_is_pinned;
 use super::reuse::goes_round;
-use super::saved::{Edit, all_go_on, tries_edits};
+use super::saved::{Edit, all_go_on, goes_on_edited, tries_edits};
 use super::{FIRST, same_at};
 use call_tables::{
     Line, PLAIN, ROWS, asked, locked_manager, manager_over, pins_for, started, to_call,
@@ -58,6 +58,8 @@ pub(super) enum Scene<'a> {
     GoesRound,
     /// Calls, and others that are made once more over what is saved between them.
     Saves(&'a [Line<'a>], &'a [Line<'a>]),
+    /// Calls, and others that are made over what is saved between them, with an edit of it.
+    SavesEdited(&'a [Line<'a>], &'a Edit<'a>, &'a [Line<'a>]),
     /// Calls, and how many bytes the text has that is saved behind them, with edits of it.
     Edits(&'a [Line<'a>], usize, &'a [Edit<'a>]),
 }
@@ -74,6 +76,9 @@ fn plays(
         Scene::Holds => holds_what_is_pinned(rt, alloc, manager),
         Scene::GoesRound => goes_round(rt, alloc, manager),
         Scene::Saves(first, calls) => all_go_on(rt, alloc, manager, first, calls),
+        Scene::SavesEdited(first, edit, calls) => {
+            goes_on_edited(rt, alloc, manager, first, edit, calls)
+        }
         Scene::Edits(calls, len, edits) => tries_edits(rt, alloc, manager, calls, len, edits),
     }
 }

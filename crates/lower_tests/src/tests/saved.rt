@@ -291,6 +291,27 @@ pub(super) fn all_go_on(
     goes_on_in_words(rt, alloc, &course)
 }
 
+/// Plays calls, saves the manager, and plays further calls over what is loaded of that with an edit.
+pub(super) fn goes_on_edited(
+    rt: &impl Abort,
+    alloc: Global,
+    manager: &mut Manager<LockedPins>,
+    first: &[Line<'_>],
+    edit: &Edit<'_>,
+    calls: &[Line<'_>],
+) -> Result<(), Fault> {
+    answers(rt, alloc, manager, first)?;
+    let bytes = saved(alloc, manager)?;
+    let Ok(text) = unseal(bytes.as_slice()) else {
+        panic!(rt; "no savestate")
+    };
+    let bytes = edited(rt, alloc, text, edit)?;
+    let mut loaded = loaded_again(rt, alloc, bytes.as_slice())?;
+    let gone = answers(rt, alloc, &mut loaded, calls);
+    drop(loaded);
+    gone
+}
+
 #[test]
 fn a_manager_is_saved_and_loaded(rt: HostRuntime) -> Result<(), Fail> {
     let limits = Limits::checked(16, 4, 8, 8, 8, 4, 2, 4)?;

@@ -10,6 +10,8 @@ use std::test::Fail;
 enum Due {
     /// The limits, in the order of the options, and how many lanes.
     Numbers([u32; 8], u32),
+    /// The usual limits, of numbers that come back, and how many lanes.
+    Reused(u32),
     /// The path of what is loaded, and that of what is saved.
     Paths(Option<&'static str>, Option<&'static str>),
     /// A bad command line: which option lacks its number, with the least and the greatest that it takes.
@@ -99,6 +101,13 @@ const ROWS: &[(&[&str], Due)] = &[
     (&["--slots=4", "--slots=4"], Due::Bad(None)),
     (&["--slots=4", "--slots", "4", "--load", "x", "y"], Due::Bad(None)),
     (&["--lanes=2", "--lanes=2"], Due::Bad(None)),
+    // numbers that come back
+    (&["--reuse"], Due::Reused(0)),
+    (&["--lanes=2", "--reuse"], Due::Reused(2)),
+    (&["--reuse", "--reuse"], Due::Bad(None)),
+    (&["--reuse=1"], Due::Bad(None)),
+    (&["--reuse", "1"], Due::Bad(None)),
+    (&["--reuse", "--load=a"], Due::Bad(None)),
     // no numbers
     (&["--slots"], NO_SLOTS),
     (&["--slots="], NO_SLOTS),
@@ -157,7 +166,10 @@ fn numbers_of(limits: &Limits) -> [u32; 8] {
 fn are_read(options: &Options, due: Due) -> bool {
     match due {
         Due::Numbers(limits, lanes) => {
-            numbers_of(&options.limits) == limits && options.lanes == lanes
+            numbers_of(&options.limits) == limits && !options.limits.reuse && options.lanes == lanes
+        }
+        Due::Reused(lanes) => {
+            numbers_of(&options.limits) == USUAL && options.limits.reuse && options.lanes == lanes
         }
         Due::Paths(load, save) => options.load.as_deref() == load
             && options.save.as_deref() == save,
@@ -205,6 +217,7 @@ const IN_HELP: &[&str] = &[
     "--max-gen <NUMBER>", "1 to 4294967295, the default.",
     "--max-recursion <NUMBER>", "1 to 2147483647, the default.",
     "--lanes <NUMBER>", "0 to 64, default 0.",
+    "--reuse",
 ];
 
 /// Whether a fault is the help, and a text is in it.

@@ -17,11 +17,10 @@ loop-place-preserved c =
     let new = c.call.new.self in
     let a = c.in-Some.field-0 in
     let told : CAnswer = record { wait = a.wait; thread = a.thread; code = a.code } in
-    let is = answered old.manager new.manager a.wait a (reply_of c.call.result) c.in-Some.ensures.answer
+    let is = answered old.manager new.manager a.wait a.code (reply_of c.call.result) c.in-Some.ensures.found
     c.call.ensures.step in
     let next : TakesNext old told new = record {
-      least = c.in-Some.ensures.least;
-      answer = c.in-Some.ensures.answer;
+      next = c.in-Some.ensures;
       made = subst (λ (reply : Reply). Makes old (calls.WaitResult a.wait) reply new) is c.call.ensures;
     } in
     let within : place < length list = omega (arith, c.loop-place-test.true, c.loop-place.invariant.length_is) in

@@ -8,9 +8,8 @@ invariant_of-self-then-is_err c =
     let s = c.self.inside in
     let t = c.next-thread in
     let free : IsFree s.threads.places.items t.result =
-        record { above = t.ensures.above; within = t.ensures.within; none = t.ensures.gone } in
-    let few : t.result ≤ 65536 = rw t.ensures.value (rw (← c.self.view_is) at c.requires.threads) in
-    (
+    record { above = t.ensures.above; within = t.ensures.within; none = t.ensures.gone } in
+    let few : t.result ≤ 65536 = rw t.ensures.value (rw (← c.self.view_is) at c.requires.threads) in (
       c.make_room.ensures.are,
       c.make_room-2.ensures.are,
       rw c.make_room-2.ensures.places
@@ -24,9 +23,8 @@ invariant_of-self-2 c =
     let s = c.self.inside in
     let t = c.next-thread in
     let free : IsFree s.threads.places.items t.result =
-        record { above = t.ensures.above; within = t.ensures.within; none = t.ensures.gone } in
-    let few : t.result ≤ 65536 = rw t.ensures.value (rw (← c.self.view_is) at c.requires.threads) in
-    (
+    record { above = t.ensures.above; within = t.ensures.within; none = t.ensures.gone } in
+    let few : t.result ≤ 65536 = rw t.ensures.value (rw (← c.self.view_is) at c.requires.threads) in (
       c.give.ensures.are,
       c.give-2.ensures.are,
       rw (c.give-2.ensures.places, c.make_room-2.ensures.places)

@@ -8,9 +8,8 @@ invariant_of-self-2 c =
     let s = c.self.inside in
     let t = c.next-thread in
     let free : IsFree s.threads.places.items t.result =
-        record { above = t.ensures.above; within = t.ensures.within; none = t.ensures.gone } in
-    let few : t.result ≤ 65536 = rw t.ensures.value (rw (← c.self.view_is) at c.requires) in
-    (
+    record { above = t.ensures.above; within = t.ensures.within; none = t.ensures.gone } in
+    let few : t.result ≤ 65536 = rw t.ensures.value (rw (← c.self.view_is) at c.requires) in (
       c.self.invariant.0,
       c.give.ensures.are,
       rw (c.give.ensures.places, c.make_room.ensures.places)

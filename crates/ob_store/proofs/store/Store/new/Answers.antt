@@ -8,6 +8,7 @@ invariant_of-result g c = rw (
   c.in-Ok-new-2.ensures,
   c.in-Ok-new-3.ensures.ok,
   c.new-in-Ok-new-3.ensures,
+  c.last_wait.ensures,
   c.new-in-Ok-new-3-2.ensures,
 )
     (kept_opening c.args.limits (g.K.PinKeeper.kept c.args.keeper) c.requires)
