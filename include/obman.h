@@ -9,9 +9,9 @@
  *
  * - One call at a time. Calls for one manager come from any thread, but one after another: keep a lock of your own around them.
  *   Different managers have nothing in common.
- * - om_new or om_load makes a manager and om_free ends it. In between an om_manager may be copied and moved: each copy is the same manager.
- *   A manager that was freed, or that neither of them made, is as a pointer that was freed: passing it is undefined. But om_free of an
- *   om_manager of all zeros, and om_reader_free of an om_reader of all zeros, do nothing, so that one way out serves.
+ * - om_new, om_new_reusing or om_load makes a manager and om_free ends it. In between an om_manager may be copied and moved: each copy is
+ *   the same manager. A manager that was freed, or that none of them made, is as a pointer that was freed: passing it is undefined. But
+ *   om_free of an om_manager of all zeros, and om_reader_free of an om_reader of all zeros, do nothing, so that one way out serves.
  * - A reader (om_reader_new) pins objects on any thread without that lock, beside calls for the manager and for other readers. It is
  *   given to one call at a time, and passed from thread to thread by a lock or a join; om_inspect takes it with the manager that it
  *   was made from. om_reader_free ends it, before the manager's end or after.
@@ -31,7 +31,8 @@
  *   OM_ERROR_BUSY.
  * - It takes what ended (om_take_ended): an object that no handle and no pending wait refers to keeps its slot until then, and where
  *   each slot is taken a create is refused with OM_ERROR_NO_SYSTEM_RESOURCES.
- * - It sets the limits to what it needs in the manager's whole life: numbers of processes, threads and waits are given once.
+ * - It makes the manager by om_new_reusing, whose numbers come back; or it sets the limits to what it needs in the manager's whole
+ *   life, since om_new's gives numbers of processes, threads and waits once.
  * - It tells the time (om_tick, at om_next_due), or no timer fires and no wait with a timeout ends.
  *
  * docs/EMBEDDING.md says how a host does that, and what it does for what isn't here.
@@ -133,9 +134,9 @@ extern "C" {
 /* Limits that serve most guests: om_limits limits = OM_LIMITS_DEFAULT; */
 #define OM_LIMITS_DEFAULT {64u, 64u, 256u, 1024u, 1000000u, 1073741823u, 4294967295u, 2147483647u}
 
-/* The greatest limits, for a host that runs for long: numbers of processes, threads and pending waits are given once, and two guests that
- * wake each other in turn use up a million waits in less than a second. A manager takes 17 MiB from the start, nearly all for its
- * slots, which come back; with limits.slots at 64 it takes half a MiB. */
+/* The greatest limits, for a host that runs for long over om_new: numbers of processes, threads and pending waits are given once there, and
+ * two guests that wake each other in turn use up a million waits in less than a second. A manager takes 17 MiB from the start, nearly all
+ * for its slots, which come back; with limits.slots at 64 it takes half a MiB. */
 #define OM_LIMITS_MOST {65536u, 65536u, 65536u, 16384u, 4294967295u, 1073741823u, 4294967295u, 2147483647u}
 
 /* The Win32 name of a number that a call answers, or of WAIT_TIMEOUT, for logs; "unknown" for another. */
@@ -178,10 +179,10 @@ typedef struct om_reader {
 /* How much a manager may hold. */
 typedef struct om_limits {
     uint32_t slots;         /* objects at a time: 1 to 65,536 */
-    uint32_t processes;     /* process numbers ever given: 1 to 65,536 */
-    uint32_t threads;       /* thread numbers ever given: 1 to 65,536 */
+    uint32_t processes;     /* process numbers ever given; by om_new_reusing processes at a time: 1 to 65,536 */
+    uint32_t threads;       /* thread numbers ever given; by om_new_reusing threads at a time: 1 to 65,536 */
     uint32_t handles;       /* handles of one process at a time: 1 to 16,384 */
-    uint32_t waits;         /* numbers of pending waits ever given: 1 to 4,294,967,295 */
+    uint32_t waits;         /* numbers of pending waits ever given: 1 to 4,294,967,295; by om_new_reusing it limits nothing */
     uint32_t max_pins;      /* pins of one slot: 1 to 1,073,741,823 */
     uint32_t max_gen;       /* the last generation of a slot: 1 to 4,294,967,295 */
     uint32_t max_recursion; /* how often a thread may own a mutex: 1 to 2,147,483,647 */
@@ -305,7 +306,7 @@ typedef struct om_references {
 
 /* The answer of a wait: the thread that waited may make calls again. */
 typedef struct om_answer {
-    uint32_t wait;
+    uint32_t wait;     /* its number; the thread's, where numbers come back */
     uint32_t thread;
     uint32_t code;     /* OM_WAIT_OBJECT_0 and an index, OM_WAIT_ABANDONED_0 and an index, or OM_WAIT_TIMEOUT */
 } om_answer;
@@ -327,30 +328,43 @@ typedef struct om_row {
 
 /* ---- A manager ---- */
 
-/* Makes a manager with no process, and writes it to *m, whatever stood there.
+/* Makes a manager with no process, and writes it to *m, whatever stood there. It gives each number of a process, a thread and a wait once.
  * OM_ERROR_INVALID_PARAMETER for a limit out of its range; OM_ERROR_NOT_ENOUGH_MEMORY. */
 uint32_t om_new(const om_limits *limits, om_manager *m);
+
+/* The same, and the manager's numbers come back. A new process or thread has the least number that no live one has, and the limits
+ * processes and threads are of those that live at a time. A wait is called by the number of its thread, which has one wait at a time: that
+ * is the number that om_wait tells with OM_ERROR_IO_PENDING. No wait is refused for want of a number: the limit waits has to be in its
+ * range and limits nothing.
+ *
+ * A number isn't given again before the host was told that it is free: a thread's by the answer of om_end_thread or, with its process, of
+ * om_exit; a process's by that of om_exit, or of om_end_thread for its last live thread; a wait's when its answer is taken, or by the end of
+ * its thread. From then on a call in the name of the number is one of whoever has it now. So a host that ends a thread tells those that may
+ * still make calls for it; and one that keeps deadlines of its own by wait drops that of a wait when it takes its answer, since a late
+ * om_expire ends the thread's next wait (the deadlines of om_wait, by om_tick, need no such care).
+ * OM_ERROR_INVALID_PARAMETER for a limit out of its range; OM_ERROR_NOT_ENOUGH_MEMORY. */
+uint32_t om_new_reusing(const om_limits *limits, om_manager *m);
 
 /* Ends a manager and gives its memory back. Of all zeros, as in om_manager m = {0}, there is nothing to end. */
 void om_free(om_manager m);
 
-/* The limits of a manager: those that om_new was given, also where it was saved and loaded since. It answers always 0. */
+/* The limits of a manager: those that it was made with, also where it was saved and loaded since. It answers always 0. */
 uint32_t om_limits_of(om_manager *m, om_limits *limits);
 
 /* ---- Processes and threads ---- */
 
 /* A guest's process begins in a session, with its first thread (CreateProcess, by nobody's process). A session is any number: 1 will
  * do for guests that are one user's.
- * OM_ERROR_NO_SYSTEM_RESOURCES where each process number or each thread number was given; OM_ERROR_NOT_ENOUGH_MEMORY. */
+ * OM_ERROR_NO_SYSTEM_RESOURCES where no process number or no thread number is left; OM_ERROR_NOT_ENOUGH_MEMORY. */
 uint32_t om_spawn(om_manager *m, uint32_t session, om_member *member);
 
 /* A thread begins a process of its own process's session (CreateProcess). With `inherit` the new process has each inheritable
  * handle of the thread's process, at the same value and with the same rights and flags (bInheritHandles).
- * OM_ERROR_NO_SYSTEM_RESOURCES where each process number or each thread number was given; OM_ERROR_NOT_ENOUGH_MEMORY. */
+ * OM_ERROR_NO_SYSTEM_RESOURCES where no process number or no thread number is left; OM_ERROR_NOT_ENOUGH_MEMORY. */
 uint32_t om_child(om_manager *m, uint32_t thread, bool inherit, om_member *member);
 
 /* A thread begins in a process (CreateThread).
- * OM_ERROR_INVALID_PARAMETER where no such process lives; OM_ERROR_NO_SYSTEM_RESOURCES where each thread number was given;
+ * OM_ERROR_INVALID_PARAMETER where no such process lives; OM_ERROR_NO_SYSTEM_RESOURCES where no thread number is left;
  * OM_ERROR_NOT_ENOUGH_MEMORY. */
 uint32_t om_thread(om_manager *m, uint32_t process, uint32_t *thread);
 
@@ -485,13 +499,14 @@ uint32_t om_next_due(om_manager *m, uint64_t *moment);
  * the wait is satisfied at once, the thread has what satisfies it, the answer is 0, and *answer is the wait's code: for any,
  * OM_WAIT_OBJECT_0 and the index of the object, or OM_WAIT_ABANDONED_0 and it where that is an abandoned mutex; for all,
  * OM_WAIT_OBJECT_0, or OM_WAIT_ABANDONED_0 where one is an abandoned mutex. Else, for 0 milliseconds, the answer is 0 and *answer
- * OM_WAIT_TIMEOUT; and for others the answer is OM_ERROR_IO_PENDING and *answer the wait's number: it lasts until a tick to the
- * moment so many milliseconds (of 10,000 units each) from now, and for OM_INFINITE until it is satisfied. A pending wait keeps its
- * objects; until its answer is taken (om_take_answered, om_wait_result) its thread makes no other call.
+ * OM_WAIT_TIMEOUT; and for others the answer is OM_ERROR_IO_PENDING and *answer the wait's number, which is its thread's where
+ * numbers come back: it lasts until a tick to the moment so many milliseconds (of 10,000 units each) from now, and for OM_INFINITE
+ * until it is satisfied. A pending wait keeps its objects; until its answer is taken (om_take_answered, om_wait_result) its thread
+ * makes no other call.
  * OM_ERROR_INVALID_PARAMETER for no handle, more than 64, or one that stands twice; OM_ERROR_INVALID_HANDLE where there is no such
  * handle; OM_ERROR_ACCESS_DENIED without OM_SYNCHRONIZE; OM_ERROR_INVALID_PARAMETER where a wait for all is for one object twice;
- * OM_ERROR_NO_SYSTEM_RESOURCES for a mutex that the thread owns as often as it may, and where the wait would be pending and each
- * wait number was given; OM_ERROR_NOT_ENOUGH_MEMORY where it would be pending. */
+ * OM_ERROR_NO_SYSTEM_RESOURCES for a mutex that the thread owns as often as it may, and where the wait would be pending and no
+ * wait number is left, which is never so where numbers come back; OM_ERROR_NOT_ENOUGH_MEMORY where it would be pending. */
 uint32_t om_wait(om_manager *m, uint32_t thread, bool all, uint32_t milliseconds, const uint32_t *handles, size_t count,
                  uint32_t *answer);
 
@@ -499,12 +514,13 @@ uint32_t om_wait(om_manager *m, uint32_t thread, bool all, uint32_t milliseconds
  * OM_ERROR_INVALID_PARAMETER where there is no such wait. */
 uint32_t om_wait_result(om_manager *m, uint32_t wait, uint32_t *answer);
 
-/* Takes the answers of waits that were answered, by rising number of the wait: each is one om_wait_result, so the wait is over.
+/* Takes the answers of waits that were answered, in the order in which the waits began: each is one om_wait_result, so the wait is over.
  * `capacity` places stand at `answers`, and *count says how many were written. Where that is all of them there may be more, and the
  * next call goes on. What it does grows with the answers alone, however many waits are pending. It answers always 0. */
 uint32_t om_take_answered(om_manager *m, om_answer *answers, size_t capacity, size_t *count);
 
-/* A pending wait's time is up: its answer is OM_WAIT_TIMEOUT.
+/* A pending wait's time is up: its answer is OM_WAIT_TIMEOUT. Where numbers come back that is the wait which the thread of this number
+ * has now.
  * OM_ERROR_INVALID_PARAMETER where no such wait is pending. */
 uint32_t om_expire(om_manager *m, uint32_t wait);
 
@@ -567,11 +583,13 @@ uint32_t om_record(om_manager *m, bool on);
 
 /* Takes what was recorded since, whole lines only, as many as `capacity` bytes at `lines` have room for: *written says how many bytes. A
  * call is the line of a script that asks for it (docs/FORMATS.md), with its answer behind # in the next line, so that obman replays it
- * under the same limits; where a line can't make the call again it stands behind # too. Repeat it until *written is 0.
+ * under the same limits, with --reuse where numbers come back; where a line can't make the call again it stands behind # too. Repeat it
+ * until *written is 0.
  * OM_ERROR_INSUFFICIENT_BUFFER where lines are left and not one fits, with 0 in *written: OM_LINE_MOST bytes are always enough. */
 uint32_t om_take_record(om_manager *m, char *lines, size_t capacity, size_t *written);
 
-/* Answers a whole script over a manager of its own, as the program obman does: script and answers are as its format has them.
+/* Answers a whole script over a manager of its own, whose numbers are given once, as the program obman does: script and answers are as
+ * its format has them.
  * `capacity` bytes stand at `answers`; *written says how many the answers have.
  * OM_ERROR_INVALID_PARAMETER for a limit out of its range; OM_ERROR_NOT_ENOUGH_MEMORY; OM_ERROR_INSUFFICIENT_BUFFER where the
  * answers don't fit: then *written says how many bytes they need, and nothing else is written. */
@@ -587,10 +605,11 @@ uint32_t om_script(const om_limits *limits, const char *script, size_t length, c
 uint32_t om_save(om_manager *m, void *bytes, size_t capacity, size_t *written);
 
 /* Makes the manager of a savestate of `length` bytes, and writes it to *m, whatever stood there: it answers each further call as the one
- * that was saved would, but that nothing is pinned and nothing is recorded. It is ended by om_free. Any bytes may be passed: where they
- * are no savestate, be it by one bit, they are refused. A count that passes its bound is refused before what it counts is read, so what a
- * load takes goes with the length: some 20 to 40 bytes for each byte that says a handle's place, and up to some 500 for each process or
- * thread number, of which there are 65,536 each at the most; limits.threads alone asks for some, 8 bytes a thread number.
+ * that was saved would (its numbers come back where that one's did), but nothing is pinned and nothing is recorded. It is ended by
+ * om_free. Any bytes may be passed: where they are no savestate, be it by one bit, they are refused. A count that passes its bound is refused
+ * before what it counts is read, so what a load takes goes with the length: some 20 to 40 bytes for each byte that says a handle's place,
+ * and up to some 500 for each process or thread number, of which there are 65,536 each at the most; limits.threads alone asks for some, 8
+ * bytes a thread number.
  * OM_ERROR_INVALID_DATA where the bytes are no savestate of this version; OM_ERROR_NOT_ENOUGH_MEMORY. */
 uint32_t om_load(const void *bytes, size_t length, om_manager *m);
 

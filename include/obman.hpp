@@ -9,8 +9,8 @@
 //
 // A call gives a `result`: its status, and where that is no error its value. A refusal is no failure of the host but the answer of a
 // guest's call, so none is thrown but by the making of a manager or a reader, by a load and by `value()`, where there is no value. In a
-// program that is built without exceptions these end it (std::abort); om_new, om_load and om_reader_new say the status before, and what
-// they made a `manager` or a `reader` takes over.
+// program that is built without exceptions these end it (std::abort); om_new, om_new_reusing, om_load and om_reader_new say the status
+// before, and what they made a `manager` or a `reader` takes over.
 //
 // What only looks is const, and is one call at a time as all others are.
 #ifndef OBMAN_HPP
@@ -297,7 +297,7 @@ private:
 // The limits of OM_LIMITS_DEFAULT and OM_LIMITS_MOST.
 template <class> struct known_limits {
     static constexpr om_limits default_limits = OM_LIMITS_DEFAULT;
-    // The greatest, for a host that runs for long: 17 MiB from the start.
+    // The greatest, for a host that runs for long where numbers are given once: 17 MiB from the start.
     static constexpr om_limits most_limits = OM_LIMITS_MOST;
 };
 #if __cplusplus < 201703L
@@ -314,7 +314,7 @@ public:
             fail(status);
         }
     }
-    // One that om_new or om_load made.
+    // One that om_new, om_new_reusing or om_load made.
     explicit manager(om_manager m) noexcept : m_(m) {}
     manager(manager &&other) noexcept : m_(other.m_) { other.m_.at = nullptr; }
     manager &operator=(manager &&other) noexcept {
@@ -322,6 +322,15 @@ public:
         return *this;
     }
     ~manager() { om_free(m_); }
+    // One whose numbers come back: a new process or thread has the least number that no live one has, and a wait is called by its thread.
+    static manager reusing(const om_limits &limits = default_limits) {
+        om_manager m{nullptr};
+        std::uint32_t status = om_new_reusing(&limits, &m);
+        if (status != OM_SUCCESS) {
+            fail(status);
+        }
+        return manager(m);
+    }
     // The manager of a savestate. Bytes that are none give the error OM_ERROR_INVALID_DATA.
     static manager load(span<const unsigned char> bytes) {
         om_manager m{nullptr};
@@ -396,7 +405,7 @@ public:
     status_only cancel_timer(std::uint32_t thread, std::uint32_t handle) noexcept { return status_only(om_cancel_timer(&m_, thread, handle)); }
     status_only tick(std::uint64_t now) noexcept { return status_only(om_tick(&m_, now)); }
 
-    // Waits. A wait that is pending gives its number, one that is satisfied its code.
+    // Waits. A wait that is pending gives its number (that of its thread, where numbers come back), one that is satisfied its code.
     result<std::uint32_t> wait(std::uint32_t thread, bool all, std::uint32_t milliseconds, span<const std::uint32_t> handles) noexcept {
         return with<std::uint32_t>(om_wait, thread, all, milliseconds, handles.data(), handles.size());
     }

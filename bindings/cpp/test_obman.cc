@@ -1,5 +1,5 @@
-// What obman.hpp adds to the header: lists of handles, walks, what only looks, names as C++ has them, and that a walk over what ended tells
-// each object once and ends, however many are pinned.
+// What obman.hpp adds to the header: lists of handles, walks, what only looks, names as C++ has them, managers whose numbers come back, and that a
+// walk over what ended tells each object once and ends, however many are pinned.
 #include <array>
 #include <cstdio>
 #include <cstdlib>
@@ -152,6 +152,35 @@ static void names() {
     MUST(obman::manager::script(m.default_limits, "spawn 1\n", answers).value() == 6);
 }
 
+// Numbers that come back, also behind a load: those of threads that are gone, and that of a thread for each of its waits.
+static void numbers_come_back() {
+    om_limits limits = obman::manager::default_limits;
+    limits.threads = 2;
+    limits.waits = 1;
+    obman::manager m = obman::manager::reusing(limits);
+    om_member a = m.spawn(1).value();
+    om_opening event = m.create_event(a.thread, {}, {}, false, false).value();
+    for (int round = 0; round < 1000; round++) {
+        std::uint32_t second = m.thread(a.process).value();
+        MUST(second == 2 && m.thread(a.process).status() == OM_ERROR_NO_SYSTEM_RESOURCES);
+        MUST(m.wait(second, event.handle).value() == second && m.is_pending(second) && m.wait_of(second) == second);
+        m.set_event(a.thread, event.handle).value();
+        std::size_t told = 0;
+        for (const om_answer &answer : m.answers()) {
+            MUST(answer.wait == second && answer.thread == second && answer.code == OM_WAIT_OBJECT_0);
+            told++;
+        }
+        MUST(told == 1);
+        m.end_thread(second).value();
+        if (round == 500) {
+            std::vector<unsigned char> bytes(*m.save(std::vector<unsigned char>()));
+            m.save(bytes).value();
+            m = obman::manager::load(bytes);
+        }
+    }
+    MUST(m.limits().threads == 2 && m.limits().waits == 1 && m.limits().max_recursion == limits.max_recursion);
+}
+
 #ifdef __cpp_exceptions
 // The status of what a call throws, or 0.
 template <class Call> static std::uint32_t thrown(Call call) {
@@ -183,6 +212,7 @@ int main() {
     waits();
     looks();
     names();
+    numbers_come_back();
     refusals();
     std::puts("all held");
     return 0;

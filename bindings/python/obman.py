@@ -131,8 +131,8 @@ def default_limits(**others):
 
 
 def most_limits(**others):
-    """The greatest limits, with some others, for a host that runs for long: numbers of processes, threads and pending waits are given once.
-    A manager takes 17 MiB from the start, nearly all for its slots."""
+    """The greatest limits, with some others, for a host that runs for long without `reuse`: numbers of processes, threads and pending waits
+    are given once then. A manager takes 17 MiB from the start, nearly all for its slots."""
     return _limits(LIMITS_MOST, others)
 
 
@@ -143,6 +143,7 @@ _OPENS = [_M, _U, _U, _B, ctypes.c_char_p, _Z, POINTER(Opening)]
 # Each function with its result and its parameters, as the header declares them.
 FUNCTIONS = {
     "om_new": (_U, [POINTER(Limits), _M]),
+    "om_new_reusing": (_U, [POINTER(Limits), _M]),
     "om_free": (None, [_Manager]),
     "om_limits_of": (_U, [_M, POINTER(Limits)]),
     "om_spawn": (_U, [_M, _U, POINTER(Member)]),
@@ -311,14 +312,15 @@ class Reader(_Owner):
 
 
 class Manager(_Owner):
-    """A manager, which ends with its context. One call at a time: threads keep a lock round it."""
+    """A manager, which ends with its context. One call at a time: threads keep a lock round it. With `reuse` its numbers come back: a new
+    process or thread has the least number that no live one has, and a wait is called by the number of its thread."""
 
     _free = staticmethod(_c.om_free)
 
-    def __init__(self, limits=None):
+    def __init__(self, limits=None, reuse=False):
         self._at = None
         at = _Manager()
-        _done(_c.om_new(limits or default_limits(), at))
+        _done((_c.om_new_reusing if reuse else _c.om_new)(limits or default_limits(), at))
         self._at = at
 
     @classmethod
@@ -461,7 +463,8 @@ class Manager(_Owner):
         return moment.value if _c.om_next_due(self._at, moment) == SUCCESS else None
 
     def wait(self, thread, handles, all=False, milliseconds=INFINITE):
-        """A thread waits for any or all of 1 to 64 objects: `Over` with a code, or `Pending` with the wait's number."""
+        """A thread waits for any or all of 1 to 64 objects: `Over` with a code, or `Pending` with the wait's number, which is the thread's with
+        `reuse`."""
         answer = c_uint32()
         return _waited(_c.om_wait(self._at, thread, all, milliseconds, (c_uint32 * max(1, len(handles)))(*handles), len(handles), answer), answer)
 
@@ -479,7 +482,7 @@ class Manager(_Owner):
         return _c.om_is_pending(self._at, wait)
 
     def answers(self):
-        """Takes the answers of all waits that were answered, by rising number of the wait."""
+        """Takes the answers of all waits that were answered, in the order in which they began."""
         while block := _taken(lambda *to: _c.om_take_answered(self._at, *to), Answer, 32):
             yield from block
 

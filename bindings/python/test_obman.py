@@ -56,6 +56,22 @@ class Calls(unittest.TestCase):
             self.assertEqual((waited.all, waited.deadline), (False, None))
             self.assertEqual([m.state(o).owner for o in waited.objects], [first.thread])
 
+    def test_numbers_come_back(self):
+        with obman.Manager(obman.default_limits(threads=2, waits=1), reuse=True) as m:
+            first = m.spawn(1)
+            event = m.create_event(first.thread)
+            for _ in range(1000):
+                second = m.thread(first.process)
+                with self.assertRaises(obman.Error) as refused:
+                    m.thread(first.process)
+                self.assertEqual((second, refused.exception.number), (2, 1450))
+                self.assertEqual((m.wait(second, [event.handle]), m.wait_of(second), m.is_pending(second)), (obman.Pending(second), second, True))
+                m.set_event(first.thread, event.handle)
+                self.assertEqual([(a.wait, a.thread, a.code) for a in m.answers()], [(second, second, obman.WAIT_OBJECT_0)])
+                m.end_thread(second)
+            with obman.Manager.load(m.save()) as again:
+                self.assertEqual((again.thread(first.process), again.limits().waits), (2, 1))
+
     def test_walks_and_ends(self):
         with obman.Manager(obman.default_limits(slots=2)) as m:
             member = m.spawn(7)

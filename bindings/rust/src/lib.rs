@@ -156,13 +156,13 @@ const IO_PENDING: u32 = 997;
 pub struct Limits {
     /// Objects at a time: 1 to 65,536.
     pub slots: u32,
-    /// Process numbers ever given: 1 to 65,536.
+    /// Process numbers ever given, or processes at a time where numbers come back ([`Manager::new_reusing`]): 1 to 65,536.
     pub processes: u32,
-    /// Thread numbers ever given: 1 to 65,536.
+    /// Thread numbers ever given, or threads at a time where numbers come back: 1 to 65,536.
     pub threads: u32,
     /// Handles of one process at a time: 1 to 16,384.
     pub handles: u32,
-    /// Numbers of pending waits ever given, from 1.
+    /// Numbers of pending waits ever given, from 1. Where numbers come back it limits nothing.
     pub waits: u32,
     /// Pins of one slot: 1 to 1,073,741,823.
     pub max_pins: u32,
@@ -173,8 +173,8 @@ pub struct Limits {
 }
 
 impl Limits {
-    /// The greatest limits, for a host that runs for long: numbers of processes, threads and pending waits are given once. A manager takes
-    /// 17 MiB from the start, nearly all for its slots.
+    /// The greatest limits, for a host that runs for long over [`Manager::new`]: numbers of processes, threads and pending waits are given
+    /// once there. A manager takes 17 MiB from the start, nearly all for its slots.
     pub const MOST: Limits = Limits {
         slots: 65_536,
         processes: 65_536,
@@ -289,7 +289,7 @@ impl Outcome {
 pub enum Waited {
     /// It is over.
     Over(Outcome),
-    /// It is pending, with this number.
+    /// It is pending, with this number: that of its thread, where numbers come back.
     Pending(u32),
 }
 
@@ -503,20 +503,27 @@ impl fmt::Debug for Manager {
     }
 }
 
+fn made(call: impl FnOnce(&mut sys::om_manager) -> u32) -> Result<Manager, Error> {
+    let mut m = sys::om_manager { at: std::ptr::null_mut() };
+    done(call(&mut m))?;
+    Ok(Manager { m, number: MANAGERS.fetch_add(1, Ordering::Relaxed) })
+}
+
 impl Manager {
-    /// A manager with no process.
+    /// A manager with no process, which gives each number of a process, a thread and a wait once.
     pub fn new(limits: &Limits) -> Result<Manager, Error> {
-        let limits = limits.raw();
-        let mut m = sys::om_manager { at: std::ptr::null_mut() };
-        done(unsafe { sys::om_new(&limits, &mut m) })?;
-        Ok(Manager { m, number: MANAGERS.fetch_add(1, Ordering::Relaxed) })
+        made(|m| unsafe { sys::om_new(&limits.raw(), m) })
+    }
+
+    /// The same, and its numbers come back: a new process or thread has the least number that no live one has, and a wait is called by the
+    /// number of its thread.
+    pub fn new_reusing(limits: &Limits) -> Result<Manager, Error> {
+        made(|m| unsafe { sys::om_new_reusing(&limits.raw(), m) })
     }
 
     /// The manager of a savestate. [`Error::InvalidData`] for other bytes.
     pub fn load(saved: &[u8]) -> Result<Manager, Error> {
-        let mut m = sys::om_manager { at: std::ptr::null_mut() };
-        done(unsafe { sys::om_load(saved.as_ptr().cast(), saved.len(), &mut m) })?;
-        Ok(Manager { m, number: MANAGERS.fetch_add(1, Ordering::Relaxed) })
+        made(|m| unsafe { sys::om_load(saved.as_ptr().cast(), saved.len(), m) })
     }
 
     /// A guest's process begins in a session, with its first thread.
@@ -705,7 +712,7 @@ impl Manager {
         unsafe { sys::om_is_pending(&mut self.m, wait) }
     }
 
-    /// Takes the answers of all waits that were answered, by rising number of the wait: behind each call.
+    /// Takes the answers of all waits that were answered, in the order in which they began: behind each call.
     pub fn answers(&mut self) -> impl Iterator<Item = Answer> + '_ {
         std::iter::from_fn(move || {
             let (mut answer, mut count) = (sys::om_answer::default(), 0);

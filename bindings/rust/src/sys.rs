@@ -50,6 +50,7 @@ structs! {
 
 extern "C" {
     pub fn om_new(limits: *const om_limits, m: *mut om_manager) -> u32;
+    pub fn om_new_reusing(limits: *const om_limits, m: *mut om_manager) -> u32;
     pub fn om_free(m: om_manager);
     pub fn om_limits_of(m: *mut om_manager, limits: *mut om_limits) -> u32;
     pub fn om_spawn(m: *mut om_manager, session: u32, member: *mut om_member) -> u32;

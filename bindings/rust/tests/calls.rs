@@ -49,6 +49,25 @@ fn who_waits_for_whom_is_told() -> Result<(), Error> {
 }
 
 #[test]
+fn numbers_come_back() -> Result<(), Error> {
+    let mut m = Manager::new_reusing(&Limits { threads: 2, waits: 1, ..Limits::default() })?;
+    let first = m.spawn(1)?;
+    let event = m.create_event(first.thread, &Create::default(), false, false)?.opening();
+    for _ in 0..1_000 {
+        let second = m.thread(first.process)?;
+        assert_eq!((second, m.thread(first.process)), (2, Err(Error::NoSystemResources)));
+        let wait = pending(m.wait(second, false, INFINITE, &[event.handle])?);
+        assert_eq!((wait, m.wait_of(second), m.is_pending(second)), (second, Some(second), true));
+        m.set_event(first.thread, event.handle)?;
+        assert_eq!(m.answers().collect::<Vec<_>>(), [Answer { wait, thread: second, outcome: Outcome::Signaled(0) }]);
+        m.end_thread(second)?;
+    }
+    let mut again = Manager::load(&m.save()?)?;
+    assert_eq!((again.thread(first.process)?, again.limits()), (2, m.limits()));
+    Ok(())
+}
+
+#[test]
 fn a_mutex_is_abandoned() -> Result<(), Error> {
     let mut m = Manager::new(&Limits::default())?;
     let (first, second) = (m.spawn(1)?, m.spawn(1)?);

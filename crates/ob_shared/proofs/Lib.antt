@@ -4,3 +4,4 @@ pub mod LaneLists
 pub mod Numbers
 pub mod Parts
 pub mod Room
+pub mod Blocking

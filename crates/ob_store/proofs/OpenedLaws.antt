@@ -56,7 +56,8 @@ kept_opened true p kept = by (is_full p.waits)
     by false = kept
 
 -- what is told of the next answer
-pub next_told : (s : State) (after : ℕ) (reuse : Bool) (a : Answer) → WaitsInvariant s.waits → s.limits.reuse ≡ reuse
+pub next_told : (s : State) (after : ℕ) (reuse : Bool) (a : Answer) → (reuse ≡ true → WaitsInvariant s.waits)
+    → s.limits.reuse ≡ reuse
     → IsLeastFrom (wait_number s after + 1) (λ n. is_answered (get_or s.waits n None)) (Some a.wait)
     → answer_of a.wait (get_or s.waits a.wait None) ≡ Some a
     → IsNextAnswered s after (Some (record a { wait = cond reuse a.thread a.wait }))
@@ -64,7 +65,7 @@ next_told s after reuse a each is least told = record {
   number = Some a.wait;
   least = least;
   told = rw (told, is) refl;
-  found = rw (called reuse is) (stands_answered (get_or s.waits a.wait None) told);
+  found = rw (called reuse each is) (stands_answered (get_or s.waits a.wait None) told);
 }
   where
     thread_answered : (w : Option Wait) → answer_of a.wait w ≡ Some a → thread_of w ≡ Some a.thread
@@ -78,13 +79,14 @@ next_told s after reuse a each is least told = record {
     own : thread_of (get_or s.waits a.wait None) ≡ Some a.thread
     own = thread_answered (get_or s.waits a.wait None) told
 
-    called : (reuse : Bool) → s.limits.reuse ≡ reuse → wait_number s (cond reuse a.thread a.wait) ≡ a.wait
-    called true is = rw (
+    called : (reuse : Bool) → (reuse ≡ true → WaitsInvariant s.waits) → s.limits.reuse ≡ reuse
+        → wait_number s (cond reuse a.thread a.wait) ≡ a.wait
+    called true each is = rw (
       is,
       number_is s.waits a.thread a.wait own
-          (λ m its. each.one_each m a.wait a.thread its own),
+          (λ m its. (each refl).one_each m a.wait a.thread its own),
     ) refl
-    called false is = rw is refl
+    called false each is = rw is refl
 
     stands_answered : (w : Option Wait) → answer_of a.wait w ≡ Some a → state_at w ≡ Some (Answered a.code)
     stands_answered None e = absurd (cc e)

@@ -10,9 +10,10 @@ impl<K: PinKeeper> Store<K> {
     pub fn next_answered(&self, after: u32) -> Option<Answer>
         ensures { IsNextAnswered self.now.state after result }
     {
-        self.kept();
         let mut answer = self.parts.waits.next_answered(self.wait_number(after))?;
         if self.parts.limits.reuse {
+            // Called for its clause: that a thread has one wait.
+            self.kept();
             answer.wait = answer.thread;
         }
         Some(answer)

@@ -111,10 +111,15 @@ fn is_done(objects: &mut Objects<LockedPins>, act: Act) -> bool {
     }
 }
 
-/// Of seven mutexes thread 1 takes those of the slots 0 to 4, the last of them twice, and thread 2 that of 5. Then
-/// thread 1 loses one from the middle of its list, its neighbour and the first, and takes another; thread 2 loses its
-/// last.
+/// Before a lower thread owned a mutex or one of a lower slot was owned, thread 3 takes the last of seven and abandons
+/// it. Thread 1 takes those of the slots 0 to 4, the last of them twice, and thread 2 that of 5. Then thread 1 loses
+/// one from the middle of its list, its neighbour and the first, and takes another; thread 2 loses its last.
 const TAKEN_AND_LOST: &[Act] = &[
+    Act::OwnsNone(3),
+    Act::Take(3, 6),
+    Act::OwnsNone(2),
+    Act::Abandon(3),
+    Act::OwnsNone(3),
     Act::Take(1, 0),
     Act::Take(1, 1),
     Act::Take(1, 2),
