@@ -135,8 +135,8 @@ extern "C" {
 #define OM_LIMITS_DEFAULT {64u, 64u, 256u, 1024u, 1000000u, 1073741823u, 4294967295u, 2147483647u}
 
 /* The greatest limits, for a host that runs for long over om_new: numbers of processes, threads and pending waits are given once there, and
- * two guests that wake each other in turn use up a million waits in less than a second. A manager takes 17 MiB from the start, nearly all
- * for its slots, which come back; with limits.slots at 64 it takes half a MiB. */
+ * two guests that wake each other in turn use up a million waits in less than a second. A manager reserves 17 MiB from the start, nearly
+ * all for its slots, which come back, and uses some 9 of them while it is new. */
 #define OM_LIMITS_MOST {65536u, 65536u, 65536u, 16384u, 4294967295u, 1073741823u, 4294967295u, 2147483647u}
 
 /* The Win32 name of a number that a call answers, or of WAIT_TIMEOUT, for logs; "unknown" for another. */

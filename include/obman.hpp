@@ -297,7 +297,7 @@ private:
 // The limits of OM_LIMITS_DEFAULT and OM_LIMITS_MOST.
 template <class> struct known_limits {
     static constexpr om_limits default_limits = OM_LIMITS_DEFAULT;
-    // The greatest, for a host that runs for long where numbers are given once: 17 MiB from the start.
+    // The greatest, for a host that runs for long where numbers are given once: 17 MiB are reserved.
     static constexpr om_limits most_limits = OM_LIMITS_MOST;
 };
 #if __cplusplus < 201703L

@@ -132,7 +132,7 @@ def default_limits(**others):
 
 def most_limits(**others):
     """The greatest limits, with some others, for a host that runs for long without `reuse`: numbers of processes, threads and pending waits
-    are given once then. A manager takes 17 MiB from the start, nearly all for its slots."""
+    are given once then. A manager reserves 17 MiB from the start, nearly all for its slots."""
     return _limits(LIMITS_MOST, others)
 
 

@@ -174,7 +174,7 @@ pub struct Limits {
 
 impl Limits {
     /// The greatest limits, for a host that runs for long over [`Manager::new`]: numbers of processes, threads and pending waits are given
-    /// once there. A manager takes 17 MiB from the start, nearly all for its slots.
+    /// once there. A manager reserves 17 MiB from the start, nearly all for its slots.
     pub const MOST: Limits = Limits {
         slots: 65_536,
         processes: 65_536,

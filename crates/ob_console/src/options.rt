@@ -145,8 +145,9 @@ impl From<AllocError> for OptionsFault {
 
 /// Reads the arguments after the program's name, by the habits of `clap`: `--slots 4` or `--slots=4`, in any order,
 /// each option at most once, `--help` or `-h`, and `--version` or `-V`. The options are the *profile*'s: one for each
-/// limit of [`Limits`], `--reuse`, `--lanes`, `--load` and `--save`. A savestate has limits of its own, and lanes go over
-/// new managers alone: beside `--load` stands no limit and no `--reuse`, and beside `--load` and `--save` no `--lanes`.
+/// limit of [`Limits`], `--reuse`, `--lanes`, `--load` and `--save`. A savestate has limits of its own, and lanes go
+/// over new managers alone: beside `--load` stands no limit and no `--reuse`, and beside `--load` and `--save` no
+/// `--lanes`.
 pub fn read_options(alloc: Global, args: Vec<String>) -> Result<Options, OptionsFault>
     ensures lanes { IfOk result (λ options. options.lanes ≤ 64) }
 {

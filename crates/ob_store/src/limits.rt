@@ -33,7 +33,8 @@ pub struct Limits {
     pub threads: u32,
     /// Entries of one handle table: 1 to 16,384, by default 1,024.
     pub handles: u32,
-    /// Wait numbers ever given: 1 to 4,294,967,295, by default 1,000,000. Where numbers come back there is no such limit.
+    /// Wait numbers ever given: 1 to 4,294,967,295, by default 1,000,000. Where numbers come back nothing is refused
+    /// for it.
     pub waits: u32,
     /// Pins of one slot: 1 to 1,073,741,823, the default.
     pub max_pins: u32,
@@ -42,7 +43,8 @@ pub struct Limits {
     /// Recursion of a mutex: 1 to 2,147,483,647, the default.
     pub max_recursion: u32,
     /// Whether numbers come back: then a new process or thread gets the least number that no live one has, as Windows
-    /// gives process and thread Ids again, and a wait is called by the number of its thread. By default each number is given once. [`with_reuse`](Limits::with_reuse) sets it.
+    /// gives process and thread Ids again, and a wait is called by the number of its thread. By default each number is
+    /// given once. [`with_reuse`](Limits::with_reuse) sets it.
     pub reuse: bool,
     pub ghost in_range: { AreInRange slots processes threads handles waits max_pins max_gen max_recursion },
 }

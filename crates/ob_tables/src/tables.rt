@@ -23,8 +23,8 @@ pub const PROCESSES_MAX: u32 = 65_536;
 /// The handle tables of all processes, by their numbers.
 ///
 /// Process numbers go from 1. [`add_process`](Tables::add_process) and [`copy_inheritable`](Tables::copy_inheritable)
-/// give each once, [`add_table`](Tables::add_table) any that is free. Handle values are 4, 8, 12 and so on, and the lowest two bits
-/// of a value that is handed in are ignored ([Kernel objects]); values 0 to 3 name nothing.
+/// give each once, [`add_table`](Tables::add_table) any that is free. Handle values are 4, 8, 12 and so on, and the
+/// lowest two bits of a value that is handed in are ignored ([Kernel objects]); values 0 to 3 name nothing.
 ///
 /// [Kernel objects]: https://learn.microsoft.com/windows/win32/sysinfo/kernel-objects
 #[derive(Drop)]
@@ -140,7 +140,7 @@ impl Tables {
     }
 
     /// Gives a process number a table: an empty one, or one that has just the inheritable entries of `parent`, with the
-    /// same values, rights and flags. What stood at the number goes, so that it is the next number, or that of a process
+    /// same values, rights and flags. What stood at the number goes: the number is the next one, or that of a process
     /// that is gone.
     pub fn add_table(&mut self, process: u32, parent: Option<u32>) -> Result<(), AllocError>
         requires number { process ≤ length self.old.tables }
