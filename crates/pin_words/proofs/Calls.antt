@@ -21,7 +21,7 @@ use Rattle.pin_words.specs.declared.view.Look.{Look}
 use Rattle.pin_words.specs.declared.view.KeeperView.{KeeperView}
 use Rattle.pin_words.specs.declared.view.ReaderView.{ReaderView}
 use Rattle.pin_words.specs.declared.view.View.{View}
-use Rattle.pin_words.specs.Places.{place_of, descr_place}
+use Rattle.pin_words.specs.Places.{IsPlace, place_of, descr_place}
 use Rattle.pin_words.specs.Views.{M, view, look, id_in, reader_with, reader_got, reader_released, keeper_with, keeper_stored, reader_of, keeper_of, IsReaders, IsKeepers}
 use Rattle.pin_words.specs.Shown.{Shown}
 use Rattle.pin_words.specs.Plays.{Behind, TellsReader, got_view, released, noted, stored}
@@ -55,7 +55,7 @@ pub reclaimed-kept : (max : ℕ) (was kept : Slot) → kept ≡ was
     ≡ reclaimed max was
 reclaimed-kept max was kept same = search arith
 
-pub released-one : (n p : ℕ) (m m' : M) (id : Id) → p ≡ place_of id.slot → IsReaders m
+pub released-one : (n p : ℕ) (m m' : M) (id : Id) → IsPlace place_of p id.slot → IsReaders m
     → released (step 0 p 1 0 none) m n m' → 0 < tally (same_id id) (reader_of m.0).held
     → IsReaders m' × (reader_of m'.0 ≡ reader_released (reader_of m.0) id)
 released-one n p m m' id at reads does have =
@@ -89,9 +89,9 @@ kept-one f m m' keeps did = search arith
 
 -- what a store leaves to its caller
 pub stored-one : (n : ℕ) (m m' : M) (s w : ℕ) (d : Descr) → IsKeepers m
-    → ((k : KeeperView) (i : ℕ) (e : Descr) → m.0.keeper ≡ Some k → w ≡ descr_place i → descr_code.IsGiven e
+    → ((k : KeeperView) (i : ℕ) (e : Descr) → m.0.keeper ≡ Some k → IsPlace descr_place w i → descr_code.IsGiven e
     → n ≡ descr_code.encoded e → m' ≡ (view (Some (keeper_stored k i e)) m.0.reader, m.1))
-    → w ≡ descr_place s → descr_code.IsGiven d → n ≡ descr_code.encoded d
+    → IsPlace descr_place w s → descr_code.IsGiven d → n ≡ descr_code.encoded d
     → IsKeepers m' × (keeper_of m'.0 ≡ keeper_stored (keeper_of m.0) s d)
 stored-one n m m' s w d mine did is valid n-is =
     let now : m' ≡ (view (Some (keeper_stored (keeper_of m.0) s d)) None, []) =
@@ -100,19 +100,19 @@ stored-one n m m' s w d mine did is valid n-is =
     (now ∙ ap (λ (z : M). (view (Some (keeper_of z.0)) None, [])) (sym now), ap (λ (z : M). keeper_of z.0) now)
 
 pub stores-there : (key : Shape) (slots id i p x : ℕ) (me : M) (v : KeeperView) (d : Descr) (k : Shape)
-    → p ≡ descr_place i → key ≡ k → me.0.keeper ≡ Some v → i < k.slots → (slot_of v.slots i).phase ≡ Free
+    → IsPlace descr_place p i → key ≡ k → me.0.keeper ≡ Some v → i < k.slots → (slot_of v.slots i).phase ≡ Free
     → descr_code.IsGiven d → x ≡ descr_code.encoded d
     → Allows (Shown key) slots id me p (λ _. x) (λ _. stored (step slots p x 0 none) me x)
 stores-there key slots id i p x me v d k at same is inside free descr-given x-is =
     subst (λ (z : Shape × ℕ). Allows (Shown z.0) slots id me z.1 (λ _. x) (λ _. stored (step slots z.1 x 0 none) me x))
-    (λ c. (sym same c, sym at c)) (stores-step k slots id i x me v d is inside free descr-given x-is)
+    (λ c. (sym same c, sym at.is c)) (stores-step k slots id i x me v d is inside free descr-given x-is)
 
-pub notes-there : (key : Shape) (slots id p : ℕ) (me : M) (r : ReaderView) (y : Id) (k : Shape) → p ≡ descr_place y.slot
-    → key ≡ k → me.0.reader ≡ Some r → y.slot < k.slots → 0 < tally (same_id y) r.held
+pub notes-there : (key : Shape) (slots id p : ℕ) (me : M) (r : ReaderView) (y : Id) (k : Shape)
+    → IsPlace descr_place p y.slot → key ≡ k → me.0.reader ≡ Some r → y.slot < k.slots → 0 < tally (same_id y) r.held
     → Allows (Shown key) slots id me p (λ n. n) (noted (step slots p 0 0 none) me)
 notes-there key slots id p me r y k at same is inside have =
     subst (λ (z : Shape × ℕ). Allows (Shown z.0) slots id me z.1 (λ n. n) (noted (step slots z.1 0 0 none) me))
-    (λ c. (sym same c, sym at c)) (search (arith, notes-step))
+    (λ c. (sym same c, sym at.is c)) (search (arith, notes-step))
 
 -- a held Id is one of these, or the new one
 pub inside-more : (n : ℕ) (id : Id) (xs : List Id) → id.slot < n → ((x : Id) → 0 < tally (same_id x) xs → x.slot < n)

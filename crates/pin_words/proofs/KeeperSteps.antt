@@ -32,12 +32,13 @@ use Rattle.pin_core.proofs.Moves.{moved}
 use Rattle.pin_words.specs.declared.view.KeeperView.{KeeperView}
 use Rattle.pin_words.specs.declared.view.ReaderView.{ReaderView}
 use Rattle.pin_words.specs.declared.view.View.{View}
-use Rattle.pin_words.specs.Places.{AtSlot, place_of, descr_place}
+use Rattle.pin_words.specs.Places.{IsPlace, AtSlot, place_of, descr_place}
 use Rattle.pin_words.specs.Views.{M, view, keeper_looked, keeper_stored, keeper_published, keeper_closed, keeper_reclaimed}
 use Rattle.pin_words.specs.Laws.{after_step, closing_word, next_word, word}
 use Rattle.pin_words.specs.Shown.{Table, NotAhead, OfKeeper, OfReader, IsShown, Shown}
 use Rattle.pin_words.specs.Plays.{KeptAs, TellsKeeper, stored, published, closed, ReclaimedAt, reclaiming}
 use Rattle.pin_words.proofs.Bits.{publish-or, close-or}
+use Rattle.pin_words.proofs.Apart.{few, apart, unlike, pin-written, descr-written}
 use Rattle.pin_words.proofs.Steps.{keeper-at, of-on, placed, step-shown, still-shown, few-pins, found-is, past-here, in-shape, turn-keeper, turn-keeper-to, looks-stay, notes-stay, at-slot}
 
 -- a keeper's step at the slot i, to x and to the list ps; what is left is that the words are those of the new world
@@ -100,23 +101,15 @@ keeper-turns k s W sh id i n v kv kv' e x ps seated is inside can becomes more w
     let fit : i < W.shape.slots = in-shape k s W sh i inside in
     let here : get_or (set W.slots i x) i opening_slot ≡ x = grind (arith, at_place) in
     keeper-goes k s W sh id (place_of i) n i v kv kv' e x ps seated is can becomes more
-    (λ j h. dite (ℕ_discrete j i)
-    (λ same. subst (λ (z : ℕ). get_or (set s.words (place_of i) n) (place_of z) 0 ≡ encoded record {
-      generation =
-          (get_or (set W.slots i x) z opening_slot).generation;
-      phase = (get_or (set W.slots i x) z opening_slot).phase;
-      pins = pins W z;
-    }) (sym same)
-    (get_or-set_same s.words (place_of i) n 0 (let long = sh.wide in omega arith)
-    ∙ (word-is ∙ ap (λ (y : Slot). encoded record { generation = y.generation; phase = y.phase; pins = pins W i })
-    (sym here))))
-    (λ ne. get_or-set_other s.words (place_of i) (place_of j) n 0 (λ e. ne (omega arith))
-    ∙ (sh.words j h ∙ ap (λ (y : Slot). encoded record {
+    (λ j h. pin-written k.slots s.words i n (λ z. encoded (word_at (moved W i x ps) z)) sh.fits.1 sh.wide inside
+    (word-is ∙ ap (λ (y : Slot). encoded record { generation = y.generation; phase = y.phase; pins = pins W i })
+    (sym here)) j h
+    (λ ne. sh.words j h ∙ ap (λ (y : Slot). encoded record {
       generation = y.generation;
       phase = y.phase;
       pins = pins W j;
-    }) (sym (get_or-set_other W.slots i j x opening_slot ne)))))
-    (λ j h. get_or-set_other s.words (place_of i) (descr_place j) n 0 (λ e. omega arith)
+    }) (sym (get_or-set_other W.slots i j x opening_slot ne))))
+    (λ j h. get_or-set_other s.words (place_of i) (descr_place j) n 0 (λ e. unlike i j (sym e))
     ∙ (sh.descrs j h ∙ dite (ℕ_discrete j i)
     (λ same. subst (λ (z : ℕ). descr_code.encoded (at W z).descr
     ≡ descr_code.encoded (get_or (set W.slots i x) z opening_slot).descr) (sym same)
@@ -158,12 +151,12 @@ keeper-publishes k s W sh id i v kv seated is inside free =
 
 -- the keeper sets a bit of the slot's word
 sets-bit : (k : Shape) (slots id i p bit : ℕ) (me : M) (v : KeeperView) (f : KeeperView → ℕ → KeeperView) (e : Event)
-    → p ≡ place_of i → me.0.keeper ≡ Some v
+    → IsPlace place_of p i → me.0.keeper ≡ Some v → i < k.slots
     → ((s : Table) (W : WorldState) → IsShown k s W → get_elem? s.views id ≡ some me.0
     → IsShown k (after_step s (place_of i) (bit_or (word s i) bit) id (view (Some (f v i)) me.0.reader)) (after W e))
     → Allows (Shown k) slots id me p (λ n. bit_or n bit) (λ n m'. AtSlot p (KeptAs f me m'))
-sets-bit k slots id i p bit me v f e at is shown =
-    placed k slots id p (place_of i) bit 0 me (λ n. bit_or n bit) (λ st m n m'. AtSlot st.word (KeptAs f m m')) at
+sets-bit k slots id i p bit me v f e at is inside shown =
+    placed k slots id p (place_of i) bit 0 me (λ n. bit_or n bit) (λ st m n m'. AtSlot st.word (KeptAs f m m')) at.is
     (λ s known deep seated small. (
       view (option_map (λ z. f z i) me.0.keeper) me.0.reader,
       keeps,
@@ -172,14 +165,14 @@ sets-bit k slots id i p bit me v f e at is shown =
         after known.0 e,
         search arith,
       ),
-      search arith,
+      at-slot k i (KeptAs f me (view (option_map (λ z. f z i) me.0.keeper) me.0.reader, me.1)) known.1.fits inside refl,
     ))
 
-pub publishes-step : (k : Shape) (slots id i p : ℕ) (me : M) (v : KeeperView) → p ≡ place_of i → me.0.keeper ≡ Some v
+pub publishes-step : (k : Shape) (slots id i p : ℕ) (me : M) (v : KeeperView) → IsPlace place_of p i → me.0.keeper ≡ Some v
     → i < k.slots → (slot_of v.slots i).phase ≡ Free
     → Allows (Shown k) slots id me p (λ n. bit_or n 1073741824) (published (step slots p 1073741824 0 none) me)
 publishes-step k slots id i p me v at is inside free =
-    sets-bit k slots id i p 1073741824 me v keeper_published (Publish i) at is
+    sets-bit k slots id i p 1073741824 me v keeper_published (Publish i) at is inside
     (search (arith, keeper-publishes))
 
 pub keeper-closes : (k : Shape) (s : Table) (W : WorldState) (sh : IsShown k s W) (id i : ℕ) (v : View)
@@ -199,11 +192,11 @@ keeper-closes k s W sh id i v kv seated is inside live =
     refl refl (search arith) mine.published
     refl mine.looks
 
-pub closes-step : (k : Shape) (slots id i p : ℕ) (me : M) (v : KeeperView) → p ≡ place_of i → me.0.keeper ≡ Some v
+pub closes-step : (k : Shape) (slots id i p : ℕ) (me : M) (v : KeeperView) → IsPlace place_of p i → me.0.keeper ≡ Some v
     → i < k.slots → (slot_of v.slots i).phase ≡ Live
     → Allows (Shown k) slots id me p (λ n. bit_or n 2147483648) (closed (step slots p 2147483648 0 none) me)
 closes-step k slots id i p me v at is inside live =
-    sets-bit k slots id i p 2147483648 me v keeper_closed (CloseSlot i) at is
+    sets-bit k slots id i p 2147483648 me v keeper_closed (CloseSlot i) at is inside
     (search (arith, keeper-closes))
 
 pub keeper-stores : (k : Shape) (s : Table) (W : WorldState) (sh : IsShown k s W) (id i : ℕ) (v : View)
@@ -222,7 +215,7 @@ keeper-stores k s W sh id i v kv d seated is inside free descr-given =
     let here : get_or (set W.slots i y) i opening_slot ≡ y = grind (arith, at_place) in
     keeper-goes k s W sh id (descr_place i) x i v kv (keeper_stored kv i d) (StoreDescr i d) y W.published seated is
     (may_store W i d fit phase) refl (same-given W)
-    (λ j h. get_or-set_other s.words (descr_place i) (place_of j) x 0 (λ e. omega arith)
+    (λ j h. get_or-set_other s.words (descr_place i) (place_of j) x 0 (unlike j i)
     ∙ (sh.words j h ∙ dite (ℕ_discrete j i)
     (λ same. subst (λ (z : ℕ). encoded (word_at W z) ≡ encoded record {
       generation =
@@ -233,14 +226,11 @@ keeper-stores k s W sh id i v kv d seated is inside free descr-given =
     (ap (λ (q : Slot). encoded record { generation = q.generation; phase = q.phase; pins = pins W i }) (sym here)))
     (λ ne. ap (λ (q : Slot). encoded record { generation = q.generation; phase = q.phase; pins = pins W j })
     (sym (get_or-set_other W.slots i j y opening_slot ne)))))
-    (λ j h. dite (ℕ_discrete j i)
-    (λ same. subst (λ (z : ℕ). get_or (set s.words (descr_place i) x) (descr_place z) 0
-    ≡ descr_code.encoded (get_or (set W.slots i y) z opening_slot).descr) (sym same)
-    (get_or-set_same s.words (descr_place i) x 0 (let long = sh.wide in omega arith)
-    ∙ ap (λ (q : Slot). descr_code.encoded q.descr) (sym here)))
-    (λ ne. get_or-set_other s.words (descr_place i) (descr_place j) x 0 (λ e. ne (omega arith))
-    ∙ (sh.descrs j h ∙ ap (λ (q : Slot). descr_code.encoded q.descr)
-    (sym (get_or-set_other W.slots i j y opening_slot ne)))))
+    (λ j h. descr-written k.slots s.words i x
+    (λ z. descr_code.encoded (get_or (set W.slots i y) z opening_slot).descr) sh.fits.1 sh.wide inside
+    (ap (λ (q : Slot). descr_code.encoded q.descr) (sym here)) j h
+    (λ ne. sh.descrs j h ∙ ap (λ (q : Slot). descr_code.encoded q.descr)
+    (sym (get_or-set_other W.slots i j y opening_slot ne))))
     descr-given refl (ap (λ (z : List Slot). set z i (with_descr (get_or z i opening_slot) d)) mine.slots)
     mine.published refl mine.looks
 
@@ -260,7 +250,8 @@ stores-step k slots id i x me v d is inside free descr-given x-is s (W, sh) deep
             (keeper-stores k s W sh id i me.0 v d seated is inside free descr-given),
       ),
       λ v' i' d' is' word-is given' x-is'. let same = same_Some v v' (sym is ∙ is') in
-          let index : i ≡ i' = omega arith in
+          let index : i ≡ i' = apart i i' (few i k.slots sh.fits.1 inside) word-is.few (let e = word-is.is in
+          omega arith) in
           let one : d ≡ d' = search arith in
           λ c. (view (Some (keeper_stored (same c) (index c) (one c))) me.0.reader, me.1),
     )
@@ -340,12 +331,12 @@ keeper-looks k s W sh id i v seated inside = let n : ℕ = word s i in
       (sh.each id v seated).1,
     ) v seated (search (arith, turn-keeper))
 
-pub reclaims-step : (k : Shape) (slots id i p old new : ℕ) (me : M) (v : KeeperView) → p ≡ place_of i
+pub reclaims-step : (k : Shape) (slots id i p old new : ℕ) (me : M) (v : KeeperView) → IsPlace place_of p i
     → me.0.keeper ≡ Some v → i < k.slots → (slot_of v.slots i).phase ≡ Closing → old ≡ closing_word (slot_of v.slots i)
     → new ≡ next_word k.max_gen (slot_of v.slots i)
     → Allows (Shown k) slots id me p (λ n. either (eqb n old) new n) (reclaiming (step slots p old new none) me)
 reclaims-step k slots id i p old new me v at is inside closing old-is new-is =
-    placed k slots id p (place_of i) old new me (λ n. either (eqb n old) new n) reclaiming at
+    placed k slots id p (place_of i) old new me (λ n. either (eqb n old) new n) reclaiming at.is
     (λ s known deep seated small. let W = known.0 in let sh = known.1 in let n : ℕ = word s i in
     let now : (KeeperView → KeeperView) → View = λ f. view (option_map f me.0.keeper) me.0.reader in
     exchanged n old new
@@ -362,14 +353,18 @@ reclaims-step k slots id i p old new me v at is inside closing old-is new-is =
             (λ j. (sym is j, sym new-is j))
             (keeper-reclaims k s W sh id i me.0 v seated is inside closing (hit ∙ old-is)),
       ),
-      search arith,
+      at-slot k i (ReclaimedAt old me n (now (λ z. keeper_reclaimed z i n), me.1)) sh.fits inside (
+        (λ _. refl),
+        (λ miss. absurd (miss hit)),
+        keeper-told k s W sh id i me.0 seated inside,
+      ),
     ))
     (λ miss. (
       now (λ z. keeper_looked z i n),
       keeps,
       tt,
       (W, keeper-looks k s W sh id i me.0 seated inside),
-      at-slot i (ReclaimedAt old me n (now (λ z. keeper_looked z i n), me.1)) (
+      at-slot k i (ReclaimedAt old me n (now (λ z. keeper_looked z i n), me.1)) sh.fits inside (
         (λ e. absurd (miss e)),
         (λ _. (refl, pinned-still k s W sh id i me.0 v seated is inside closing (λ e. miss (e ∙ sym old-is)))),
         keeper-told k s W sh id i me.0 seated inside,

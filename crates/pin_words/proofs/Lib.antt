@@ -1,4 +1,5 @@
 pub mod Bits
+pub mod Apart
 pub mod Holdings
 pub mod Steps
 pub mod ReaderSteps

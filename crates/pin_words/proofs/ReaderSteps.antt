@@ -1,6 +1,5 @@
 -- The steps of a reader keep the rule of the table.
 use Rattle.std.proofs.lemmas.Bool.Decides.{nat_tests}
-use Rattle.ob_codec.proofs.AtPlace.{at_place}
 use Rattle.std.specs.Prelude.{IfSome, option_map}
 use Rattle.std.proofs.Common.{◌≡◌, ◌≢◌, inl, inr, ℕ, ◌+◌, ◌-◌, ◌%◌, ◌^◌, ◌<◌, ◌==◌, eqb, eq-eqb, ne_eqb, true, List, [], ◌∷◌, ◌++◌, get_or, set, get_or-set_other, Option, Some, None, sym, refl, ap, ◌∙◌, subst, arith}
 use Rattle.std.proofs.lemmas.Option.{IfSome_then, same_Some}
@@ -32,13 +31,14 @@ use Rattle.pin_words.specs.declared.view.Look.{Look}
 use Rattle.pin_words.specs.declared.view.Note.{Note}
 use Rattle.pin_words.specs.declared.view.ReaderView.{ReaderView}
 use Rattle.pin_words.specs.declared.view.View.{View}
-use Rattle.pin_words.specs.Places.{place_of, descr_place}
+use Rattle.pin_words.specs.Places.{IsPlace, place_of, descr_place}
 use Rattle.pin_words.specs.Views.{M, view, look, id_in, notes_of, reader_with, reader_got, reader_released, reader_noted}
 use Rattle.pin_words.specs.Laws.{after_step, descr_word, word}
 use Rattle.pin_words.specs.Stepped.{Stands}
 use Rattle.pin_words.specs.Shown.{Table, NotAhead, AreNoted, OfReader, IsShown, Shown}
 use Rattle.pin_words.specs.Plays.{TellsReader, looked_view, got_view, released_view, LookedAt, looked, PinnedAt, pinned, ReleasedAt, released, noted}
 use Rattle.pin_words.proofs.Bits.{sub_one}
+use Rattle.pin_words.proofs.Apart.{few, apart, unlike, pin-written}
 use Rattle.pin_words.proofs.Holdings.{holds-more, holds-same-more, holds-less, holds-same-less, has-copies, noted-left}
 use Rattle.pin_words.proofs.Steps.{reader-at, placed, in-list, step-shown, still-shown, found-is, in-shape, when-here, held-found, stood, told, met, reader-looks, turn-reader, turn-to, looks-agree, keeper-stays, reader-stays, behind, at-slot}
 
@@ -47,7 +47,13 @@ hold-words : (k : Shape) (s : Table) (W : WorldState) (sh : IsShown k s W) (i n 
     → n ≡ encoded (word_at (with_holders W hs) i) → ((j : ℕ) → j ≢ i → tally (is_at_slot j) hs ≡ pins W j)
     → (j : ℕ) → j < k.slots → get_or (set s.words (place_of i) n) (place_of j) 0
     ≡ encoded (word_at (with_holders W hs) j)
-hold-words k s a2 sh i n hs inside is same j h = grind (arith, at_place)
+hold-words k s W sh i n hs inside is same j h = pin-written k.slots s.words i n
+    (λ z. encoded (word_at (with_holders W hs) z)) sh.fits.1 sh.wide inside is j h
+    (λ ne. sh.words j h ∙ ap (λ (m : ℕ). encoded record {
+      generation = (at W j).generation;
+      phase = (at W j).phase;
+      pins = m;
+    }) (sym (same j ne)))
 
 -- a reader's step that changes its holds
 reader-goes : (k : Shape) (s : Table) (W : WorldState) (sh : IsShown k s W) (id i n : ℕ) (v : View) (r r' : ReaderView)
@@ -61,7 +67,7 @@ reader-goes k s W sh id i n v r r' hs seated is inside safe word-is pins-same pa
     let mine = reader-at k s W sh id v r seated is in
     step-shown k s W sh id (place_of i) n (view v.keeper (Some r')) (with_holders W hs) sh.shape safe
     (hold-words k s W sh i n hs inside word-is pins-same)
-    (λ j h. get_or-set_other s.words (place_of i) (descr_place j) n 0 (λ e. omega arith) ∙ sh.descrs j h)
+    (λ j h. get_or-set_other s.words (place_of i) (descr_place j) n 0 (λ e. unlike i j (sym e)) ∙ sh.descrs j h)
     sh.given (
       IfSome_then v.keeper was.0 (keeper-stays W hs sh.keeper sh.next id),
       new,
@@ -139,26 +145,26 @@ looks-shown k s W sh id i v seated inside = still-shown k s W sh id (place_of i)
     (search (arith, looks-agree, sh.each)) v seated
     (search (arith, turn-reader))
 
-pub loads : (k : Shape) (slots id i p : ℕ) (me : M) → p ≡ place_of i → i < k.slots
+pub loads : (k : Shape) (slots id i p : ℕ) (me : M) → IsPlace place_of p i → i < k.slots
     → Allows (Shown k) slots id me p (λ n. n) (looked (step slots p 0 0 none) me)
-loads k slots id i p me at inside = placed k slots id p (place_of i) 0 0 me (λ n. n) looked at
+loads k slots id i p me at inside = placed k slots id p (place_of i) 0 0 me (λ n. n) looked at.is
     (λ s known deep seated small. let sh = known.1 in let n : ℕ = word s i in (
       looked_view me.0 i n,
       keeps,
       tt,
       search (arith, looks-shown),
-      at-slot i (LookedAt me n (looked_view me.0 i n, me.1)) (
+      at-slot k i (LookedAt me n (looked_view me.0 i n, me.1)) sh.fits inside (
         refl,
         tells-all k s known.0 sh id i me.0 seated inside,
         search (arith, met, sh.each),
       ),
     ))
 
-pub pins-step : (k : Shape) (slots id i p old new : ℕ) (me : M) (r : ReaderView) → p ≡ place_of i → me.0.reader ≡ Some r
+pub pins-step : (k : Shape) (slots id i p old new : ℕ) (me : M) (r : ReaderView) → IsPlace place_of p i → me.0.reader ≡ Some r
     → i < k.slots → new ≡ old + 1 → (decoded old).phase ≡ Live → (decoded old).pins ≢ k.max_pins
     → Allows (Shown k) slots id me p (λ n. either (eqb n old) new n) (pinned (step slots p old new none) me)
 pins-step k slots id i p old new me r at is inside up live room =
-    placed k slots id p (place_of i) old new me (λ n. either (eqb n old) new n) pinned at
+    placed k slots id p (place_of i) old new me (λ n. either (eqb n old) new n) pinned at.is
     (λ s known deep seated small. let W = known.0 in let sh = known.1 in let n : ℕ = word s i in
     exchanged n old new
     (λ x. (w : View) × (a : Act (Unit {0})) × Valid s.homes me.1 a × Shown k (stepped s (place_of i) x id me.1 w a)
@@ -175,7 +181,7 @@ pins-step k slots id i p old new me r at is inside up live room =
             (reader-pins k s W sh id i me.0 r seated is inside (ap (λ (y : ℕ). (decoded y).phase) hit
             ∙ live) (λ e. room (ap (λ (y : ℕ). (decoded y).pins) (sym hit) ∙ e))),
       ),
-      at-slot i (PinnedAt old me n (got_view me.0 i n, me.1)) (
+      at-slot k i (PinnedAt old me n (got_view me.0 i n, me.1)) sh.fits inside (
         (λ _. refl),
         (λ miss. absurd (miss hit)),
         tells-all k s W sh id i me.0 seated inside,
@@ -186,7 +192,7 @@ pins-step k slots id i p old new me r at is inside up live room =
       keeps,
       tt,
       search (arith, looks-shown),
-      at-slot i (PinnedAt old me n (looked_view me.0 i n, me.1)) (
+      at-slot k i (PinnedAt old me n (looked_view me.0 i n, me.1)) sh.fits inside (
         (λ e. absurd (miss e)),
         (λ _. refl),
         tells-all k s W sh id i me.0 seated inside,
@@ -225,11 +231,11 @@ reader-releases k s W sh id v r x seated at-reader inside have =
     (with-holds W hs sh.next sh.owner id r held (notes_of held r.notes) r.looks mine
     (holds-less W r.number r.held x sh.safe mine.held owned) (noted-left W held r.notes mine.notes) mine.looks) refl
 
-pub releases-step : (k : Shape) (slots id p : ℕ) (me : M) (r : ReaderView) (y : Id) → p ≡ place_of y.slot
+pub releases-step : (k : Shape) (slots id p : ℕ) (me : M) (r : ReaderView) (y : Id) → IsPlace place_of p y.slot
     → me.0.reader ≡ Some r → y.slot < k.slots → 0 < tally (same_id y) r.held
     → Allows (Shown k) slots id me p (λ n. (n + (2 ^ 64 - 1)) % 2 ^ 64) (released (step slots p 1 0 none) me)
 releases-step k slots id p me r y at is inside have =
-    placed k slots id p (place_of y.slot) 1 0 me (λ n. (n + (2 ^ 64 - 1)) % 2 ^ 64) released at
+    placed k slots id p (place_of y.slot) 1 0 me (λ n. (n + (2 ^ 64 - 1)) % 2 ^ 64) released at.is
     (λ s known deep seated small. let W = known.0 in let sh = known.1 in let i = y.slot in let n : ℕ = word s i in
     let gen = (held-found k s W sh id i r inside (reader-at k s W sh id me.0 r seated is) y have refl).0 in
     let x : Id = id_in i n in
@@ -245,7 +251,8 @@ releases-step k slots id p me r y at is inside have =
             (λ c. (sym is c, sym (sub_one n (has-pin k s W sh id me.0 r x seated is inside have') small) c))
             (reader-releases k s W sh id me.0 r x seated is inside have'),
       ),
-      at-slot i (ReleasedAt me n (released_view me.0 i n, me.1)) (refl, tells-all k s W sh id i me.0 seated inside),
+      at-slot k i (ReleasedAt me n (released_view me.0 i n, me.1)) sh.fits inside
+          (refl, tells-all k s W sh id i me.0 seated inside),
     ))
 
 -- a held Id is the one of its slot
@@ -297,7 +304,8 @@ notes-step k slots id i me r y is here inside have s (W, sh) deep seated small =
       tt,
       (W, reader-notes k s W sh id me.0 r x seated is inside have'),
       λ r' y' is' have'' word-is. let same = same_Some r r' (sym is ∙ is') in
-          let index : i ≡ y'.slot = omega arith in
+          let index : i ≡ y'.slot = apart i y'.slot (few i k.slots sh.fits.1 inside) word-is.few (let e = word-is.is in
+          omega arith) in
           let known' = held-is W sh.next sh.owner id r y' sh.safe mine
           (subst (λ (z : ReaderView). 0 < tally (same_id y') z.held) (sym same) have'') in (
             d,

@@ -12,7 +12,7 @@ use Rattle.std.proofs.lemmas.Bool.{cases_lt}
 use native.Mathlib.Decide.{ℕ_discrete}
 use mathlib.Core.Logic.{dite}
 use Rattle.pin_words.specs.declared.view.ReaderView.{ReaderView}
-use Rattle.pin_words.specs.Places.{place_of, descr_place}
+use Rattle.pin_words.specs.Places.{IsPlace, place_of, descr_place}
 use Rattle.pin_words.specs.Verdicts.{verdict_of}
 use Rattle.pin_words.specs.Views.{M, IsReaders, reader_of, id_in, reader_looked, reader_got, reader_released, reader_noted}
 use Rattle.pin_words.specs.declared.view.View.{View}
@@ -88,7 +88,7 @@ release-step r id n have t = let st = t.stands in (
   },
 )
 
-pub released-step : (n p : ℕ) (m m' : M) (id : Id) → p ≡ place_of id.slot → IsReaders m
+pub released-step : (n p : ℕ) (m m' : M) (id : Id) → IsPlace place_of p id.slot → IsReaders m
     → released (step 0 p 1 0 none) m n m' → 0 < tally (same_id id) (reader_of m.0).held
     → ReleaseStep (reader_of m.0) id
 released-step n p m m' id at reads does have = release-step (reader_of m.0) id n have

@@ -1,7 +1,7 @@
 -- What a step of one seat owes the rule of the table.
 use Rattle.std.specs.Prelude.{IfSome, option_map}
 use Rattle.std.proofs.Common.{◌≡◌, ◌≢◌, ◌⊎◌, inl, inr, ⊎_elim, ℕ, ◌<◌, ◌≤◌, List, [], ◌∷◌, length, get_or, set, length-set, zero, suc, Option, Some, None, sym, refl, ap, ◌∙◌, subst, arith, true}
-use mathlib.Core.Option.{none, some, some-ne-none, some-injective}
+use mathlib.Core.Option.{none, some, some-ne-none}
 use native.Mathlib.Decide.{ℕ_discrete}
 use mathlib.Core.Logic.{dite}
 use lib.ListN.{get_elem?}
@@ -13,6 +13,7 @@ use Rattle.pin_core.specs.declared.id.Id.{Id}
 use Rattle.pin_core.specs.declared.descr.Descr.{Descr}
 use Rattle.pin_core.specs.declared.shape.Shape.{Shape}
 use Rattle.pin_core.specs.declared.holders.Hold.{Hold}
+use Rattle.pin_core.specs.Shapes.{IsWithinLimits}
 use Rattle.pin_core.specs.Words.{encoded, decoded}
 use Rattle.pin_core.specs.Descrs as descr_code
 use Rattle.pin_core.specs.Holds.{tally, is_copy, same_id}
@@ -30,6 +31,7 @@ use Rattle.pin_words.specs.Shown.{Table, word_age, IsPast, NotAhead, AreNoted, H
 use Rattle.pin_words.specs.Stepped.{after_step, word, Stands}
 use Rattle.pin_words.specs.Plays.{Behind, TellsReader, AreListed, Show, MeetsBoth, looked_view}
 use Rattle.pin_words.proofs.Holdings.{held-le-pins, has-copies, one-descr}
+use Rattle.pin_words.proofs.Apart.{few, apart}
 
 pub of-here : {A : Type 0} (P : A → Type 0) (x : Option A) (a : A) → x ≡ Some a → IfSome x P → P a
 of-here a0 x a is h = search arith
@@ -78,8 +80,8 @@ has-reader vs id j r v v' seated turn h = dite (ℕ_discrete j id)
     (λ ne. (h.0, h.1, set_else vs id j v' ne ∙ h.2, h.3, h.4))
 
 -- a slot is told by its place
-pub at-slot : (i : ℕ) (P : ℕ → Type 0) → P i → AtSlot (place_of i) P
-at-slot i a1 have s is = search arith
+pub at-slot : (k : Shape) (i : ℕ) (P : ℕ → Type 0) → IsWithinLimits k → i < k.slots → P i → AtSlot (place_of i) P
+at-slot k i P fits inside have s is = subst P (apart i s (few i k.slots fits.1 inside) is.few is.is) have
 
 -- a step at the place of a slot
 pub placed : (k : Shape) (slots id p q first second : ℕ) (me : M) (f : ℕ → ℕ)

@@ -18,7 +18,7 @@ use Rattle.pin_words.specs.declared.view.KeeperView.{KeeperView}
 use Rattle.pin_words.specs.declared.view.ReaderView.{ReaderView}
 use Rattle.pin_words.specs.declared.view.View.{View}
 use Rattle.pin_words.specs.Views.{M, view, is_of_slot, id_of, id_in, reader_looked, reader_got, reader_released, reader_noted, reader_given, keeper_looked, keeper_stored, keeper_published, keeper_closed, keeper_reclaimed, keeper_gave}
-use Rattle.pin_words.specs.Places.{AtSlot, place_of, descr_place}
+use Rattle.pin_words.specs.Places.{IsPlace, AtSlot, place_of, descr_place}
 use Rattle.pin_words.specs.Shown.{word_age}
 use Rattle.pin_words.specs.Stepped.{Stands}
 
@@ -113,7 +113,7 @@ released st m n m' = AtSlot st.word (ReleasedAt m n m')
 -- a load of the descriptor word of a slot that the reader holds
 abbrev pub noted : St → M → ℕ → M → Type 0
 noted st m n m' = (r : ReaderView) (id : Id) → m.0.reader ≡ Some r → 0 < tally (same_id id) r.held
-    → st.word ≡ descr_place id.slot
+    → IsPlace descr_place st.word id.slot
     → (d : Descr) × (descr_code.decoded n ≡ Some d) × (m' ≡ (view m.0.keeper (Some (reader_noted r id d)), m.1))
     × Stands r (descr_place id.slot) n
 
@@ -131,7 +131,7 @@ closed st m n m' = AtSlot st.word (KeptAs keeper_closed m m')
 
 -- a store of a descriptor word
 abbrev pub stored : St → M → ℕ → M → Type 0
-stored st m n m' = (k : KeeperView) (s : ℕ) (d : Descr) → m.0.keeper ≡ Some k → st.word ≡ descr_place s
+stored st m n m' = (k : KeeperView) (s : ℕ) (d : Descr) → m.0.keeper ≡ Some k → IsPlace descr_place st.word s
     → descr_code.IsGiven d → n ≡ descr_code.encoded d
     → m' ≡ (view (Some (keeper_stored k s d)) m.0.reader, m.1)
 

@@ -17,7 +17,7 @@ use Rattle.pin_words.specs.declared.view.Note.{Note}
 use Rattle.pin_words.specs.declared.view.KeeperView.{KeeperView}
 use Rattle.pin_words.specs.declared.view.ReaderView.{ReaderView}
 use Rattle.pin_words.specs.declared.view.View.{View}
-use Rattle.pin_words.specs.Places.{words_a_slot, place_of, descr_place}
+use Rattle.pin_words.specs.Places.{words_of, place_of, descr_place}
 
 -- the generation and phase of a word, in one number that never falls
 abbrev pub word_age : ℕ → ℕ
@@ -73,14 +73,14 @@ HasReader vs j r = (v : View) × (x : ReaderView) × (get_elem? vs j ≡ some v)
 abbrev pub Table : Type 0
 Table = State (Unit {0}) View
 
--- each slot has a line of words, of which the first tells the slot and the second its descriptor. The world is safe,
+-- each slot has two words, of which the first tells the slot and the second its descriptor. The world is safe,
 -- and each seat agrees with it; one seat has the keeper's part, and every reader that holds something has a seat of its
 -- own. For whoever knows hazard pointers: the pins in a word are the number of hazard pointers to its slot, published
 -- by the very exchange that checks the generation, and this says that the number and the holders never part
 pub record IsShown (k : Shape) (s : Table) (world : WorldState) : Type 0 where
   pub fits : IsWithinLimits k
   pub shape : world.shape ≡ k
-  pub wide : length s.words ≡ k.slots * words_a_slot
+  pub wide : length s.words ≡ words_of k.slots
   pub safe : IsSafe world
   pub words : (i : ℕ) → i < k.slots → slice_index s.words (place_of i) ≡ word_code.encoded (word_at world i)
   pub descrs : (i : ℕ) → i < k.slots → slice_index s.words (descr_place i) ≡ descr_code.encoded (at world i).descr

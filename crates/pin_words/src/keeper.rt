@@ -1,6 +1,7 @@
-ghost use Rattle.std.specs.Prelude.{◌≡◌, ◌*◌, ◌≤◌, [], ◌∷◌, length};
+ghost use Rattle.std.specs.Prelude.{◌≡◌, [], ◌∷◌, length};
 ghost use Rattle.std.specs.Arc.{arc_value};
-ghost use Rattle.pin_words.specs.Places.{words_a_slot};
+ghost use Rattle.pin_core.specs.Shapes.{IsWithinLimits};
+ghost use Rattle.pin_words.specs.Places.{words_of};
 ghost use Rattle.pin_words.specs.Plays.{spent};
 ghost use Rattle.pin_words.specs.Views.{IsKeepers, keeper_of};
 
@@ -28,8 +29,8 @@ pub struct Keeper {
     spare: Badge<View>,
     slots: Vec<Slot>,
     ghost keyed: { (arc_value words).shared.key.shape ≡ shape },
-    ghost wide: { (arc_value words).shared.table_id.words ≡ shape.slots * words_a_slot },
-    ghost above_zero: { 1 ≤ shape.slots },
+    ghost wide: { (arc_value words).shared.table_id.words ≡ words_of shape.slots },
+    ghost within: { IsWithinLimits shape },
     ghost seated: { seat.table_id ≡ (arc_value words).shared.table_id },
     ghost keeps: { IsKeepers seat.me },
     ghost spares: { spare.views ≡ spent ∷ [] },
@@ -51,7 +52,7 @@ impl Model for Keeper {
 }
 
 impl Keeper {
-    ghost use Rattle.std.specs.Prelude.{◌≡◌, ◌*◌, ◌<◌, ◌≤◌, [], true, All, length, vec_len, IfErr, IfOk, IfSome};
+    ghost use Rattle.std.specs.Prelude.{◌≡◌, ◌<◌, ◌≤◌, [], true, All, length, vec_len, IfErr, IfOk, IfSome};
     ghost use Rattle.std.specs.Prelude.{IsNone, OnSome};
     ghost use Rattle.std.specs.Arc.{arc_value};
     ghost use Rattle.ob_rights.specs.declared.fault.Fault.TheVariants.{Memory};
@@ -61,13 +62,14 @@ impl Keeper {
     ghost use Rattle.pin_core.specs.Holds.{tally, same_id};
     ghost use Rattle.pin_core.specs.Worlds.{slot_of};
     ghost use Rattle.pin_core.specs.Safety.{may_be_held};
-    ghost use Rattle.pin_words.specs.Places.{words_a_slot};
+    ghost use Rattle.pin_core.specs.Shapes.{IsWithinLimits};
+    ghost use Rattle.pin_words.specs.Places.{words_of};
     ghost use Rattle.pin_words.specs.Views.{IsKeepers, id_of, keeper_of, keeper_stored, keeper_published};
     ghost use Rattle.pin_words.specs.Views.{keeper_closed, keeper_gave, reader_given};
     ghost use Rattle.pin_words.specs.Plays.{Show};
     ghost use Rattle.pin_words.specs.Tries.{ReclaimsByLook, Met};
 
-    #[tactic(auto, using(crate::proofs::Reseated::blanks))]
+    #[tactic(auto, using(crate::proofs::Reseated::blanks, crate::proofs::Apart::some_words))]
     pub(crate) fn of_parts(
         words: Arc<Words, Global>,
         shape: Shape,
@@ -75,8 +77,8 @@ impl Keeper {
         slots: Vec<Slot>,
     ) -> Keeper
         requires keyed { (arc_value words).shared.key.shape ≡ shape }
-        requires wide { (arc_value words).shared.table_id.words ≡ shape.slots * words_a_slot }
-        requires above_zero { 1 ≤ shape.slots }
+        requires wide { (arc_value words).shared.table_id.words ≡ words_of shape.slots }
+        requires within { IsWithinLimits shape }
         requires seated { seat.table_id ≡ (arc_value words).shared.table_id }
         requires keeps { IsKeepers seat.me }
         requires shaped { (keeper_of seat.me.0).shape ≡ shape }
@@ -98,7 +100,7 @@ impl Keeper {
     pub fn slots(&self) -> u32
         ensures slots { result ≡ self.now.view.shape.slots }
         ensures shape { self.now.table.shape ≡ self.now.view.shape }
-        ensures words { self.now.table.id.words ≡ result * words_a_slot }
+        ensures words { self.now.table.id.words ≡ words_of result }
     {
         self.shape.slots
     }

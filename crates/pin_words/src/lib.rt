@@ -1,4 +1,4 @@
-//! The running pins: two words a slot in a line of their own, one keeper, and readers that pin slots without a lock.
+//! The running pins: two words a slot, one keeper, and readers that pin slots without a lock.
 //!
 //! A [`Reader`] pins an Id by one look at the slot's word and one exchange, so that the object stays where it is until
 //! the reader releases it; the [`Keeper`] gives a slot up, and reclaims it once nobody holds it. Each of them has a

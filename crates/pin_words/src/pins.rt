@@ -1,11 +1,12 @@
-ghost use Rattle.std.specs.Prelude.{◌≡◌, ◌≤◌, ◌*◌, [], length, replicate};
+ghost use Rattle.std.specs.Prelude.{◌≡◌, [], length, replicate};
 ghost use Rattle.std.specs.Arc.{arc_value};
-ghost use Rattle.pin_words.specs.Places.{words_a_slot};
+ghost use Rattle.pin_words.specs.Places.{words_of};
+ghost use Rattle.pin_core.specs.Shapes.{IsWithinLimits};
 ghost use Rattle.pin_core.specs.Worlds.{opening_slot};
 ghost use Rattle.pin_words.specs.Views.{view_with_slots};
 
 use crate::keeper::Keeper;
-use crate::places::{WORDS_A_SLOT, lay_all};
+use crate::places::{lay_all, words_of};
 use crate::plays::PinRule;
 use crate::reader::Reader;
 use crate::view::{Ground, View};
@@ -16,7 +17,7 @@ use std::alloc::Global;
 use std::marker::Model;
 use std::sync::Arc;
 
-/// The words of the slots: a line for each, with a pin word and a descriptor word.
+/// The words of the slots: a pin word for each, and its descriptor.
 pub(crate) type Words = Table<(), View, Ground, PinRule, Global>;
 
 /// The words of the slots. The keeper and each reader own them too, and with the last owner they go.
@@ -25,8 +26,8 @@ pub struct Pins {
     words: Arc<Words, Global>,
     shape: Shape,
     ghost keyed: { (arc_value words).shared.key.shape ≡ shape },
-    ghost wide: { (arc_value words).shared.table_id.words ≡ shape.slots * words_a_slot },
-    ghost above_zero: { 1 ≤ shape.slots },
+    ghost wide: { (arc_value words).shared.table_id.words ≡ words_of shape.slots },
+    ghost within: { IsWithinLimits shape },
 }
 
 impl Model for Pins {
@@ -76,8 +77,8 @@ impl Pins {
     ghost use Rattle.pin_core.specs.Opened.{Opens};
     ghost use Rattle.pin_core.specs.Shapes.{IsWithinLimits};
 
-    /// New pins: each slot is free at generation 1 with the descriptor of an event that is reset by itself. A slot
-    /// takes 64 bytes.
+    /// New pins: each slot is free at generation 1 with the descriptor of an event that is reset by itself. The words
+    /// take 64 bytes a slot, and 1 MiB at most.
     ///
     /// [`Fault::Memory`] (8) where memory ran out.
     #[tactic(auto, using(crate::proofs::Reseated::fresh_opens))]
@@ -108,7 +109,7 @@ impl Pins {
         ensures ok { IfOk result (λ r. (r.0.shape ≡ shape) × (r.1.table ≡ r.0) × (r.1.slots ≡ slots.items)) }
         ensures err { IfErr result (λ e. e ≡ Memory) }
     {
-        let Ok(mut words) = vec![in alloc; 0; shape.slots as usize * WORDS_A_SLOT] else {
+        let Ok(mut words) = vec![in alloc; 0; words_of(shape.slots)] else {
             return Err(Fault::Memory);
         };
         lay_all(&mut words, slots.as_slice());

@@ -1,9 +1,10 @@
-ghost use Rattle.std.specs.Prelude.{◌≡◌, ◌*◌, ◌<◌, ◌↔◌, false, length, is_some, IfSome, IsTrue};
+ghost use Rattle.std.specs.Prelude.{◌≡◌, ◌<◌, ◌↔◌, false, length, is_some, IfSome, IsTrue};
 ghost use Rattle.std.specs.List.{remove};
 ghost use Rattle.std.specs.Arc.{arc_value};
 ghost use Rattle.pin_core.specs.declared.id.Id.{Id};
 ghost use Rattle.pin_core.specs.Holds.{tally, drop_last, same_id};
-ghost use Rattle.pin_words.specs.Places.{words_a_slot};
+ghost use Rattle.pin_core.specs.Shapes.{IsWithinLimits};
+ghost use Rattle.pin_words.specs.Places.{words_of};
 ghost use Rattle.pin_words.specs.Views.{IsReaders, reader_of};
 
 use crate::fault::{PinFault, Verdict, judge};
@@ -86,7 +87,8 @@ pub struct Reader {
     // A cache line, so that what is written in `held` and the next reader of a `Vec` don't share one.
     _apart: [u64; 8],
     ghost keyed: { (arc_value words).shared.key.shape ≡ shape },
-    ghost wide: { (arc_value words).shared.table_id.words ≡ shape.slots * words_a_slot },
+    ghost wide: { (arc_value words).shared.table_id.words ≡ words_of shape.slots },
+    ghost within: { IsWithinLimits shape },
     ghost seated: { seat.table_id ≡ (arc_value words).shared.table_id },
     ghost reads: { IsReaders seat.me },
     ghost shaped: { (reader_of seat.me.0).shape ≡ shape },
@@ -107,7 +109,7 @@ impl Model for Reader {
 }
 
 impl Reader {
-    ghost use Rattle.std.specs.Prelude.{◌≡◌, ◌≢◌, ◌*◌, ◌<◌, ◌↔◌, false, [], length, is_some, IfSome, IsTrue};
+    ghost use Rattle.std.specs.Prelude.{◌≡◌, ◌≢◌, ◌<◌, ◌↔◌, false, [], length, is_some, IfSome, IsTrue};
     ghost use Rattle.std.specs.Prelude.{OnOk, Err};
     ghost use Rattle.std.specs.List.{remove};
     ghost use Rattle.std.specs.Arc.{arc_value};
@@ -119,7 +121,8 @@ impl Reader {
     ghost use Rattle.pin_words.specs.declared.fault.Verdict.TheVariants as verdict;
     ghost use Rattle.pin_words.specs.declared.fault.PinFault.TheVariants as fault;
     ghost use Rattle.pin_words.specs.Verdicts.{verdict_of};
-    ghost use Rattle.pin_words.specs.Places.{words_a_slot};
+    ghost use Rattle.pin_core.specs.Shapes.{IsWithinLimits};
+    ghost use Rattle.pin_words.specs.Places.{words_of};
     ghost use Rattle.pin_words.specs.Views.{view, reader_looked, reader_got, reader_released, reader_noted};
     ghost use Rattle.pin_words.specs.Plays.{TellsReader};
     ghost use Rattle.pin_words.specs.Stepped.{Pinned, IsHold, ReleaseStep, DescrStep};
@@ -127,7 +130,8 @@ impl Reader {
 
     pub(crate) fn of_parts(words: Arc<Words, Global>, shape: Shape, seat: Seat<(), View>) -> Reader
         requires keyed { (arc_value words).shared.key.shape ≡ shape }
-        requires wide { (arc_value words).shared.table_id.words ≡ shape.slots * words_a_slot }
+        requires wide { (arc_value words).shared.table_id.words ≡ words_of shape.slots }
+        requires within { IsWithinLimits shape }
         requires seated { seat.table_id ≡ (arc_value words).shared.table_id }
         requires reads { IsReaders seat.me }
         requires shaped { (reader_of seat.me.0).shape ≡ shape }

@@ -1,17 +1,17 @@
-use Rattle.std.proofs.Common.{rules, sym, ap, subst, ◌<◌, arith}
+use Rattle.std.proofs.Common.{rules, sym, ap, subst, ◌<◌}
 use Rattle.pin_core.specs.declared.shape.Shape.{Shape}
 use Rattle.pin_core.specs.Events.{in_phase}
 use Rattle.pin_words.specs.Views.{keeper_of, keeper_closed}
 use Rattle.pin_core.specs.declared.word.Phase.TheVariants.{Closing}
 use Rattle.pin_words.proofs.KeeperSteps.{closes-step}
 use Rattle.pin_words.proofs.Calls.{kept-one, slot-changed}
-use Rattle.pin_words.proofs.Owned.{key_at, wide_at}
+use Rattle.pin_words.proofs.Owned.{key_at, pin_at}
 use Rattle.pin_words.proofs.keeper.Keeper.close_slot.Goals as goal
 
 pub fetch_or-requires : goal.fetch_or-requires
 fetch_or-requires c = let lt : c.args.slot < c.self.inside.shape.slots = search rules in (
   search rules,
-  (let wide = wide_at c.deref.ensures c.self.inside.wide in let at = c.place_of.ensures in omega arith),
+  pin_at c.self.inside.shape _ _ c.deref.ensures c.self.inside.wide c.self.inside.within c.place_of.ensures lt,
   closes-step _ _ _ _ _ _ (keeper_of c.self.inside.seat.me.0) c.place_of.ensures
       (ap (λ m. m.0.keeper) c.self.inside.keeps)
       (subst (λ (k : Shape). c.args.slot < k.slots) (sym (key_at c.deref.ensures c.self.inside.keyed)) lt)

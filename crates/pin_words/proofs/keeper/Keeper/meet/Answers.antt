@@ -1,10 +1,10 @@
-use Rattle.std.proofs.Common.{rules, sym, ap, subst, ◌<◌, ◌∙◌, Some, None, ◌≡◌, arith}
+use Rattle.std.proofs.Common.{rules, sym, ap, subst, ◌<◌, ◌∙◌, Some, None, ◌≡◌}
 use Rattle.pin_core.specs.declared.shape.Shape.{Shape}
 use Rattle.pin_words.specs.Views.{keeper_of, reader_of, reader_looked, view}
 use Rattle.pin_words.specs.Plays.{looked_view, joined}
 use Rattle.pin_words.proofs.ReaderSteps.{loads}
 use Rattle.pin_words.proofs.Reseated.{joins-any, parts-any}
-use Rattle.pin_words.proofs.Owned.{key_at, wide_at, id_at}
+use Rattle.pin_words.proofs.Owned.{key_at, pin_at, some_at, id_at}
 use Rattle.pin_words.proofs.keeper.Keeper.meet.Goals as goal
 
 pub join_seat-requires : goal.join_seat-requires
@@ -16,7 +16,7 @@ join_seat-requires c = let kv = keeper_of c.self.inside.seat.me.0 in let rv = re
       search rules,
       ap (λ z. z.table_id) seat ∙ (same ∙ c.self.inside.seated ∙ sym (id_at c.deref.ensures)),
       ap (λ z. z.me.1) seat ∙ ap (λ m. m.1) c.reader.inside.reads,
-      (let wide = wide_at c.deref.ensures c.self.inside.wide in let some = c.self.inside.above_zero in omega arith),
+      some_at c.self.inside.shape c.deref.ensures c.self.inside.wide c.self.inside.within,
       joins-any _ _ _ _ _ kv rv (ap (λ m. m.0) c.self.inside.keeps)
           (ap (λ z. z.me.0) seat ∙ ap (λ m. m.0) c.reader.inside.reads),
     )
@@ -24,7 +24,7 @@ join_seat-requires c = let kv = keeper_of c.self.inside.seat.me.0 in let rv = re
 pub load-requires : goal.load-requires
 load-requires c = let lt : c.args.slot < c.self.inside.shape.slots = search rules in (
   search rules,
-  (let wide = wide_at c.deref-2.ensures c.self.inside.wide in let at = c.place_of.ensures in omega arith),
+  pin_at c.self.inside.shape _ _ c.deref-2.ensures c.self.inside.wide c.self.inside.within c.place_of.ensures lt,
   loads _ _ _ _ _ _ c.place_of.ensures
       (subst (λ (k : Shape). c.args.slot < k.slots) (sym (key_at c.deref-2.ensures c.self.inside.keyed)) lt),
 )
@@ -38,7 +38,7 @@ split_seat-parted-requires c = let kv = keeper_of c.self.inside.seat.me.0 in
     let both : c.join_seat.new.seat.me.0 ≡ view (Some kv) (Some rv) =
     ap (λ m. m.0) c.join_seat.ensures.2 ∙ λ i. joined (kept i) (read i) in (
       search rules,
-      (let wide = wide_at c.deref-3.ensures c.self.inside.wide in let some = c.self.inside.above_zero in omega arith),
+      some_at c.self.inside.shape c.deref-3.ensures c.self.inside.wide c.self.inside.within,
       parts-any _ _ _ kv (reader_looked rv c.args.slot c.load.result)
           (ap (λ m. m.0) (c.load.ensures.2 c.args.slot c.place_of.ensures).0
           ∙ ap (λ z. looked_view z c.args.slot c.load.result) both),

@@ -11,7 +11,7 @@ use Rattle.pin_words.specs.Views.{keeper_of, keeper_reclaimed}
 use Rattle.pin_words.specs.Laws.{closing_word, next_word}
 use Rattle.pin_words.proofs.KeeperSteps.{reclaims-step}
 use Rattle.pin_words.proofs.Calls.{kept-one, reclaimed-kept, slot-known, slot-changed}
-use Rattle.pin_words.proofs.Owned.{key_at, wide_at}
+use Rattle.pin_words.proofs.Owned.{key_at, pin_at}
 use Rattle.pin_words.proofs.keeper.Keeper.reclaim.Goals as goal
 
 pub compare_exchange-found-requires : goal.compare_exchange-found-requires
@@ -20,7 +20,7 @@ compare_exchange-found-requires c = let lt : c.args.slot < c.self.inside.shape.s
     slot-known _ c.self.inside.slots.items c.args.slot c.index-was.result.now c.self.inside.knows (let long =
     c.self.inside.length_is in omega arith) c.index-was.ensures in (
       search rules,
-      (let wide = wide_at c.deref.ensures c.self.inside.wide in let at = c.place_of.ensures in omega arith),
+      pin_at c.self.inside.shape _ _ c.deref.ensures c.self.inside.wide c.self.inside.within c.place_of.ensures lt,
       reclaims-step _ _ _ _ _ _ _ _ (keeper_of c.self.inside.seat.me.0) c.place_of.ensures
           (ap (λ m. m.0.keeper) c.self.inside.keeps)
           (subst (λ (k : Shape). c.args.slot < k.slots) (sym (key_at c.deref.ensures c.self.inside.keyed)) lt)

@@ -1,14 +1,14 @@
-use Rattle.std.proofs.Common.{rules, ap, ◌<◌, arith}
+use Rattle.std.proofs.Common.{rules, ap, ◌<◌}
 use Rattle.pin_core.specs.Events.{with_descr}
 use Rattle.pin_words.specs.Views.{keeper_of}
 use Rattle.pin_words.proofs.Calls.{stores-there, stored-one, slot-changed}
-use Rattle.pin_words.proofs.Owned.{key_at, wide_at}
+use Rattle.pin_words.proofs.Owned.{key_at, descr_at}
 use Rattle.pin_words.proofs.keeper.Keeper.store_descr.Goals as goal
 
 pub store-requires : goal.store-requires
 store-requires c = let lt : c.args.slot < c.self.inside.shape.slots = search rules in (
   search rules,
-  (let wide = wide_at c.deref.ensures c.self.inside.wide in let at = c.descr_place.ensures in omega arith),
+  descr_at c.self.inside.shape _ _ c.deref.ensures c.self.inside.wide c.self.inside.within c.descr_place.ensures lt,
   stores-there _ _ _ c.args.slot _ _ _ (keeper_of c.self.inside.seat.me.0) c.args.descr c.self.inside.shape
       c.descr_place.ensures (key_at c.deref.ensures c.self.inside.keyed)
       (ap (λ m. m.0.keeper) c.self.inside.keeps) lt

@@ -1,8 +1,8 @@
-use Rattle.std.proofs.Common.{rules, ap, ◌<◌, arith}
+use Rattle.std.proofs.Common.{rules, ap, ◌<◌}
 use Rattle.pin_core.specs.Holds.{tally, same_id}
 use Rattle.pin_words.specs.Views.{reader_of}
 use Rattle.pin_words.proofs.Calls.{notes-there}
-use Rattle.pin_words.proofs.Owned.{key_at, wide_at}
+use Rattle.pin_words.proofs.Owned.{key_at, descr_at}
 use Rattle.std.proofs.Common.{◌≡◌, Some, subst}
 use Rattle.pin_core.specs.Descrs as descr_code
 use Rattle.pin_words.specs.declared.view.ReaderView.{ReaderView}
@@ -15,7 +15,7 @@ load-word-requires c = let have : 0 < tally (same_id c.args.id) (reader_of c.sel
     in
     let lt : c.args.id.slot < c.self.inside.shape.slots = c.self.inside.inside c.args.id (search rules) in (
       search rules,
-      (let wide = wide_at c.deref.ensures c.self.inside.wide in let at = c.descr_place.ensures in omega arith),
+      descr_at c.self.inside.shape _ _ c.deref.ensures c.self.inside.wide c.self.inside.within c.descr_place.ensures lt,
       notes-there _ _ _ _ _ (reader_of c.self.inside.seat.me.0) c.args.id c.self.inside.shape c.descr_place.ensures
           (key_at c.deref.ensures c.self.inside.keyed) (ap (λ m. m.0.reader) c.self.inside.reads) lt have,
     )

@@ -1,14 +1,13 @@
-use Rattle.std.proofs.Common.{rules, sym, subst, ◌<◌, arith}
+use Rattle.std.proofs.Common.{rules, sym, subst, ◌<◌}
 use Rattle.pin_core.specs.declared.shape.Shape.{Shape}
 use Rattle.pin_words.proofs.ReaderSteps.{loads}
-use Rattle.pin_words.proofs.Owned.{key_at, wide_at}
+use Rattle.pin_words.proofs.Owned.{key_at, pin_at}
 use Rattle.pin_words.proofs.reader.Reader.look.Goals as goal
 
 pub load-requires : goal.load-requires
 load-requires c = let lt : c.args.slot < c.self.inside.shape.slots = search rules in (
   search rules,
-  (let wide = wide_at c.deref.ensures c.self.inside.wide in let at = c.place_of.ensures in
-      omega arith),
+  pin_at c.self.inside.shape _ _ c.deref.ensures c.self.inside.wide c.self.inside.within c.place_of.ensures lt,
   loads _ _ _ _ _ _ c.place_of.ensures
       (subst (λ (k : Shape). c.args.slot < k.slots) (sym (key_at c.deref.ensures c.self.inside.keyed)) lt),
 )

@@ -1,10 +1,10 @@
-use Rattle.std.proofs.Common.{rules, sym, ap, subst, ◌<◌, arith}
+use Rattle.std.proofs.Common.{rules, sym, ap, subst, ◌<◌}
 use Rattle.pin_core.specs.declared.shape.Shape.{Shape}
 use Rattle.pin_core.specs.Holds.{tally, same_id}
 use Rattle.pin_words.specs.Views.{reader_of}
 use Rattle.pin_words.proofs.ReaderSteps.{releases-step}
 use Rattle.pin_words.proofs.Calls.{inside-less, released-one}
-use Rattle.pin_words.proofs.Owned.{key_at, wide_at}
+use Rattle.pin_words.proofs.Owned.{key_at, pin_at}
 use Rattle.pin_words.specs.declared.view.ReaderView.{ReaderView}
 use Rattle.pin_words.specs.Stepped.{ReleaseStep}
 use Rattle.pin_words.proofs.Stepping.{released-step}
@@ -15,7 +15,7 @@ fetch_sub-requires c = let have : 0 < tally (same_id c.args.id) (reader_of c.sel
     in
     let lt : c.args.id.slot < c.self.inside.shape.slots = c.self.inside.inside c.args.id (search rules) in (
       search rules,
-      (let wide = wide_at c.deref.ensures c.self.inside.wide in let at = c.place_of.ensures in omega arith),
+      pin_at c.self.inside.shape _ _ c.deref.ensures c.self.inside.wide c.self.inside.within c.place_of.ensures lt,
       releases-step _ _ _ _ _ (reader_of c.self.inside.seat.me.0) c.args.id c.place_of.ensures
           (ap (λ m. m.0.reader) c.self.inside.reads)
           (subst (λ (k : Shape). c.args.id.slot < k.slots) (sym (key_at c.deref.ensures c.self.inside.keyed)) lt) have,

@@ -5,7 +5,7 @@ use Rattle.pin_core.specs.Words.{decoded}
 use Rattle.pin_words.specs.Views.{reader_of, reader_looked}
 use Rattle.pin_words.proofs.ReaderSteps.{pins-step}
 use Rattle.pin_words.proofs.Calls.{go-means, read-one, got-one, inside-more}
-use Rattle.pin_words.proofs.Owned.{key_at, wide_at}
+use Rattle.pin_words.proofs.Owned.{key_at, pin_at}
 use Rattle.pin_words.proofs.reader.Reader.take.Goals as goal
 
 pub compare_exchange-seen-requires : goal.compare_exchange-seen-requires
@@ -13,7 +13,7 @@ compare_exchange-seen-requires c =
     let lt : c.args.id.slot < c.self.inside.shape.slots = search rules in
     let go = go-means c.self.inside.shape.max_pins c.args.id (decoded c.args.found) (search rules) in (
       search rules,
-      (let wide = wide_at c.deref.ensures c.self.inside.wide in let at = c.place_of.ensures in omega arith),
+      pin_at c.self.inside.shape _ _ c.deref.ensures c.self.inside.wide c.self.inside.within c.place_of.ensures lt,
       pins-step _ _ _ _ _ _ _ _ (reader_of c.self.inside.seat.me.0) c.place_of.ensures
           (ap (λ m. m.0.reader) c.self.inside.reads)
           (subst (λ (k : Shape). c.args.id.slot < k.slots) (sym (key_at c.deref.ensures c.self.inside.keyed)) lt) refl
