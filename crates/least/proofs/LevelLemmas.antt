@@ -117,3 +117,8 @@ pub all_taken : (ws : List ℕ) (n : ℕ) → ((k : ℕ) → bit ws k ≡ 0) →
 all_taken ws n none = ext_get_or true (taken_in ws n) (replicate n true) (length_taken_in ws n
     ∙ sym (length-replicate n true))
     (search (arith, length_taken_in, get_or-taken_in, get_or-replicate))
+
+-- the number at the end of free ones is taken
+pub last_taken : (n : ℕ) → slice_get (replicate n false ++ true ∷ []) n ≡ Some true
+last_taken zero = refl
+last_taken (suc n) = last_taken n

@@ -1,4 +1,5 @@
 pub mod LevelLemmas
+pub mod CountLemmas
 pub mod SpareLemmas
 pub mod TakenLemmas
 pub mod NextLemmas

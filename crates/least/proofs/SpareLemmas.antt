@@ -59,3 +59,8 @@ other_than_spare a0 a1 a2 a3 a4 = search (arith, get-set_same, slice_get_within)
 pub with_spare_grown : (taken : List Bool) (spare : Option ℕ) → IsSpare taken spare
     → with_spare (taken ++ true ∷ []) spare ≡ with_spare taken spare ++ true ∷ []
 with_spare_grown a0 a1 a2 = search (arith, set-append_left, slice_get_within)
+
+-- a number that is taken is so in the levels
+pub taken_in_levels : (taken : List Bool) (spare : Option ℕ) (n : ℕ) → IsSpare taken spare
+    → slice_get (with_spare taken spare) n ≡ Some true → slice_get taken n ≡ Some true
+taken_in_levels a0 a1 a2 a3 a4 = search (arith, get-set_same, get-set_other, slice_get_within)

@@ -3,6 +3,7 @@ use Rattle.std.specs.Prelude.{◌≡◌, ℕ, ◌*◌, ◌≤◌, ◌==◌, Bool
 use Rattle.std.specs.List.{range_with_len}
 use Rattle.std.specs.Int.{bit_at}
 use Rattle.least.specs.Bits.{bit}
+use Rattle.least.specs.Taken.{taken_count}
 
 -- the numbers below n that are taken: those whose bit is clear
 abbrev pub taken_in : List ℕ → ℕ → List Bool
@@ -12,8 +13,9 @@ taken_in leaves n = map (λ k. bit leaves k == 0) (range_with_len 0 n)
 abbrev pub SumsUp : (ℕ → ℕ) → List ℕ → Type 0
 SumsUp bits words = (w : ℕ) → bits w ≡ min 1 (slice_index words w)
 
--- there are words for n numbers, no bit is set past them, and each level is summed up by the one above it
-pub record IsSummedUp (top : ℕ) (middle leaves : List ℕ) (n : ℕ) : Type 0 where
+-- there are words for n numbers, no bit is set past them, each level is summed up by the one above it, and so many
+-- numbers are taken
+pub record IsSummedUp (top : ℕ) (middle leaves : List ℕ) (n count : ℕ) : Type 0 where
   pub at_most : n ≤ 65536
   pub few_leaves : length leaves ≤ 1024
   pub few_middle : length middle ≤ 16
@@ -22,3 +24,4 @@ pub record IsSummedUp (top : ℕ) (middle leaves : List ℕ) (n : ℕ) : Type 0 
   pub none_past : (k : ℕ) → n ≤ k → bit leaves k ≡ 0
   pub leaves_summed : SumsUp (bit middle) leaves
   pub middle_summed : SumsUp (bit_at top) middle
+  pub counted : count ≡ taken_count (taken_in leaves n)

@@ -1,6 +1,6 @@
 ghost use Rattle.std.specs.Prelude.{◌≡◌, ◌<◌, ◌≤◌, ℕ, length, List, [], ◌∷◌, ◌++◌, true, false, replicate, slice_set};
 ghost use Rattle.std.specs.Prelude.{Some, slice_get, IfOk, OnOk, OnErr};
-ghost use Rattle.least.specs.Taken.{is_taken, least_free};
+ghost use Rattle.least.specs.Taken.{is_taken, least_free, taken_count};
 
 use crate::levels::Levels;
 use std::alloc::{AllocError, Global};
@@ -59,6 +59,19 @@ impl LeastFree {
         self.levels.len()
     }
 
+    /// How many numbers are taken.
+    #[tactic(auto, using(crate::proofs::CountLemmas::one_fewer))]
+    pub fn taken_count(&self) -> usize
+        ensures value { result ≡ taken_count self.now }
+        ensures bound { result ≤ NUMBERS_MAX }
+    {
+        let count = self.levels.taken_count();
+        match self.spare {
+            Some(_) => count - 1,
+            None => count,
+        }
+    }
+
     /// The least free number: one that was given back, or the length.
     #[inline]
     pub fn least(&self) -> usize
@@ -88,7 +101,7 @@ impl LeastFree {
 
     /// Makes a number free that is taken.
     #[inline]
-    #[tactic(auto, using(crate::proofs::SpareLemmas::with_spare_set))]
+    #[tactic(auto, using(crate::proofs::SpareLemmas::with_spare_set, crate::proofs::SpareLemmas::taken_in_levels))]
     pub fn give_back(&mut self, n: usize)
         requires { slice_get self.old n ≡ Some true }
         ensures { self.new ≡ slice_set self.old n false }

@@ -4,7 +4,7 @@ ghost use Rattle.std.specs.Int.{bit_at};
 ghost use Rattle.least.specs.Bits.{bit};
 ghost use Rattle.least.specs.From.{IsLeastFrom};
 ghost use Rattle.least.specs.Levels.{SumsUp};
-ghost use Rattle.least.specs.Taken.{is_free_within, is_taken, least_free};
+ghost use Rattle.least.specs.Taken.{is_free_within, is_taken, least_free, taken_count};
 
 use crate::NUMBERS_MAX;
 use crate::words::{
@@ -24,6 +24,8 @@ pub struct Levels {
     middle: Vec<u64>,
     leaves: Vec<u64>,
     len: usize,
+    // How many numbers are taken.
+    count: usize,
 }
 
 /// Sets bit `n` of the middle level, and gives the top word for it. Words that had no bit are rare, so it stays apart.
@@ -81,7 +83,7 @@ impl Model for Levels {
 
     ghost view = { λ s. taken_in s.leaves.items s.len };
 
-    ghost invariant = { λ s. IsSummedUp s.top s.middle.items s.leaves.items s.len };
+    ghost invariant = { λ s. IsSummedUp s.top s.middle.items s.leaves.items s.len s.count };
 }
 
 impl Levels {
@@ -94,6 +96,7 @@ impl Levels {
             middle: Vec::new(alloc),
             leaves: Vec::new(alloc),
             len: 0,
+            count: 0,
         }
     }
 
@@ -106,8 +109,17 @@ impl Levels {
         self.len
     }
 
+    /// How many numbers are taken.
+    #[tactic(auto, using(crate::proofs::CountLemmas::few_in))]
+    pub fn taken_count(&self) -> usize
+        ensures value { result ≡ taken_count self.now }
+        ensures bound { result ≤ NUMBERS_MAX }
+    {
+        self.count
+    }
+
     /// A set of length `n` in which every number is taken.
-    #[tactic(auto, using(crate::proofs::LevelLemmas::no_word, crate::proofs::LevelLemmas::all_taken, crate::proofs::LevelLemmas::no_bit))]
+    #[tactic(auto, using(crate::proofs::LevelLemmas::no_word, crate::proofs::LevelLemmas::all_taken, crate::proofs::LevelLemmas::no_bit, crate::proofs::CountLemmas::all_in))]
     pub fn with_taken(alloc: Global, n: usize) -> Result<Levels, AllocError>
         requires { n ≤ NUMBERS_MAX }
         ensures { IfOk result (λ s. s ≡ replicate n true) }
@@ -119,12 +131,13 @@ impl Levels {
             middle,
             leaves,
             len: n,
+            count: n,
         })
     }
 
     /// A set of length `n` in which every number is free. Taking these takes no memory. It takes a time that grows with
     /// `n`.
-    #[tactic(auto, using(crate::proofs::LevelLemmas::one_more_free))]
+    #[tactic(auto, using(crate::proofs::LevelLemmas::one_more_free, crate::proofs::LevelLemmas::last_taken))]
     pub fn with_free(alloc: Global, n: usize) -> Result<Levels, AllocError>
         requires { n ≤ NUMBERS_MAX }
         ensures { IfOk result (λ s. s ≡ replicate n false) }
@@ -173,24 +186,26 @@ impl Levels {
 
     /// Takes a free number below the length.
     #[inline]
-    #[tactic(auto, using(crate::proofs::LevelLemmas::free_bit, crate::proofs::LevelLemmas::taken_cleared))]
+    #[tactic(auto, using(crate::proofs::LevelLemmas::free_bit, crate::proofs::LevelLemmas::taken_cleared, crate::proofs::CountLemmas::few_in))]
     pub fn take(&mut self, n: usize)
         requires { slice_get self.old n ≡ Some false }
         ensures { self.new ≡ slice_set self.old n true }
     {
+        self.count += 1;
         if !clear(&mut self.leaves, n) {
             return;
         }
         self.top = lowered(self.top, &mut self.middle, n / 64);
     }
 
-    /// Makes a number below the length free.
+    /// Makes a number free that is taken.
     #[inline]
-    #[tactic(auto, using(crate::proofs::LevelLemmas::length_taken_in, crate::proofs::LevelLemmas::taken_freed))]
+    #[tactic(auto, using(crate::proofs::LevelLemmas::taken_freed, crate::proofs::CountLemmas::some_in, crate::proofs::CountLemmas::taken_within))]
     pub fn give_back(&mut self, n: usize)
-        requires { n < length self.old }
+        requires { slice_get self.old n ≡ Some true }
         ensures { self.new ≡ slice_set self.old n false }
     {
+        self.count -= 1;
         if !set(&mut self.leaves, n) {
             return;
         }
@@ -199,7 +214,7 @@ impl Levels {
 
     /// Takes the number at the length, which is one more then. This is the one call that takes memory of a set that
     /// stands, and a set that lacks it stays as it was.
-    #[tactic(auto, using(crate::proofs::LevelLemmas::taken_more, crate::proofs::LevelLemmas::length_taken_in, crate::proofs::LevelLemmas::pushed_bit))]
+    #[tactic(auto, using(crate::proofs::LevelLemmas::taken_more, crate::proofs::LevelLemmas::length_taken_in, crate::proofs::LevelLemmas::pushed_bit, crate::proofs::CountLemmas::few_in))]
     pub fn grow(&mut self) -> Result<(), AllocError>
         requires { length self.old < NUMBERS_MAX }
         ensures ok { OnOk result (self.new ≡ self.old ++ true ∷ []) }
@@ -207,10 +222,12 @@ impl Levels {
     {
         if self.len < 64 * self.leaves.len() {
             self.len += 1;
+            self.count += 1;
             return Ok(());
         }
         add_word(&mut self.middle, &mut self.leaves)?;
         self.len += 1;
+        self.count += 1;
         Ok(())
     }
 }

@@ -2,8 +2,8 @@
 //!
 //! [`LeastFree`] is a set of numbers that grows with use. Every number at or past its length is free, so a new set
 //! takes no memory. Finding the least free number, taking it and giving it back are a few word operations at any length
-//! up to 65,536. It keeps a number that was given back apart, at one test a call: fewest words change where one number
-//! goes and comes, again and again. [`Levels`] has no such number.
+//! up to 65,536, and how many are taken is known at once. It keeps a number that was given back apart, at one test a
+//! call: fewest words change where one number goes and comes, again and again. [`Levels`] has no such number.
 //!
 //! ```rust
 //! # use least::LeastFree;

@@ -1,21 +1,49 @@
 -- What the phases say of the slots, and what a change of one slot does to them.
-use Rattle.std.proofs.Common.{◌≡◌, ◌∙◌, sym, ap, refl, ℕ, zero, suc, ◌<◌, ◌≤◌, List, ◌∷◌, length, map, replicate, get_or, set, Option, Some, None, Bool, true, false, ltb, arith, lt-ltb, zero-add}
-use Rattle.std.specs.Prelude.{is_some, is_none, not, ◌&&◌, slice_get, IsSome}
+use Rattle.std.proofs.Common.{◌≡◌, ◌∙◌, sym, ap, refl, subst, cond, ℕ, zero, suc, ◌+◌, ◌-◌, ◌<◌, ◌≤◌, List, [], ◌∷◌, length, map, replicate, get_or, set, Option, Some, None, Bool, true, false, ltb, arith, lt-ltb, zero-add}
+use Rattle.std.specs.Prelude.{is_some, is_none, not, ◌&&◌, slice_get, IsSome, count_by}
 use Rattle.std.specs.List.{range_with_len, position_or_len}
 use Rattle.std.proofs.Math.ListN.{get_or-map}
 use Rattle.std.proofs.Math.Seq.{map-set_same}
 use Rattle.std.proofs.lemmas.Bool.{and_parts, ltb-true}
-use Rattle.std.proofs.lemmas.List.Sums.{prefix_len-le-length, position_or_len_is, fails_before_first, passes_at_first}
+use Rattle.std.proofs.lemmas.List.Sums.{sum_by-cons, prefix_len-le-length, position_or_len_is, fails_before_first, passes_at_first}
 use Rattle.std.proofs.lemmas.List.FromFn.{get_or-range_with_len, length-range_with_len}
 use Rattle.std.proofs.lemmas.List.Folds.{find_at}
 use Rattle.std.proofs.lemmas.List.{ext_get_or, get_or_default, get_or-replicate, get_or-set_same, get_or_past, map-set, length-map, length-set, length-replicate}
 use Rattle.std.proofs.lemmas.Option.{slice_get-get_or, slice_get_past}
-use Rattle.least.specs.Taken.{least_free}
+use Rattle.least.specs.Taken.{least_free, taken_count}
+use Rattle.least.proofs.CountLemmas.{none_first, one_first}
 use Rattle.ob_arena.specs.declared.phase.Phase.{Phase}
 use Rattle.ob_arena.specs.declared.phase.Phase.TheVariants.{Vacant, Occupied, Retired}
 use Rattle.ob_arena.specs.Phases.{is_vacant, is_occupied, is_retired, is_in_use}
-use Rattle.ob_arena.specs.Slots.{IsFilled, is_vacant_at, least_vacant, with_body, without_body, with_retired, vacant_slots}
+use Rattle.ob_arena.specs.Slots.{IsFilled, is_vacant_at, least_vacant, vacant_count, with_body, without_body, with_retired, vacant_slots}
 use Rattle.ob_arena.specs.Arena.{slots_shown, ArenaInvariant}
+
+abbrev one_if : Bool → ℕ
+one_if b = cond b 1 0
+
+-- numbers from one on, each of which passes a test or is taken
+counted_first : (p : ℕ → Bool) (x : Bool) (taken : List Bool) (a : ℕ) → p a ≡ not x
+    → count_by p (range_with_len (a + 1) (length taken)) + taken_count taken ≡ length taken
+    → count_by p (range_with_len a (suc (length taken))) + taken_count (x ∷ taken) ≡ suc (length taken)
+counted_first p true taken a here rest =
+    let none = ap one_if here in
+    omega (arith, none, rest, one_first taken, sum_by-cons (λ k. cond (p k) 1 0) a (range_with_len (a + 1) (length taken)))
+counted_first p false taken a here rest =
+    let one = ap one_if here in
+    omega (arith, one, rest, none_first taken, sum_by-cons (λ k. cond (p k) 1 0) a (range_with_len (a + 1) (length taken)))
+
+at_first : (a : ℕ) → a ≡ a + 0
+at_first a = omega arith
+
+behind_first : (a k : ℕ) → a + 1 + k ≡ a + suc k
+behind_first a k = omega arith
+
+counted_range : (p : ℕ → Bool) (taken : List Bool) (a : ℕ)
+    → ((k : ℕ) → k < length taken → p (a + k) ≡ not (get_or taken k false))
+    → count_by p (range_with_len a (length taken)) + taken_count taken ≡ length taken
+counted_range p [] a same = refl
+counted_range p (x ∷ taken) a same = counted_first p x taken a (ap p (at_first a) ∙ same 0 (omega arith))
+    (counted_range p taken (a + 1) (λ k lt. ap p (behind_first a k) ∙ same (suc k) (omega arith)))
 
 module _ {B : Type 0} (ss : List (Option B)) (ps : List Phase) (taken : List Bool) (tied : ArenaInvariant ss ps taken) where
   pub length_phases : length ps ≡ length ss
@@ -97,9 +125,9 @@ module _ {B : Type 0} (ss : List (Option B)) (ps : List Phase) (taken : List Boo
       let filled = some_of (get_or ss k None) h in
       search (arith, occupied_at, occupied_is, within_of)
 
-  -- a slot with a body has a number of the set
-  pub held_number : (k : ℕ) → IsHeld k → k < length taken
-  held_number k held = search (arith, length-taken)
+  -- the number of a slot with a body is taken
+  pub held_number : (k : ℕ) → IsHeld k → slice_get taken k ≡ Some true
+  held_number k held = search (arith, free_at)
 
   -- a body comes to a vacant slot
   pub tied_put : (k : ℕ) (x : B) → IsFree k → ArenaInvariant (set ss k (Some x)) (set ps k Occupied) (set taken k true)
@@ -142,6 +170,20 @@ module _ {B : Type 0} (ss : List (Option B)) (ps : List Phase) (taken : List Boo
   vacant_taken k lt = vacant_phase k ∙ ap (λ (b : Bool). b && is_vacant (get_or ps k Vacant)) (lt-ltb k (length ss) lt)
       ∙ sym (free_is_vacant (get_or ps k Vacant)) ∙ ap not
       (sym (ap (λ (l : List Bool). get_or l k false) tied.in_use ∙ get_or-map is_in_use ps k Vacant))
+
+  -- the numbers that aren't taken are those of the vacant slots
+  vacant_and_taken : count_by (is_vacant_at (slots_shown ss ps)) (range_with_len 0 (length ss)) + taken_count taken
+      ≡ length ss
+  vacant_and_taken = subst (λ (n : ℕ). count_by (is_vacant_at (slots_shown ss ps)) (range_with_len 0 n) + taken_count taken
+      ≡ n) length-taken
+      (counted_range (is_vacant_at (slots_shown ss ps)) taken 0 (λ k lt. let within : k < length ss = (let n = length-taken
+      in omega arith) in ap (is_vacant_at (slots_shown ss ps)) (zero-add k) ∙ vacant_taken k within))
+
+  pub taken_few : taken_count taken ≤ length ss
+  taken_few = omega (arith, vacant_and_taken)
+
+  pub vacant_counted : length ss - taken_count taken ≡ vacant_count (slots_shown ss ps)
+  vacant_counted = omega (arith, vacant_and_taken)
 
   first_vacant : position_or_len (is_vacant_at (slots_shown ss ps)) (range_with_len 0 (length ss)) ≡ least_free taken
   first_vacant =

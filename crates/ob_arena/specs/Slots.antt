@@ -1,5 +1,5 @@
 -- The slots of an arena: which body each has, and which slots are retired.
-use Rattle.std.specs.Prelude.{◌≡◌, ℕ, nat_lt, Bool, true, false, not, ◌&&◌, List, length, replicate, Option, Some, None, is_none, get_or, slice_index_or, slice_set, find}
+use Rattle.std.specs.Prelude.{◌≡◌, ℕ, nat_lt, Bool, true, false, not, ◌&&◌, List, length, replicate, Option, Some, None, is_none, get_or, slice_index_or, slice_set, find, count_by}
 use Rattle.std.specs.List.{range_with_len}
 use Rattle.std.specs.Coded.{Coded, code_by, coded×, coded_list, coded_option, coded_bool}
 use Rattle.std.proofs.Common.{refl}
@@ -32,6 +32,10 @@ module _ {B : Type 0} where
   -- the least such slot
   abbrev pub least_vacant : Slots B → Option ℕ
   least_vacant s = find (is_vacant_at s) (range_with_len 0 (length s.bodies))
+
+  -- how many such slots there are
+  abbrev pub vacant_count : Slots B → ℕ
+  vacant_count s = count_by (is_vacant_at s) (range_with_len 0 (length s.bodies))
 
   -- the slots of a new arena
   abbrev pub vacant_slots : ℕ → Slots B

@@ -3,8 +3,8 @@ ghost use Rattle.std.specs.Prelude.{IsSome, IfOk};
 ghost use Rattle.std.specs.Borrow.{sem};
 ghost use Rattle.least.specs.From.{IsLeastFrom};
 ghost use Rattle.ob_arena.specs.Phases.{is_in_use, is_occupied};
-ghost use Rattle.ob_arena.specs.Slots.{body_at, is_vacant_at, least_vacant, vacant_slots, with_body, with_retired};
-ghost use Rattle.ob_arena.specs.Slots.{without_body};
+ghost use Rattle.ob_arena.specs.Slots.{body_at, is_vacant_at, least_vacant, vacant_count, vacant_slots, with_body};
+ghost use Rattle.ob_arena.specs.Slots.{with_retired, without_body};
 
 use crate::phase::Phase;
 use crate::storage::{Front, Storage, Title, allocate, deallocate, fits};
@@ -183,6 +183,14 @@ impl<B> Arena<B> {
         None
     }
 
+    /// How many slots are vacant.
+    #[tactic(auto, using(crate::proofs::Phasing::taken_few, crate::proofs::Phasing::vacant_counted))]
+    pub fn vacant_count(&self) -> u32
+        ensures { result ≡ vacant_count self.now }
+    {
+        self.len() - self.free.taken_count() as u32
+    }
+
     /// Drops each body.
     fn clear(&mut self)
     where
@@ -197,6 +205,7 @@ impl<B> Arena<B> {
     }
 
     /// Gives the memory of an arena without a body back.
+    #[tactic(auto, using(crate::proofs::Phasing::length_phases))]
     fn destroy(self)
         requires { self.bodies ≡ replicate (length self.bodies) None }
     {

@@ -49,6 +49,11 @@ pub has_room : (ts : List (List (Option Entry))) (p m : ℕ) → AreShort ts m �
     → entries_in (table_of ts p) < m
 has_room ts p m short below = search (arith, full_entries, short_entries)
 
+-- no table has more than the limit
+pub few_at : (ts : List (List (Option Entry))) (p m : ℕ) (t : List (Option Entry)) → AreShort ts m → p < length ts
+    → t ≡ get_or ts p t → entries_in t ≤ m
+few_at ts p m t short lt read = search (arith, entries_in-le, get_or_read)
+
 -- the test of the least free place tells whether a table is full
 pub full_test : (ts : List (List (Option Entry))) (p m : ℕ) → AreShort ts m
     → (leb m (free_place (table_of ts p)) ≡ true) ↔ (entries_in (table_of ts p) ≡ m)

@@ -4,9 +4,11 @@ use Rattle.std.proofs.Common.{◌≡◌, ℕ, zero, suc, ◌+◌, ◌-◌, ◌<�
 use Rattle.std.specs.Prelude.{is_some, IsSome, slice_get}
 use Rattle.std.proofs.lemmas.List.{map-set, length-map, length-set, set-get_or, set_at}
 use Rattle.std.proofs.Math.Seq.{map-set_same}
-use Rattle.least.specs.Taken.{least_free}
+use Rattle.least.specs.Taken.{least_free, taken_count}
+use Rattle.least.proofs.CountLemmas.{counted_map}
 use Rattle.least.proofs.TakenLemmas.{slice_get_least_free}
 use Rattle.ob_tables.specs.declared.entry.Entry.{Entry}
+use Rattle.ob_tables.specs.Counts.{entries_in}
 use Rattle.ob_tables.specs.Table.{at, place_of, entry_at, free_place, with_entry, TableInvariant}
 use Rattle.ob_tables.proofs.Counting.{found_place}
 
@@ -33,6 +35,11 @@ with_entry_at (Some x ∷ t) e h = ap (λ r. Some x ∷ r) (with_entry_at t e (o
 pub least_place : (taken : List Bool) (t : List (Option Entry)) → TableInvariant taken t
     → least_free taken ≡ free_place t
 least_place taken t kept = search (arith, least_free_places)
+
+-- as many numbers are taken as there are entries
+pub entries_taken : (taken : List Bool) (t : List (Option Entry)) → TableInvariant taken t
+    → taken_count taken ≡ entries_in t
+entries_taken taken t kept = ap taken_count kept.same ∙ counted_map is_some t
 
 pub place_is_free : (taken : List Bool) (t : List (Option Entry)) (k : ℕ) → TableInvariant taken t
     → k ≡ least_free taken

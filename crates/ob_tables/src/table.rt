@@ -3,6 +3,7 @@ ghost use Rattle.std.specs.Prelude.{length, slice_get, slice_set, true, is_some,
 ghost use Rattle.ob_rights.specs.declared.fault.Fault.TheVariants.{Limit, Memory};
 ghost use Rattle.ob_tables.specs.Table.{at, entry_at, free_place, is_packed, place_of, value_of, with_entry};
 ghost use Rattle.ob_tables.specs.Table.{without_entry, with_flags};
+ghost use Rattle.ob_tables.specs.Counts.{entries_in};
 ghost use Rattle.ob_tables.specs.Inheritance.{inheritable, inherited};
 ghost use Rattle.ob_tables.specs.Spelling.{is_short};
 
@@ -103,6 +104,14 @@ impl Table {
         } else {
             None
         }
+    }
+
+    /// How many entries there are.
+    #[tactic(auto, using(crate::proofs::Places::entries_taken))]
+    pub(crate) fn count(&self) -> u32
+        ensures { result ≡ entries_in self.now }
+    {
+        self.free.taken_count() as u32
     }
 
     /// Whether there are as many entries as the limit lets.

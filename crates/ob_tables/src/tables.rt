@@ -1,4 +1,4 @@
-ghost use Rattle.std.specs.Prelude.{[], ◌∷◌, ◌++◌, ◌≡◌, ◌↔◌, ◌⊎◌, ◌+◌, ◌<◌, ◌≤◌, Err};
+ghost use Rattle.std.specs.Prelude.{[], ◌∷◌, ◌++◌, ◌≡◌, ◌↔◌, ◌⊎◌, ◌+◌, ◌-◌, ◌<◌, ◌≤◌, Err};
 ghost use Rattle.std.specs.Prelude.{IfErr, IfOk, IfSome, OnErr, OnOk, IsSome, IsTrue, length, nat_le, nat_lt, ◌&&◌, true};
 ghost use Rattle.std.specs.List.{list_all};
 ghost use Rattle.ob_codec.specs.Reading.{Gives};
@@ -241,6 +241,15 @@ impl Tables {
         ensures { IsTrue result ↔ (entries_in (table_of self.now.tables process) ≡ self.now.handle_limit) }
     {
         self.tables[process as usize].is_full(self.handles)
+    }
+
+    /// How many further entries a process may have.
+    #[tactic(auto, using(std::proofs::lemmas::List::get_or_read))]
+    pub fn left(&self, process: u32) -> u32
+        requires { process < length self.now.tables }
+        ensures { result ≡ self.now.handle_limit - entries_in (table_of self.now.tables process) }
+    {
+        self.handles - self.tables[process as usize].count()
     }
 
     /// The entry of a handle.

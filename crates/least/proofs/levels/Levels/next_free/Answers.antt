@@ -8,10 +8,10 @@ use Rattle.least.specs.Taken.{is_free_within}
 use Rattle.least.proofs.NextLemmas.{free_test, in_next_word, in_no_word, in_word}
 use Rattle.least.proofs.levels.Levels.next_free.Goals as goal
 
-shown : (top : ℕ) (middle leaves : List ℕ) (n from : ℕ) (now : List Bool) (r : Option ℕ)
-    → IsSummedUp top middle leaves n → taken_in leaves n ≡ now → IsLeastFrom from (λ k. bit leaves k == 1) r
+shown : (top : ℕ) (middle leaves : List ℕ) (n count from : ℕ) (now : List Bool) (r : Option ℕ)
+    → IsSummedUp top middle leaves n count → taken_in leaves n ≡ now → IsLeastFrom from (λ k. bit leaves k == 1) r
     → IsLeastFrom from (is_free_within now) r
-shown top middle leaves n from now r sums is least = grind (arith, free_test)
+shown top middle leaves n count from now r sums is least = grind (arith, free_test)
 
 pub returns-in-Some : goal.returns-in-Some
 returns-in-Some c =
