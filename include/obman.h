@@ -188,6 +188,14 @@ typedef struct om_limits {
     uint32_t max_recursion; /* how often a thread may own a mutex: 1 to 2,147,483,647 */
 } om_limits;
 
+/* What can still come before a call is refused with OM_ERROR_NO_SYSTEM_RESOURCES for want of it. */
+typedef struct om_room {
+    uint32_t slots;         /* vacant slots: so many objects can be made before one is taken back (om_take_ended) */
+    uint32_t processes;     /* process numbers */
+    uint32_t threads;       /* thread numbers, of which each new process takes one */
+    uint32_t handles;       /* handles of one process */
+} om_room;
+
 /* A process and a thread of it. */
 typedef struct om_member {
     uint32_t process;
@@ -350,6 +358,11 @@ void om_free(om_manager m);
 
 /* The limits of a manager: those that it was made with, also where it was saved and loaded since. It answers always 0. */
 uint32_t om_limits_of(om_manager *m, om_limits *limits);
+
+/* What can still come, for a host that warns or makes room before calls are refused: slots, numbers, and handles of a process (of 0, or another
+ * that isn't live: none). It takes constant time. Numbers of waits rise one by one, so those above the last that om_wait told are left, up to
+ * the limit; by om_new_reusing they have no end. It answers always 0. */
+uint32_t om_room_of(om_manager *m, uint32_t process, om_room *room);
 
 /* ---- Processes and threads ---- */
 

@@ -426,6 +426,8 @@ public:
     result<std::uint64_t> next_due() const noexcept { return with<std::uint64_t>(om_next_due); }
     std::uint64_t now() const noexcept { return om_now(&m_); }
     om_limits limits() const noexcept { return *with<om_limits>(om_limits_of); }
+    // What can still come; handles only of a process that is named.
+    om_room room(std::uint32_t process = 0) const noexcept { return *with<om_room>(om_room_of, process); }
 
     // What there is, for debuggers and monitors. The walks go by rising number, handle or slot, and names in the order of the directory.
     walk<std::uint32_t, steps::process> processes() const noexcept { return walk<std::uint32_t, steps::process>(m_); }

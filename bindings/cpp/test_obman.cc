@@ -179,6 +179,8 @@ static void numbers_come_back() {
         }
     }
     MUST(m.limits().threads == 2 && m.limits().waits == 1 && m.limits().max_recursion == limits.max_recursion);
+    const om_room room = m.room(a.process);
+    MUST(room.slots == 63 && room.processes == 63 && room.threads == 1 && room.handles == 1023 && m.room().handles == 0);
 }
 
 #ifdef __cpp_exceptions

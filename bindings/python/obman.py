@@ -94,6 +94,7 @@ _Reader = _struct("om_reader", at=c_void_p)
 Limits = _struct(
     "om_limits", slots=c_uint32, processes=c_uint32, threads=c_uint32, handles=c_uint32, waits=c_uint32, max_pins=c_uint32, max_gen=c_uint32, max_recursion=c_uint32
 )
+Room = _struct("om_room", slots=c_uint32, processes=c_uint32, threads=c_uint32, handles=c_uint32)
 Member = _struct("om_member", process=c_uint32, thread=c_uint32)
 Object = _struct("om_object", slot=c_uint32, generation=c_uint32)
 Opening = _struct("om_opening", handle=c_uint32, object=Object)
@@ -146,6 +147,7 @@ FUNCTIONS = {
     "om_new_reusing": (_U, [POINTER(Limits), _M]),
     "om_free": (None, [_Manager]),
     "om_limits_of": (_U, [_M, POINTER(Limits)]),
+    "om_room_of": (_U, [_M, _U, POINTER(Room)]),
     "om_spawn": (_U, [_M, _U, POINTER(Member)]),
     "om_child": (_U, [_M, _U, _B, POINTER(Member)]),
     "om_thread": (_U, [_M, _U, POINTER(_U)]),
@@ -456,6 +458,10 @@ class Manager(_Owner):
     def limits(self):
         """Those with which it was made, or those of the manager that was saved."""
         return _told(Limits, _c.om_limits_of, self._at)
+
+    def room(self, process=0):
+        """What can still come before a call is refused for want of it: slots, numbers of processes and threads, and handles of a process."""
+        return _told(Room, _c.om_room_of, self._at, process)
 
     def next_due(self):
         """The next moment that a tick can reach at which a timer or a wait is due, or None."""

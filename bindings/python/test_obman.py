@@ -64,12 +64,14 @@ class Calls(unittest.TestCase):
                 second = m.thread(first.process)
                 with self.assertRaises(obman.Error) as refused:
                     m.thread(first.process)
-                self.assertEqual((second, refused.exception.number), (2, 1450))
+                self.assertEqual((second, refused.exception.number, m.room().threads), (2, 1450, 0))
                 self.assertEqual((m.wait(second, [event.handle]), m.wait_of(second), m.is_pending(second)), (obman.Pending(second), second, True))
                 m.set_event(first.thread, event.handle)
                 self.assertEqual([(a.wait, a.thread, a.code) for a in m.answers()], [(second, second, obman.WAIT_OBJECT_0)])
                 m.end_thread(second)
             with obman.Manager.load(m.save()) as again:
+                room = again.room(first.process)
+                self.assertEqual((room.slots, room.processes, room.threads, room.handles), (63, 63, 1, 1023))
                 self.assertEqual((again.thread(first.process), again.limits().waits), (2, 1))
 
     def test_walks_and_ends(self):

@@ -38,6 +38,8 @@ pub use sys::om_object as Object;
 pub use sys::om_opening as Opening;
 /// A handle with what it names, its rights and its flags.
 pub use sys::om_entry as Entry;
+/// What can still come before a call is refused for want of it: vacant slots, numbers of processes and of threads, handles of a process.
+pub use sys::om_room as Room;
 /// What refers to an object: handles, places of pending waits, and a hold of 1 where there is neither.
 pub use sys::om_references as References;
 
@@ -683,6 +685,11 @@ impl Manager {
         let mut limits = Limits::default().raw();
         done(unsafe { sys::om_limits_of(&mut self.m, &mut limits) }).expect("limits are always told");
         Limits::of(limits)
+    }
+
+    /// What can still come; `handles` is of a process, and 0 where it isn't live.
+    pub fn room(&mut self, process: u32) -> Room {
+        told(|room| unsafe { sys::om_room_of(&mut self.m, process, room) }).expect("room is always told")
     }
 
     /// The next moment that a tick can reach at which a timer or a wait is due.

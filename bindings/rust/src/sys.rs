@@ -31,6 +31,7 @@ structs! {
     om_limits {
         slots: u32, processes: u32, threads: u32, handles: u32, waits: u32, max_pins: u32, max_gen: u32, max_recursion: u32,
     }
+    om_room { slots: u32, processes: u32, threads: u32, handles: u32, }
     om_member { process: u32, thread: u32, }
     om_object { slot: u32, generation: u32, }
     om_opening { handle: u32, object: om_object, }
@@ -53,6 +54,7 @@ extern "C" {
     pub fn om_new_reusing(limits: *const om_limits, m: *mut om_manager) -> u32;
     pub fn om_free(m: om_manager);
     pub fn om_limits_of(m: *mut om_manager, limits: *mut om_limits) -> u32;
+    pub fn om_room_of(m: *mut om_manager, process: u32, room: *mut om_room) -> u32;
     pub fn om_spawn(m: *mut om_manager, session: u32, member: *mut om_member) -> u32;
     pub fn om_child(m: *mut om_manager, thread: u32, inherit: bool, member: *mut om_member) -> u32;
     pub fn om_thread(m: *mut om_manager, process: u32, thread: *mut u32) -> u32;

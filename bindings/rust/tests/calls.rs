@@ -1,6 +1,6 @@
 //! The binding against the library: what is refused, what waits, what a host is told.
 
-use obman::{script, Answer, Create, Created, Error, Kind, Limits, Manager, Outcome, Slot, State, Waited, WaitedFor, INFINITE};
+use obman::{script, Answer, Create, Created, Error, Kind, Limits, Manager, Outcome, Room, Slot, State, Waited, WaitedFor, INFINITE};
 use std::sync::{Arc, Mutex};
 
 fn pending(waited: Waited) -> u32 {
@@ -56,6 +56,7 @@ fn numbers_come_back() -> Result<(), Error> {
     for _ in 0..1_000 {
         let second = m.thread(first.process)?;
         assert_eq!((second, m.thread(first.process)), (2, Err(Error::NoSystemResources)));
+        assert_eq!(m.room(0), Room { slots: 63, processes: 63, threads: 0, handles: 0 });
         let wait = pending(m.wait(second, false, INFINITE, &[event.handle])?);
         assert_eq!((wait, m.wait_of(second), m.is_pending(second)), (second, Some(second), true));
         m.set_event(first.thread, event.handle)?;
@@ -63,6 +64,7 @@ fn numbers_come_back() -> Result<(), Error> {
         m.end_thread(second)?;
     }
     let mut again = Manager::load(&m.save()?)?;
+    assert_eq!(again.room(first.process), Room { slots: 63, processes: 63, threads: 1, handles: 1_023 });
     assert_eq!((again.thread(first.process)?, again.limits()), (2, m.limits()));
     Ok(())
 }

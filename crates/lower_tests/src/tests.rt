@@ -9,6 +9,7 @@ mod pins;
 mod playing;
 mod reuse;
 mod rights;
+mod room;
 mod saved;
 mod schedules;
 mod slots;

@@ -48,7 +48,7 @@ pub use law::{law_of_savestates, law_of_steps};
 pub use making::{AsMake, Make, Making, Text};
 pub use manager::Manager;
 pub use ob_codec::{ReadFault, TextFault};
-pub use ob_store::{Found, Label, Limits, ObjectHeader, Stored};
+pub use ob_store::{Found, Label, Limits, ObjectHeader, Room, Stored};
 pub use ob_tables::Entry;
 pub use ob_waits::{Answer, Mode, Pending};
 pub use object_state::ObjectState;

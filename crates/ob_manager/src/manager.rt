@@ -6,6 +6,7 @@ ghost use Rattle.pin_words.specs.Keepers.{IsFresh};
 ghost use Rattle.ob_store.specs.Directory.{directory_of};
 ghost use Rattle.ob_store.specs.Consistent.{IsConsistent};
 ghost use Rattle.ob_store.specs.Objects.{object_of, tag_of};
+ghost use Rattle.ob_store.specs.Room.{room_of};
 ghost use Rattle.ob_store.specs.State.{blocks_of, handles_of, hold_of, opening, shape_of};
 ghost use Rattle.ob_store.specs.Stored.{MatchesState, hold_in};
 ghost use Rattle.ob_store.specs.Waiting.{wait_number};
@@ -26,7 +27,7 @@ use crate::waiting::Timeout;
 use crate::{counting, handles, waiting};
 use ob_name::{NameRef, Rows};
 use ob_rights::{Fault, Kind, Rights};
-use ob_store::{Found, Limits, Store, Stored};
+use ob_store::{Found, Limits, Room, Store, Stored};
 use ob_waits::Mode;
 use pin_core::Id;
 use pin_words::PinKeeper;
@@ -70,6 +71,14 @@ impl<K: PinKeeper> Manager<K> {
         ensures { result ≡ self.now.state.limits }
     {
         self.store.limits()
+    }
+
+    /// What can still come before a call is refused with 1450 for want of it: objects, processes and threads, and handles
+    /// of one process. It takes constant time.
+    pub fn room(&self, process: u32) -> Room
+        ensures { result ≡ room_of self.now.state process }
+    {
+        self.store.room(process)
     }
 
     /// What holds whenever no call is under way: each slot is empty or holds one object, which has a body exactly where

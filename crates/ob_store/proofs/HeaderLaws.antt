@@ -7,7 +7,7 @@ use Rattle.least.specs.Padded.{padded}
 use Rattle.least.proofs.PaddedLemmas.{padded_length}
 use Rattle.pin_core.specs.declared.id.Id.{Id}
 use Rattle.ob_body.specs.declared.body.Body.{Body}
-use Rattle.ob_arena.specs.Slots.{Slots, is_vacant_at, least_vacant}
+use Rattle.ob_arena.specs.Slots.{Slots, is_vacant_at, least_vacant, vacant_count}
 use Rattle.ob_arena.proofs.Phasing.{map-replicate}
 use Rattle.ob_arena.proofs.SlotLemmas.{vacant_least}
 use Rattle.ob_waits.specs.CountedBodies.{slot_acquired, without_block}
@@ -123,6 +123,9 @@ vacant_same s ls k = search (arith, object_read, objects_length)
 
 pub least_same : (s : Slots ObjectHeader) (ls : List Tag) → least_vacant s ≡ least_vacant (vacancy (places_of s ls))
 least_same s ls = search (arith, vacant_same, objects_length)
+
+pub count_same : (s : Slots ObjectHeader) (ls : List Tag) → vacant_count s ≡ vacant_count (vacancy (places_of s ls))
+count_same s ls = search (arith, vacant_same, objects_length)
 
 pub least_is : (s : Slots Object) (r : Option ℕ) → r ≡ least_vacant s → IfSome r (λ slot. is_vacant_at s slot ≡ true)
 least_is = search (arith, vacant_least)

@@ -1,15 +1,17 @@
 -- The set of live numbers, beside the places.
 use Rattle.ob_codec.proofs.AtPlace.{at_place}
 use Rattle.std.proofs.Common.{◌≡◌, ℕ, zero, suc, ◌+◌, ◌-◌, ◌<◌, ◌≤◌, Bool, true, false, List, [], ◌∷◌, length, Option, Some, None, refl, ap, ◌∙◌, arith, cond, get_or, replicate, set, inl, inr}
-use Rattle.std.specs.Prelude.{is_none, is_some, slice_get}
+use Rattle.std.specs.Prelude.{count_by, is_none, is_some, slice_get}
 use Rattle.std.specs.List.{position_or_len}
 use Rattle.std.proofs.lemmas.Bool.{cases_eq, cases_lt}
 use Rattle.std.proofs.lemmas.Bool.Decides.{nat_tests}
 use Rattle.std.proofs.lemmas.List.{get_or-replicate, get_or_past, length-replicate}
-use Rattle.least.specs.Taken.{is_taken, least_free}
+use Rattle.std.proofs.lemmas.List.Sums.{count_by-le-length, sum_by-cons}
+use Rattle.least.specs.Taken.{is_taken, least_free, taken_count}
+use Rattle.least.proofs.CountLemmas.{none_first, one_first}
 use Rattle.ob_store.specs.declared.numbers.Numbers.{Numbers}
 use Rattle.ob_store.specs.Numbers.{AreNumbers}
-use Rattle.ob_store.specs.Processes.{next_number}
+use Rattle.ob_store.specs.Processes.{IsFromOne, next_number}
 
 same_least : (taken : List Bool) (numbers : List (Option ℕ))
     → ((k : ℕ) → is_taken taken k ≡ is_some (get_or numbers k None)) → least_free taken ≡ position_or_len is_none numbers
@@ -80,3 +82,50 @@ read_all places taken so_far k = elim (cases_lt (k + 1) (length places)) [
   | inl lt ↦ so_far.before k lt
   | inr le ↦ grind (arith, nat_tests, get_or_past, so_far.long)
 ]
+
+-- as many numbers are taken as live ones stand behind place 0
+none_ahead : (numbers : List (Option ℕ)) → count_by is_some (None ∷ numbers) ≡ count_by is_some numbers
+none_ahead numbers = search (arith, sum_by-cons)
+
+some_ahead : (x : ℕ) (numbers : List (Option ℕ)) → count_by is_some (Some x ∷ numbers) ≡ suc (count_by is_some numbers)
+some_ahead x numbers = search (arith, sum_by-cons)
+
+same_count : (taken : List Bool) (numbers : List (Option ℕ))
+    → ((k : ℕ) → is_taken taken k ≡ is_some (get_or numbers k None)) → taken_count taken ≡ count_by is_some numbers
+same_count [] [] same = refl
+same_count [] (None ∷ numbers) same = omega (arith, none_ahead numbers, same_count [] numbers (λ k. same (suc k)))
+same_count [] (Some x ∷ numbers) same = absurd (let h = same 0 in cc h)
+same_count (false ∷ taken) [] same = omega (arith, none_first taken, same_count taken [] (λ k. same (suc k)))
+same_count (true ∷ taken) [] same = absurd (let h = same 0 in cc h)
+same_count (false ∷ taken) (None ∷ numbers) same =
+    omega (arith, none_first taken, none_ahead numbers, same_count taken numbers (λ k. same (suc k)))
+same_count (false ∷ taken) (Some x ∷ numbers) same = absurd (let h = same 0 in cc h)
+same_count (true ∷ taken) (None ∷ numbers) same = absurd (let h = same 0 in cc h)
+same_count (true ∷ taken) (Some x ∷ numbers) same =
+    omega (arith, one_first taken, some_ahead x numbers, same_count taken numbers (λ k. same (suc k)))
+
+counted_behind : (taken : List Bool) (numbers : List (Option ℕ)) → IsFromOne numbers
+    → ((k : ℕ) → is_taken taken k ≡ is_some (get_or numbers (k + 1) None))
+    → taken_count taken ≡ count_by is_some numbers
+counted_behind taken [] one same = absurd (omega (arith, one.not_empty))
+counted_behind taken (Some x ∷ numbers) one same = absurd (let h = one.none in cc h)
+counted_behind taken (None ∷ numbers) one same = omega (
+  arith,
+  none_ahead numbers,
+  same_count taken numbers
+      (λ k. same k ∙ ap (λ n. is_some (get_or (None ∷ numbers) n None)) (next k)),
+)
+  where
+    next : (k : ℕ) → k + 1 ≡ suc k
+    next k = omega arith
+
+few_behind : (numbers : List (Option ℕ)) → IsFromOne numbers → count_by is_some numbers < length numbers
+few_behind [] one = absurd (omega (arith, one.not_empty))
+few_behind (Some x ∷ numbers) one = absurd (let h = one.none in cc h)
+few_behind (None ∷ numbers) one = omega (arith, none_ahead numbers, count_by-le-length is_some numbers)
+
+pub live_counted : (m : Numbers) → AreNumbers m → taken_count m.taken ≡ count_by is_some m.places.items
+live_counted m are = counted_behind m.taken m.places.items are.from_one are.taken
+
+pub live_few : (m : Numbers) → AreNumbers m → count_by is_some m.places.items < length m.places.items
+live_few m are = few_behind m.places.items are.from_one

@@ -33,3 +33,4 @@ pub mod SavedNames
 pub mod SavedObjects
 pub mod SavedStore
 pub mod Giving
+pub mod Room

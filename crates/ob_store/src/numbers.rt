@@ -4,6 +4,7 @@ ghost use Rattle.std.specs.Prelude.{false, length, slice_get, slice_index_or, sl
 ghost use Rattle.ob_codec.specs.Reading.{Gives};
 ghost use Rattle.ob_store.specs.Numbers.{AreNumbers, HasRoom};
 ghost use Rattle.ob_store.specs.Processes.{next_number};
+ghost use Rattle.ob_store.specs.Room.{used_up};
 ghost use Rattle.ob_store.specs.SavedProcesses.{are_numbers, numbers_at};
 ghost use Rattle.ob_tables.specs.Tables.{put};
 
@@ -92,6 +93,20 @@ impl Numbers {
             self.places[at]
         } else {
             None
+        }
+    }
+
+    /// How many numbers are used up: those that were given or, where they come back, those of live ones.
+    #[tactic(auto, using(crate::proofs::NumberLaws::live_counted, crate::proofs::NumberLaws::live_few))]
+    pub(crate) fn used_up(&self, reuse: bool) -> u32
+        requires { AreNumbers self.now }
+        ensures value { result ≡ used_up reuse self.now.places.items }
+        ensures within { result < length self.now.places.items }
+    {
+        if reuse {
+            self.taken.taken_count() as u32
+        } else {
+            self.places.len() as u32 - 1
         }
     }
 

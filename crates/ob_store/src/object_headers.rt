@@ -5,7 +5,7 @@ ghost use Rattle.std.specs.Option.{option_map};
 ghost use Rattle.least.specs.From.{IsLeastFrom};
 ghost use Rattle.least.specs.Padded.{padded};
 ghost use Rattle.ob_waits.specs.Form.{slot_due, slot_owner};
-ghost use Rattle.ob_arena.specs.Slots.{is_vacant_at, least_vacant};
+ghost use Rattle.ob_arena.specs.Slots.{is_vacant_at, least_vacant, vacant_count};
 ghost use Rattle.ob_waits.specs.CountedBodies.{body_of, slot_room, without_block};
 ghost use Rattle.ob_waits.specs.Waits.{is_abandoned, is_signaled, with_acquired};
 ghost use Rattle.ob_store.specs.Closing.{is_closing_in};
@@ -231,6 +231,13 @@ impl ObjectHeaders {
         ensures vacant { IfSome result (λ slot. is_vacant_at (vacancy self.now) slot ≡ true) }
     {
         self.arena.least_vacant()
+    }
+
+    /// How many slots are vacant.
+    pub(crate) fn vacant_count(&self) -> u32
+        ensures { result ≡ vacant_count (vacancy self.now) }
+    {
+        self.arena.vacant_count()
     }
 
     /// The object in a slot.

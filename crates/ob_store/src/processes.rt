@@ -8,6 +8,7 @@ ghost use Rattle.ob_tables.specs.declared.entry.Entry.{Entry};
 ghost use Rattle.ob_store.specs.declared.limits.Limits.{Limits};
 ghost use Rattle.ob_store.specs.Kept.{ProcessesKept};
 ghost use Rattle.ob_store.specs.Processes.{ProcessesState, is_of, next_number, no_processes, with_process, with_thread};
+ghost use Rattle.ob_store.specs.Room.{used_up};
 ghost use Rattle.ob_store.specs.SavedProcesses.{ListsFit, are_of_live, are_populated, is_populated, processes_at};
 ghost use Rattle.ob_store.specs.SavedProcesses.{processes_text};
 
@@ -150,6 +151,22 @@ impl Processes {
         ensures { result ≡ next_number reuse self.now.threads }
     {
         self.threads.next(reuse)
+    }
+
+    /// How many process numbers are used up, where numbers come back and where they don't.
+    pub(crate) fn used_processes(&self, reuse: bool) -> u32
+        ensures value { result ≡ used_up reuse self.now.processes }
+        ensures within { result < length self.now.processes }
+    {
+        self.processes.used_up(reuse)
+    }
+
+    /// How many thread numbers are used up.
+    pub(crate) fn used_threads(&self, reuse: bool) -> u32
+        ensures value { result ≡ used_up reuse self.now.threads }
+        ensures within { result < length self.now.threads }
+    {
+        self.threads.used_up(reuse)
     }
 
     /// The session of a live process.

@@ -16,6 +16,7 @@ use Rattle.ob_waits.specs.declared.wait.State.TheVariants.{Pending, Answered}
 use Rattle.ob_waits.specs.declared.wait.Wait.{Wait}
 use Rattle.ob_store.specs.Dues.{dues_of}
 use Rattle.ob_store.specs.Kept.{IsThere}
+use Rattle.ob_store.specs.declared.room.Room.{Room}
 use Rattle.ob_store.specs.State.{State}
 use Rattle.ob_store.specs.Walking.{is_object_at, is_value_of}
 use Rattle.ob_manager.specs.declared.object_state.ObjectState.{ObjectState}
@@ -23,6 +24,7 @@ use Rattle.ob_manager.specs.declared.object_state.ObjectState.TheVariants.{Event
 use Rattle.obman_c.specs.declared.looking.HandleEntry.{HandleEntry}
 use Rattle.obman_c.specs.declared.looking.PendingWait.{PendingWait}
 use Rattle.obman_c.specs.declared.looking.CObjectState.{CObjectState}
+use Rattle.obman_c.specs.declared.looking.CRoom.{CRoom}
 use Rattle.obman_c.specs.declared.values.Object.{Object}
 use Rattle.obman_c.specs.Telling.{object_of}
 
@@ -62,6 +64,15 @@ c_object_state_of (Timer signaled due) = record ended {
   has_due = is_some due;
 }
 c_object_state_of Ended = ended
+
+-- what can still come
+abbrev pub c_room : Room → CRoom
+c_room room = record {
+  slots = room.slots;
+  processes = room.processes;
+  threads = room.threads;
+  handles = room.handles;
+}
 
 -- at its place and 0, or 6, and the place as it was
 abbrev pub TellsState : Option ObjectState → ℕ → CObjectState → CObjectState → Type 0

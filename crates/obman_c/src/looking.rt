@@ -4,13 +4,14 @@ ghost use Rattle.std.specs.Prelude.{◌≡◌, ◌+◌, ◌++◌, ◌≤◌, Non
 ghost use Rattle.std.specs.Option.{option_map};
 ghost use Rattle.least.specs.From.{IsLeastFrom};
 ghost use Rattle.ob_waits.specs.Waits.{number_of};
+ghost use Rattle.ob_store.specs.Room.{room_of};
 ghost use Rattle.ob_store.specs.Waiting.{wait_name, wait_number};
 ghost use Rattle.ob_store.specs.Walking.{is_process, is_thread_of};
 ghost use Rattle.ob_manager.specs.Handles.{entry_of};
 ghost use Rattle.ob_manager.specs.States.{state_of};
 ghost use Rattle.obman_c.specs.Asking.{number_at};
 ghost use Rattle.obman_c.specs.Looking.{FindsEntry, IdsTell, NextHandle, NextObject, SessionTold, TellsState};
-ghost use Rattle.obman_c.specs.Looking.{WaitTells, handle_entry, or_zero, pending_wait, places, c_object_state_of};
+ghost use Rattle.obman_c.specs.Looking.{WaitTells, c_room, handle_entry, or_zero, pending_wait, places, c_object_state_of};
 ghost use Rattle.obman_c.specs.Pinning.{id_at};
 ghost use Rattle.obman_c.specs.Telling.{object_of};
 
@@ -72,6 +73,20 @@ pub struct PendingWait {
     pub all: bool,
     /// Whether its time is ever up.
     pub has_deadline: bool,
+}
+
+/// What can still come (`om_room`).
+#[repr(C)]
+#[derive(Clone, Copy)]
+pub struct CRoom {
+    /// Vacant slots.
+    pub slots: u32,
+    /// Process numbers.
+    pub processes: u32,
+    /// Thread numbers.
+    pub threads: u32,
+    /// Handles of one process.
+    pub handles: u32,
 }
 
 /// The state of an object that has ended.
@@ -188,6 +203,23 @@ pub extern "C" fn om_handle(
         }
         Err(fault) => code_of(fault),
     }
+}
+
+/// [`Manager::room`](ob_manager::Manager::room): 0.
+#[unsafe(no_mangle)]
+pub extern "C" fn om_room_of(owner: &mut ManagerOwner, process: u32, room: &mut CRoom) -> u32
+    ensures answer { result ≡ 0 }
+    ensures left { room.new ≡ c_room (room_of owner.old.value.manager.state process) }
+    ensures same { owner.new.value ≡ owner.old.value }
+{
+    let left = owner.lend().manager.room(process);
+    *room = CRoom {
+        slots: left.slots,
+        processes: left.processes,
+        threads: left.threads,
+        handles: left.handles,
+    };
+    SUCCESS
 }
 
 /// [`Manager::next_process`](ob_manager::Manager::next_process): 0 for none.

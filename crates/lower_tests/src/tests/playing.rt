@@ -5,6 +5,7 @@ ghost use Rattle.ob_store.specs.State.{shape_of};
 use super::filling::{Fill, fills_all};
 use super::pinning::holds_what_is_pinned;
 use super::reuse::goes_round;
+use super::room::{Left, leaves};
 use super::saved::{Edit, all_go_on, goes_on_edited, tries_edits};
 use super::{FIRST, same_at};
 use call_tables::{
@@ -56,6 +57,8 @@ pub(super) enum Scene<'a> {
     Holds,
     /// Threads and processes that begin and end, again and again.
     GoesRound,
+    /// Calls in two parts, and what can still come behind them.
+    Leaves(&'a [Left<'a>], &'a [Left<'a>]),
     /// Calls, and others that are made once more over what is saved between them.
     Saves(&'a [Line<'a>], &'a [Line<'a>]),
     /// Calls, and others that are made over what is saved between them, with an edit of it.
@@ -75,6 +78,10 @@ fn plays(
         Scene::Fills(fills, table) => fills_all(rt, alloc, manager, fills, table),
         Scene::Holds => holds_what_is_pinned(rt, alloc, manager),
         Scene::GoesRound => goes_round(rt, alloc, manager),
+        Scene::Leaves(first, behind) => {
+            leaves(rt, alloc, manager, first)?;
+            leaves(rt, alloc, manager, behind)
+        }
         Scene::Saves(first, calls) => all_go_on(rt, alloc, manager, first, calls),
         Scene::SavesEdited(first, edit, calls) => {
             goes_on_edited(rt, alloc, manager, first, edit, calls)

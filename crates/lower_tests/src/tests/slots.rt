@@ -28,20 +28,24 @@ fn slots_are_given_taken_and_retired(rt: HostRuntime) -> Result<(), Fail> {
 fn give_take_and_retire(rt: &impl Abort, arena: &mut Arena<u32>)
     requires { arena.old ≡ vacant_slots 3 }
 {
+    same(rt, arena.vacant_count(), 3);
     same(rt, arena.least_vacant(), Some(0));
     holds(rt, arena.is_vacant(0));
     holds(rt, arena.is_vacant(2));
     holds(rt, !arena.is_vacant(3));
     arena.put(0, 70);
     arena.put(2, 72);
+    same(rt, arena.vacant_count(), 1);
     same(rt, arena.least_vacant(), Some(1));
     holds(rt, arena.is_vacant(1));
     arena.retire(1);
+    same(rt, arena.vacant_count(), 0);
     holds(rt, arena.least_vacant().is_none());
     holds(rt, !arena.is_vacant(1));
     same(rt, *arena.get(2), 72);
     *arena.get_mut(0) += 1;
     same(rt, arena.take(0), 71);
+    same(rt, arena.vacant_count(), 1);
     same(rt, arena.least_vacant(), Some(0));
 }
 
