@@ -6,7 +6,7 @@
 
 #define MUST(holds) must(holds, __LINE__)
 #define ROOM(process, slots, processes, threads, handles) \
-    must(is_left(&m, process, (om_room){slots, processes, threads, handles}), __LINE__)
+    must(is_left(&m, process, (om_room){slots, processes, threads, handles, 0}), __LINE__)
 
 enum { SLOTS = 3, PROCESSES = 4, THREADS = 70, HANDLES = 4 };
 
@@ -18,7 +18,7 @@ static void must(bool holds, int line) {
 }
 
 static bool is_left(om_manager *m, uint32_t process, om_room due) {
-    om_room room = {77, 77, 77, 77};
+    om_room room = {77, 77, 77, 77, 77};
     return om_room_of(m, process, &room) == OM_SUCCESS && room.slots == due.slots && room.processes == due.processes
            && room.threads == due.threads && room.handles == due.handles;
 }
@@ -122,10 +122,35 @@ static void slots(bool reuse) {
     om_free(m);
 }
 
+/* A wait that becomes pending has a number for good, unless numbers come back. */
+static void waits(bool reuse) {
+    om_limits limits = OM_LIMITS_DEFAULT;
+    om_manager m;
+    om_making plain = {0};
+    om_member a;
+    om_opening made;
+    om_room room;
+    uint32_t answer;
+
+    limits.waits = 3;
+    MUST((reuse ? om_new_reusing : om_new)(&limits, &m) == OM_SUCCESS && om_spawn(&m, 1, &a) == OM_SUCCESS);
+    MUST(om_create_event(&m, a.thread, &plain, "", 0, false, false, &made) == OM_SUCCESS);
+    for (uint32_t left = 3; left > 0; left--) {
+        MUST(om_room_of(&m, a.process, &room) == OM_SUCCESS && room.waits == (reuse ? UINT32_MAX : left));
+        MUST(om_wait(&m, a.thread, false, OM_INFINITE, &made.handle, 1, &answer) == OM_ERROR_IO_PENDING);
+        MUST(om_expire(&m, answer) == OM_SUCCESS && om_wait_result(&m, answer, &answer) == OM_SUCCESS);
+    }
+    MUST(om_room_of(&m, a.process, &room) == OM_SUCCESS && room.waits == (reuse ? UINT32_MAX : 0));
+    answer = om_wait(&m, a.thread, false, OM_INFINITE, &made.handle, 1, &answer);
+    MUST(answer == (reuse ? OM_ERROR_IO_PENDING : OM_ERROR_NO_SYSTEM_RESOURCES));
+    om_free(m);
+}
+
 int main(void) {
     for (int reuse = 0; reuse < 2; reuse++) {
         numbers(reuse);
         slots(reuse);
+        waits(reuse);
     }
     puts("all held");
     return 0;

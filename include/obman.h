@@ -90,7 +90,8 @@ extern "C" {
 #define OM_ERROR_NO_SYSTEM_RESOURCES 1450u
 #define OM_ERROR_NOT_ENOUGH_QUOTA 1816u
 
-/* Access rights. Each kind of object has the standard rights and SYNCHRONIZE; events, semaphores and timers have MODIFY_STATE too. */
+/* Access rights. Each kind of object has the standard rights and SYNCHRONIZE; events, semaphores and timers have MODIFY_STATE too,
+ * and an object of the host's own what its type has, of sixteen specific rights. */
 #define OM_MODIFY_STATE 0x00000002u
 #define OM_DELETE 0x00010000u
 #define OM_READ_CONTROL 0x00020000u
@@ -101,6 +102,7 @@ extern "C" {
 #define OM_SEMAPHORE_ALL_ACCESS 0x001F0003u
 #define OM_MUTEX_ALL_ACCESS 0x001F0001u
 #define OM_TIMER_ALL_ACCESS 0x001F0003u
+#define OM_HOST_ALL_ACCESS 0x001FFFFFu
 
 /* Handle flags, and options of om_duplicate. */
 #define OM_HANDLE_FLAG_INHERIT 1u
@@ -115,12 +117,14 @@ extern "C" {
 #define OM_WAIT_ABANDONED_0 128u
 #define OM_WAIT_TIMEOUT 258u
 
-/* Kinds of objects, with what om_state says of one that has ended; and what became of a slot. */
+/* Kinds of objects, with what om_state says of one that has ended, and of one of the host's own of a type from 0 to 255; and what
+ * became of a slot. */
 #define OM_EVENT 0u
 #define OM_MUTEX 1u
 #define OM_SEMAPHORE 2u
 #define OM_TIMER 3u
 #define OM_ENDED 4u
+#define OM_HOST(type) (256u + (type))
 #define OM_FREED 0u
 #define OM_RETIRED 1u
 #define OM_HELD 2u
@@ -135,8 +139,8 @@ extern "C" {
 #define OM_LIMITS_DEFAULT {64u, 64u, 256u, 1024u, 1000000u, 1073741823u, 4294967295u, 2147483647u}
 
 /* The greatest limits, for a host that runs for long over om_new: numbers of processes, threads and pending waits are given once there, and
- * two guests that wake each other in turn use up a million waits in less than a second. A manager reserves 17 MiB from the start, nearly
- * all for its slots, which come back, and uses some 9 of them while it is new. */
+ * two guests that wake each other in turn use up a million waits in less than a second. A manager reserves 14 MiB from the start, nearly
+ * all for its slots, which come back, and uses some 2.3 of them while it is new. */
 #define OM_LIMITS_MOST {65536u, 65536u, 65536u, 16384u, 4294967295u, 1073741823u, 4294967295u, 2147483647u}
 
 /* The Win32 name of a number that a call answers, or of WAIT_TIMEOUT, for logs; "unknown" for another. */
@@ -194,6 +198,7 @@ typedef struct om_room {
     uint32_t processes;     /* process numbers */
     uint32_t threads;       /* thread numbers, of which each new process takes one */
     uint32_t handles;       /* handles of one process */
+    uint32_t waits;         /* wait numbers; 0xFFFFFFFF where they come back, which is without end */
 } om_room;
 
 /* A process and a thread of it. */
@@ -265,7 +270,7 @@ static inline om_making om_both(om_making one, om_making other) {
 
 /* What an object was created as. */
 typedef struct om_description {
-    uint32_t kind;    /* OM_EVENT, OM_MUTEX, OM_SEMAPHORE or OM_TIMER */
+    uint32_t kind;    /* OM_EVENT, OM_MUTEX, OM_SEMAPHORE or OM_TIMER; an object of the host's own is told as an event */
     uint32_t max;     /* of a semaphore; else 0 */
     uint32_t grant;   /* the rights that opens may get */
     bool manual;      /* an event that is reset by hand, or a timer that stays signaled */
@@ -273,7 +278,7 @@ typedef struct om_description {
 
 /* What never changes of an object, as a reader reads it without the manager's lock. */
 typedef struct om_descriptor {
-    uint32_t kind;    /* OM_EVENT, OM_MUTEX, OM_SEMAPHORE or OM_TIMER */
+    uint32_t kind;    /* OM_EVENT, OM_MUTEX, OM_SEMAPHORE or OM_TIMER; an object of the host's own is told as an event */
     uint32_t max;     /* of a semaphore; else 0 */
     bool manual;      /* an event that is reset by hand, or a timer that stays signaled */
 } om_descriptor;
@@ -281,11 +286,11 @@ typedef struct om_descriptor {
 /* What state an object is in. What its kind hasn't is 0. */
 typedef struct om_object_state {
     uint64_t due;     /* the moment at which a timer is due, in units of 100 ns, with has_due */
-    uint32_t kind;    /* OM_EVENT, OM_MUTEX, OM_SEMAPHORE or OM_TIMER; OM_ENDED where no handle and no pending wait refers to it */
+    uint32_t kind;    /* OM_EVENT, OM_MUTEX, OM_SEMAPHORE, OM_TIMER or OM_HOST(type); OM_ENDED where no handle and no pending wait refers to it */
     uint32_t count;   /* of a semaphore; of a mutex how often its owner owns it */
     uint32_t max;     /* of a semaphore */
     uint32_t owner;   /* the thread that owns a mutex, or 0 */
-    bool signaled;    /* an event is set, a mutex isn't owned, a semaphore has a count, a timer's moment has come */
+    bool signaled;    /* an event or a host's object is set, a mutex isn't owned, a semaphore has a count, a timer's moment has come */
     bool abandoned;   /* the last owner of a mutex ended, and nobody has acquired it since */
     bool has_due;     /* a timer is set for a moment to come */
 } om_object_state;
@@ -297,6 +302,16 @@ typedef struct om_entry {
     uint32_t access;   /* the rights that it grants */
     uint32_t flags;    /* OM_HANDLE_FLAG_INHERIT and OM_HANDLE_FLAG_PROTECT_FROM_CLOSE */
 } om_entry;
+
+/* What a handle names, with what the host keeps there. */
+typedef struct om_handle_info {
+    uint64_t data;     /* of om_set_object_data, or 0 */
+    om_object object;
+    uint32_t kind;     /* OM_EVENT, OM_MUTEX, OM_SEMAPHORE, OM_TIMER or OM_HOST(type) */
+    uint32_t access;   /* the rights that the handle grants */
+    uint32_t flags;    /* OM_HANDLE_FLAG_INHERIT and OM_HANDLE_FLAG_PROTECT_FROM_CLOSE */
+    uint32_t reserved; /* 0 */
+} om_handle_info;
 
 /* What became of a slot. */
 typedef struct om_reaping {
@@ -360,8 +375,7 @@ void om_free(om_manager m);
 uint32_t om_limits_of(om_manager *m, om_limits *limits);
 
 /* What can still come, for a host that warns or makes room before calls are refused: slots, numbers, and handles of a process (of 0, or another
- * that isn't live: none). It takes constant time. Numbers of waits rise one by one, so those above the last that om_wait told are left, up to
- * the limit; by om_new_reusing they have no end. It answers always 0. */
+ * that isn't live: none). It takes constant time, and answers always 0. */
 uint32_t om_room_of(om_manager *m, uint32_t process, om_room *room);
 
 /* ---- Processes and threads ---- */
@@ -416,6 +430,14 @@ uint32_t om_create_semaphore(om_manager *m, uint32_t thread, const om_making *ma
 uint32_t om_create_timer(om_manager *m, uint32_t thread, const om_making *making, const char *name, size_t length, bool manual,
                          om_opening *opening);
 
+/* A new object of the host's own, such as a thread, a process, a file or a section, and a handle to it, as om_create_event makes an
+ * event. `object_type` is the host's to choose. `manual`: it stays signaled until the host resets it, as a thread or a process that
+ * has ended does; else the wait that it satisfies resets it. `signaled`: it begins so. What the type has of rights the host says by
+ * making->access and making->grant (OM_HOST_ALL_ACCESS, unless they are given). Guests wait for it, close, duplicate and inherit it
+ * as they do events; by name it is opened by om_open_host alone, with its type, and no call for another kind takes it. */
+uint32_t om_create_host(om_manager *m, uint32_t thread, const om_making *making, const char *name, size_t length,
+                        uint8_t object_type, bool manual, bool signaled, om_opening *opening);
+
 /* A handle to the event of a name (OpenEvent).
  * For the name OM_ERROR_FILENAME_EXCED_RANGE, OM_ERROR_INVALID_PARAMETER or OM_ERROR_PATH_NOT_FOUND; OM_ERROR_FILE_NOT_FOUND
  * where no object has it; OM_ERROR_INVALID_HANDLE where an object of another kind has it; OM_ERROR_ACCESS_DENIED for no rights,
@@ -435,6 +457,10 @@ uint32_t om_open_semaphore(om_manager *m, uint32_t thread, uint32_t access, bool
 /* The same of a timer (OpenWaitableTimer). */
 uint32_t om_open_timer(om_manager *m, uint32_t thread, uint32_t access, bool inherit, const char *name, size_t length,
                        om_opening *opening);
+
+/* The same of an object of the host's own: OM_ERROR_INVALID_HANDLE too where it has another type. */
+uint32_t om_open_host(om_manager *m, uint32_t thread, uint8_t object_type, uint32_t access, bool inherit, const char *name,
+                      size_t length, om_opening *opening);
 
 /* ---- Handles ---- */
 
@@ -466,7 +492,7 @@ uint32_t om_set_handle_flags(om_manager *m, uint32_t thread, uint32_t handle, ui
  * OM_ERROR_INVALID_PARAMETER where no such process lives; OM_ERROR_INVALID_HANDLE where there is no such handle. */
 uint32_t om_resolve(om_manager *m, uint32_t process, uint32_t handle, om_object *object);
 
-/* ---- Events, semaphores and mutexes ---- */
+/* ---- Events, semaphores, mutexes, and objects of the host's own ---- */
 
 /* Sets an event, and lets who waits for it go on (SetEvent).
  * OM_ERROR_INVALID_HANDLE where there is no such handle or it is no event's; OM_ERROR_ACCESS_DENIED without OM_MODIFY_STATE. */
@@ -484,6 +510,11 @@ uint32_t om_release_semaphore(om_manager *m, uint32_t thread, uint32_t handle, i
  * OM_ERROR_INVALID_HANDLE where there is no such handle or it is no mutex's; OM_ERROR_NOT_OWNER where the thread doesn't own
  * it. */
 uint32_t om_release_mutex(om_manager *m, uint32_t thread, uint32_t handle);
+
+/* Signals an object of the host's own, and lets who waits for it go on; or resets it. The host names the object itself, so it needs no
+ * handle, no thread and no right.
+ * OM_ERROR_INVALID_HANDLE where no object of the host's own has this slot and generation, or it has ended. */
+uint32_t om_signal_host(om_manager *m, uint32_t slot, uint32_t generation, bool signaled);
 
 /* ---- Timers, and the time ---- */
 
@@ -552,6 +583,25 @@ uint32_t om_state(om_manager *m, uint32_t slot, uint32_t generation, om_object_s
  * OM_ERROR_INVALID_PARAMETER where no such process lives; OM_ERROR_INVALID_HANDLE where there is no such handle. */
 uint32_t om_handle(om_manager *m, uint32_t process, uint32_t handle, om_entry *entry);
 
+/* What a handle of a process names in one call, as for a call of the host's own on it (WriteFile, GetExitCodeThread): with its kind, and
+ * with what the host keeps at the object.
+ * OM_ERROR_INVALID_PARAMETER where no such process lives; OM_ERROR_INVALID_HANDLE where there is no such handle. */
+uint32_t om_query_handle(om_manager *m, uint32_t process, uint32_t handle, om_handle_info *info);
+
+/* What the host keeps at each object, thread and process: 64 bits of its own, such as a pointer or a place of a table, at which the
+ * library never looks. They are 0 at first. To set one takes memory up to the highest slot or number at which something is kept.
+ * OM_ERROR_INVALID_HANDLE where there is no such object, or its slot was taken back; OM_ERROR_INVALID_PARAMETER where no such thread or
+ * process lives; OM_ERROR_NOT_ENOUGH_MEMORY. */
+uint32_t om_set_object_data(om_manager *m, uint32_t slot, uint32_t generation, uint64_t data);
+uint32_t om_set_thread_data(om_manager *m, uint32_t thread, uint64_t data);
+uint32_t om_set_process_data(om_manager *m, uint32_t process, uint64_t data);
+
+/* What was kept there, or 0. It may still be asked of an object that om_take_ended has just told, and of a thread or process that has
+ * ended: until something is kept at a later object of the slot, and until the number comes back. */
+uint64_t om_object_data(om_manager *m, uint32_t slot, uint32_t generation);
+uint64_t om_thread_data(om_manager *m, uint32_t thread);
+uint64_t om_process_data(om_manager *m, uint32_t process);
+
 /* Walks over all that there is: begin with 0, go on with what was found (behind a slot: with the next one).
  * OM_ERROR_NO_MORE_ITEMS behind the last. */
 uint32_t om_next_object(om_manager *m, uint32_t from, om_object *object);                          /* from a slot on */
@@ -596,13 +646,13 @@ uint32_t om_record(om_manager *m, bool on);
 
 /* Takes what was recorded since, whole lines only, as many as `capacity` bytes at `lines` have room for: *written says how many bytes. A
  * call is the line of a script that asks for it (docs/FORMATS.md), with its answer behind # in the next line, so that obman replays it
- * under the same limits, with --reuse where numbers come back; where a line can't make the call again it stands behind # too. Repeat it
- * until *written is 0.
+ * under the same limits, with --reuse where numbers come back, and with --more where objects of the host's own are asked for; where a
+ * line can't make the call again it stands behind # too. Repeat it until *written is 0.
  * OM_ERROR_INSUFFICIENT_BUFFER where lines are left and not one fits, with 0 in *written: OM_LINE_MOST bytes are always enough. */
 uint32_t om_take_record(om_manager *m, char *lines, size_t capacity, size_t *written);
 
-/* Answers a whole script over a manager of its own, whose numbers are given once, as the program obman does: script and answers are as
- * its format has them.
+/* Answers a whole script over a manager of its own, whose numbers are given once, as the program obman does without --more: script and
+ * answers are as its format has them.
  * `capacity` bytes stand at `answers`; *written says how many the answers have.
  * OM_ERROR_INVALID_PARAMETER for a limit out of its range; OM_ERROR_NOT_ENOUGH_MEMORY; OM_ERROR_INSUFFICIENT_BUFFER where the
  * answers don't fit: then *written says how many bytes they need, and nothing else is written. */

@@ -297,7 +297,7 @@ private:
 // The limits of OM_LIMITS_DEFAULT and OM_LIMITS_MOST.
 template <class> struct known_limits {
     static constexpr om_limits default_limits = OM_LIMITS_DEFAULT;
-    // The greatest, for a host that runs for long where numbers are given once: 17 MiB are reserved.
+    // The greatest, for a host that runs for long where numbers are given once: 14 MiB are reserved.
     static constexpr om_limits most_limits = OM_LIMITS_MOST;
 };
 #if __cplusplus < 201703L
@@ -363,6 +363,10 @@ public:
     result<om_opening> create_timer(std::uint32_t thread, om_making making, text name, bool manual) noexcept {
         return create(om_create_timer, thread, making, name, manual);
     }
+    result<om_opening> create_host(std::uint32_t thread, om_making making, text name, std::uint8_t object_type, bool manual,
+                                   bool signaled) noexcept {
+        return create(om_create_host, thread, making, name, object_type, manual, signaled);
+    }
     result<om_opening> open_event(std::uint32_t thread, std::uint32_t access, bool inherit, text name) noexcept {
         return with<om_opening>(om_open_event, thread, access, inherit, name.data(), name.size());
     }
@@ -374,6 +378,9 @@ public:
     }
     result<om_opening> open_timer(std::uint32_t thread, std::uint32_t access, bool inherit, text name) noexcept {
         return with<om_opening>(om_open_timer, thread, access, inherit, name.data(), name.size());
+    }
+    result<om_opening> open_host(std::uint32_t thread, std::uint8_t object_type, std::uint32_t access, bool inherit, text name) noexcept {
+        return with<om_opening>(om_open_host, thread, object_type, access, inherit, name.data(), name.size());
     }
 
     // Handles.
@@ -390,7 +397,7 @@ public:
     }
     result<om_object> resolve(std::uint32_t process, std::uint32_t handle) const noexcept { return with<om_object>(om_resolve, process, handle); }
 
-    // Events, semaphores, mutexes and timers, and the time.
+    // Events, semaphores, mutexes, timers and objects of the host's own, and the time.
     status_only set_event(std::uint32_t thread, std::uint32_t handle) noexcept { return status_only(om_set_event(&m_, thread, handle)); }
     status_only reset_event(std::uint32_t thread, std::uint32_t handle) noexcept { return status_only(om_reset_event(&m_, thread, handle)); }
     result<std::uint32_t> release_semaphore(std::uint32_t thread, std::uint32_t handle, std::int32_t count) noexcept {
@@ -398,6 +405,9 @@ public:
     }
     status_only release_mutex(std::uint32_t thread, std::uint32_t handle) noexcept {
         return status_only(om_release_mutex(&m_, thread, handle));
+    }
+    status_only signal_host(om_object object, bool signaled) noexcept {
+        return status_only(om_signal_host(&m_, object.slot, object.generation, signaled));
     }
     status_only set_timer(std::uint32_t thread, std::uint32_t handle, std::int64_t due) noexcept {
         return status_only(om_set_timer(&m_, thread, handle, due));
@@ -429,6 +439,16 @@ public:
     // What can still come; handles only of a process that is named.
     om_room room(std::uint32_t process = 0) const noexcept { return *with<om_room>(om_room_of, process); }
 
+    // What the host keeps at objects, threads and processes.
+    status_only set_data(om_object o, std::uint64_t data) noexcept { return status_only(om_set_object_data(&m_, o.slot, o.generation, data)); }
+    status_only set_thread_data(std::uint32_t thread, std::uint64_t data) noexcept { return status_only(om_set_thread_data(&m_, thread, data)); }
+    status_only set_process_data(std::uint32_t process, std::uint64_t data) noexcept {
+        return status_only(om_set_process_data(&m_, process, data));
+    }
+    std::uint64_t data(om_object o) const noexcept { return om_object_data(&m_, o.slot, o.generation); }
+    std::uint64_t thread_data(std::uint32_t thread) const noexcept { return om_thread_data(&m_, thread); }
+    std::uint64_t process_data(std::uint32_t process) const noexcept { return om_process_data(&m_, process); }
+
     // What there is, for debuggers and monitors. The walks go by rising number, handle or slot, and names in the order of the directory.
     walk<std::uint32_t, steps::process> processes() const noexcept { return walk<std::uint32_t, steps::process>(m_); }
     walk<std::uint32_t, steps::thread> threads(std::uint32_t process) const noexcept { return walk<std::uint32_t, steps::thread>(m_, process); }
@@ -437,6 +457,9 @@ public:
     walk<named, steps::name> names() const noexcept { return walk<named, steps::name>(m_); }
     result<om_object_state> state(om_object o) const noexcept { return with<om_object_state>(om_state, o.slot, o.generation); }
     result<om_entry> handle(std::uint32_t process, std::uint32_t handle) const noexcept { return with<om_entry>(om_handle, process, handle); }
+    result<om_handle_info> query_handle(std::uint32_t process, std::uint32_t handle) const noexcept {
+        return with<om_handle_info>(om_query_handle, process, handle);
+    }
     result<om_object> next_object(std::uint32_t from) const noexcept { return with<om_object>(om_next_object, from); }
     result<om_entry> next_handle(std::uint32_t process, std::uint32_t after) const noexcept {
         return with<om_entry>(om_next_handle, process, after);

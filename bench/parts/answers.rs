@@ -43,6 +43,8 @@ pub enum Kind {
     Event,
     Mutex,
     Semaphore,
+    /// Of the host's own, of a type.
+    Host(u8),
 }
 
 impl Kind {
@@ -50,6 +52,16 @@ impl Kind {
         match self {
             Kind::Event | Kind::Semaphore => 0x001F_0003,
             Kind::Mutex => 0x001F_0001,
+            Kind::Host(_) => 0x001F_FFFF,
+        }
+    }
+
+    /// As a descriptor has it: a host's object is told as an event.
+    pub fn code(self) -> u64 {
+        match self {
+            Kind::Event | Kind::Host(_) => 0,
+            Kind::Mutex => 1,
+            Kind::Semaphore => 2,
         }
     }
 }

@@ -2,7 +2,7 @@
 
 use super::answers::{Mode, Reply, Timeout};
 use super::manager::Manager;
-use super::words::{Words, either, id, kind, labelled, mask, number, signed};
+use super::words::{Words, either, id, kind, labelled, mask, number, object_type, signed};
 
 const CLOSE_SOURCE: u32 = 1;
 const SAME_ACCESS: u32 = 2;
@@ -39,6 +39,19 @@ pub fn reply_to(manager: &mut Manager, line: &[u8]) -> Option<Reply> {
             let initial = signed(words.next()?)?;
             let max = signed(words.next()?)?;
             Some(manager.create_semaphore(thread, &words.make()?, initial, max))
+        }
+        b"host" => {
+            let thread = words.labelled(b't')?;
+            let of = object_type(words.next()?)?;
+            let manual = either(b"auto", b"manual", words.next()?)?;
+            let signaled = either(b"clear", b"set", words.next()?)?;
+            Some(manager.create_host(thread, &words.make()?, of, manual, signaled))
+        }
+        b"signal" => {
+            let id = id(words.next()?)?;
+            let signaled = either(b"clear", b"set", words.next()?)?;
+            words.end()?;
+            Some(manager.signal_host(id, signaled))
         }
         b"open" => {
             let thread = words.labelled(b't')?;

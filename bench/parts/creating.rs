@@ -80,6 +80,19 @@ impl Manager {
         self.create(process, make, New { kind: Kind::Semaphore, manual: false, max: max as u32, body })
     }
 
+    pub(crate) fn host(
+        &mut self,
+        thread: u32,
+        make: &Make<'_>,
+        of: u8,
+        manual: bool,
+        signaled: bool,
+    ) -> Result<Reply, Fault> {
+        let process = self.caller(thread)?;
+        let body = Body { signals: u32::from(signaled), ..Body::default() };
+        self.create(process, make, New { kind: Kind::Host(of), manual, max: 0, body })
+    }
+
     fn create(&mut self, process: u32, make: &Make<'_>, new: New) -> Result<Reply, Fault> {
         if !within(make.grant.unwrap_or(new.kind.all_access()), new.kind.all_access()) {
             return Err(Fault::Parameter);

@@ -89,6 +89,24 @@ impl Manager {
         Ok(Reply::Done)
     }
 
+    pub(crate) fn host_signaled(&mut self, id: Id, is_set: bool) -> Result<Reply, Fault> {
+        let slot = self.objects.slots.get(id.slot as usize).ok_or(Fault::Handle)?;
+        if !slot.has_object() || slot.generation != id.generation {
+            return Err(Fault::Handle);
+        }
+        let Object { kind: Kind::Host(_), body, handles, blocks, .. } = self.objects.object(id.slot) else {
+            return Err(Fault::Handle);
+        };
+        if *handles == 0 && *blocks == 0 {
+            return Err(Fault::Handle);
+        }
+        body.signals = u32::from(is_set);
+        if is_set && *blocks > 0 {
+            self.waits.settle_after(&mut self.objects, id.slot);
+        }
+        Ok(Reply::Done)
+    }
+
     pub(crate) fn posted(&mut self, thread: u32, handle: u32, more: i32) -> Result<Reply, Fault> {
         let process = self.caller(thread)?;
         if more <= 0 {

@@ -69,6 +69,14 @@ impl Manager {
         self.semaphore(thread, make, initial, max).into()
     }
 
+    pub fn create_host(&mut self, thread: u32, make: &Make<'_>, of: u8, manual: bool, signaled: bool) -> Reply {
+        self.host(thread, make, of, manual, signaled).into()
+    }
+
+    pub fn signal_host(&mut self, id: Id, signaled: bool) -> Reply {
+        self.host_signaled(id, signaled).into()
+    }
+
     pub fn open_named(&mut self, thread: u32, kind: Kind, mask: u32, inherit: bool, text: &[u8]) -> Reply {
         self.opened(thread, kind, mask, inherit, text).into()
     }

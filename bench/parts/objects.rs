@@ -74,7 +74,7 @@ impl Objects {
     /// A free slot is live, with the descriptor of its object.
     #[inline(always)]
     pub fn publish(&mut self, slot: usize, kind: Kind, manual: bool, max: u32) {
-        let descr = kind as u64 | u64::from(manual) << 2 | u64::from(max) << 3;
+        let descr = kind.code() | u64::from(manual) << 2 | u64::from(max) << 3;
         self.words[self.slots.len() + slot].store(descr, SeqCst);
         self.words[slot].fetch_or(LIVE, SeqCst);
         self.slots[slot].phase = Phase::Live;

@@ -43,9 +43,13 @@ fn put_entry(out: &mut Vec<u8>, entry: &Option<Entry>) {
 
 fn put_body(out: &mut Vec<u8>, object: &Object) {
     let Body { signals, owner, recursion, abandoned } = object.body;
-    out.push(object.kind as u8);
+    out.push(if let Kind::Host(_) = object.kind { 4 } else { object.kind.code() as u8 });
     match object.kind {
         Kind::Event => out.extend([u8::from(object.manual), signals as u8]),
+        Kind::Host(of) => {
+            put(out, u32::from(of));
+            out.extend([u8::from(object.manual), signals as u8]);
+        }
         Kind::Mutex => {
             put_option(out, (owner != 0).then_some(owner));
             put(out, recursion);
@@ -59,7 +63,7 @@ fn put_body(out: &mut Vec<u8>, object: &Object) {
 }
 
 fn descr_of(object: &Object) -> u64 {
-    object.kind as u64 | u64::from(object.manual) << 2 | u64::from(object.max) << 3
+    object.kind.code() | u64::from(object.manual) << 2 | u64::from(object.max) << 3
 }
 
 pub fn save(m: &Manager) -> Vec<u8> {

@@ -128,12 +128,17 @@ pub fn mask(word: &[u8]) -> Option<u32> {
     Some(value)
 }
 
+/// `k` and a type of a host's objects.
+pub fn object_type(word: &[u8]) -> Option<u8> {
+    labelled(b'k', word)?.try_into().ok()
+}
+
 pub fn kind(word: &[u8]) -> Option<Kind> {
     match word {
         b"event" => Some(Kind::Event),
         b"mutex" => Some(Kind::Mutex),
         b"semaphore" => Some(Kind::Semaphore),
-        _ => None,
+        _ => Some(Kind::Host(object_type(word)?)),
     }
 }
 

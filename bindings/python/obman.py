@@ -21,7 +21,7 @@ import ctypes.util
 import os
 import pathlib
 from collections import namedtuple
-from ctypes import POINTER, Structure, c_bool, c_char, c_int32, c_int64, c_size_t, c_uint32, c_uint64, c_void_p
+from ctypes import POINTER, Structure, c_bool, c_char, c_int32, c_int64, c_size_t, c_uint8, c_uint32, c_uint64, c_void_p
 
 # Which release this module is of, 1.2.0: two decimal digits each for the second number and the third.
 VERSION = 10200
@@ -34,12 +34,14 @@ WRITE_OWNER = 0x80000
 SYNCHRONIZE = 0x100000
 EVENT_ALL_ACCESS = SEMAPHORE_ALL_ACCESS = TIMER_ALL_ACCESS = 0x1F0003
 MUTEX_ALL_ACCESS = 0x1F0001
+HOST_ALL_ACCESS = 0x1FFFFF
 HANDLE_FLAG_INHERIT, HANDLE_FLAG_PROTECT_FROM_CLOSE = 1, 2
 DUPLICATE_CLOSE_SOURCE, DUPLICATE_SAME_ACCESS = 1, 2
 INFINITE = 0xFFFFFFFF
 MAXIMUM_WAIT_OBJECTS = 64
 WAIT_OBJECT_0, WAIT_ABANDONED_0, WAIT_TIMEOUT = 0, 128, 258
 EVENT, MUTEX, SEMAPHORE, TIMER, ENDED = range(5)
+HOST = 256  # and the type of an object of the host's own
 FREED, RETIRED, HELD = range(3)
 NAME_MOST = 260
 LINE_MOST = 4098
@@ -94,7 +96,7 @@ _Reader = _struct("om_reader", at=c_void_p)
 Limits = _struct(
     "om_limits", slots=c_uint32, processes=c_uint32, threads=c_uint32, handles=c_uint32, waits=c_uint32, max_pins=c_uint32, max_gen=c_uint32, max_recursion=c_uint32
 )
-Room = _struct("om_room", slots=c_uint32, processes=c_uint32, threads=c_uint32, handles=c_uint32)
+Room = _struct("om_room", slots=c_uint32, processes=c_uint32, threads=c_uint32, handles=c_uint32, waits=c_uint32)
 Member = _struct("om_member", process=c_uint32, thread=c_uint32)
 Object = _struct("om_object", slot=c_uint32, generation=c_uint32)
 Opening = _struct("om_opening", handle=c_uint32, object=Object)
@@ -103,6 +105,9 @@ Description = _struct("om_description", kind=c_uint32, max=c_uint32, grant=c_uin
 Descriptor = _struct("om_descriptor", kind=c_uint32, max=c_uint32, manual=c_bool)
 State = _struct("om_object_state", due=c_uint64, kind=c_uint32, count=c_uint32, max=c_uint32, owner=c_uint32, signaled=c_bool, abandoned=c_bool, has_due=c_bool)
 Entry = _struct("om_entry", object=Object, handle=c_uint32, access=c_uint32, flags=c_uint32)
+HandleInfo = _struct(
+    "om_handle_info", data=c_uint64, object=Object, kind=c_uint32, access=c_uint32, flags=c_uint32, reserved=c_uint32
+)
 Reaping = _struct("om_reaping", object=Object, outcome=c_uint32, pins=c_uint32)
 References = _struct("om_references", waits=c_uint64, handles=c_uint32, hold=c_uint32)
 Answer = _struct("om_answer", wait=c_uint32, thread=c_uint32, code=c_uint32)
@@ -133,7 +138,7 @@ def default_limits(**others):
 
 def most_limits(**others):
     """The greatest limits, with some others, for a host that runs for long without `reuse`: numbers of processes, threads and pending waits
-    are given once then. A manager reserves 17 MiB from the start, nearly all for its slots."""
+    are given once then. A manager reserves 14 MiB from the start, nearly all for its slots."""
     return _limits(LIMITS_MOST, others)
 
 
@@ -157,10 +162,12 @@ FUNCTIONS = {
     "om_create_mutex": (_U, [*_NAMED, _B, POINTER(Opening)]),
     "om_create_semaphore": (_U, [*_NAMED, c_int32, c_int32, POINTER(Opening)]),
     "om_create_timer": (_U, [*_NAMED, _B, POINTER(Opening)]),
+    "om_create_host": (_U, [*_NAMED, c_uint8, _B, _B, POINTER(Opening)]),
     "om_open_event": (_U, _OPENS),
     "om_open_mutex": (_U, _OPENS),
     "om_open_semaphore": (_U, _OPENS),
     "om_open_timer": (_U, _OPENS),
+    "om_open_host": (_U, [_M, _U, c_uint8, _U, _B, ctypes.c_char_p, _Z, POINTER(Opening)]),
     "om_duplicate": (_U, [_M, _U, _U, _U, _U, _U, _B, _U, POINTER(Opening)]),
     "om_close": (_U, [_M, _U, _U]),
     "om_handle_flags": (_U, [_M, _U, _U, POINTER(_U)]),
@@ -170,6 +177,7 @@ FUNCTIONS = {
     "om_reset_event": (_U, [_M, _U, _U]),
     "om_release_semaphore": (_U, [_M, _U, _U, c_int32, POINTER(_U)]),
     "om_release_mutex": (_U, [_M, _U, _U]),
+    "om_signal_host": (_U, [_M, _U, _U, _B]),
     "om_set_timer": (_U, [_M, _U, _U, c_int64]),
     "om_cancel_timer": (_U, [_M, _U, _U]),
     "om_tick": (_U, [_M, c_uint64]),
@@ -181,6 +189,13 @@ FUNCTIONS = {
     "om_card": (_U, [_M, _U, _U, POINTER(Description)]),
     "om_state": (_U, [_M, _U, _U, POINTER(State)]),
     "om_handle": (_U, [_M, _U, _U, POINTER(Entry)]),
+    "om_query_handle": (_U, [_M, _U, _U, POINTER(HandleInfo)]),
+    "om_set_object_data": (_U, [_M, _U, _U, c_uint64]),
+    "om_set_thread_data": (_U, [_M, _U, c_uint64]),
+    "om_set_process_data": (_U, [_M, _U, c_uint64]),
+    "om_object_data": (c_uint64, [_M, _U, _U]),
+    "om_thread_data": (c_uint64, [_M, _U]),
+    "om_process_data": (c_uint64, [_M, _U]),
     "om_next_object": (_U, [_M, _U, POINTER(Object)]),
     "om_next_handle": (_U, [_M, _U, _U, POINTER(Entry)]),
     "om_session_of": (_U, [_M, _U, POINTER(_U)]),
@@ -379,6 +394,10 @@ class Manager(_Owner):
         """A new timer, as create_event."""
         return self._created(_c.om_create_timer, thread, name, inherit, access, grant, manual)
 
+    def create_host(self, thread, object_type, name=None, manual=False, signaled=False, inherit=False, access=None, grant=None):
+        """A new object of the host's own, such as a thread or a file, of a type from 0 to 255 that the host chooses, as create_event."""
+        return self._created(_c.om_create_host, thread, name, inherit, access, grant, object_type, manual, signaled)
+
     def _opened(self, call, thread, access, inherit, name):
         text = _bytes(name)
         return _told(Opening, call, self._at, thread, access, inherit, text, len(text))
@@ -398,6 +417,11 @@ class Manager(_Owner):
     def open_timer(self, thread, access, inherit, name):
         """A handle to the timer of a name."""
         return self._opened(_c.om_open_timer, thread, access, inherit, name)
+
+    def open_host(self, thread, object_type, access, inherit, name):
+        """A handle to the object of the host's own of a type and a name."""
+        text = _bytes(name)
+        return _told(Opening, _c.om_open_host, self._at, thread, object_type, access, inherit, text, len(text))
 
     def duplicate(self, thread, source, handle, target, access=0, inherit=False, options=0):
         """A handle of the process `target` to what a handle of the process `source` names."""
@@ -438,6 +462,10 @@ class Manager(_Owner):
     def release_mutex(self, thread, handle):
         """Releases a mutex once."""
         _done(_c.om_release_mutex(self._at, thread, handle))
+
+    def signal_host(self, object, signaled=True):
+        """Signals an object of the host's own, or resets it."""
+        _done(_c.om_signal_host(self._at, object.slot, object.generation, signaled))
 
     def set_timer(self, thread, handle, due):
         """Sets a timer for a moment in units of 100 ns, or below 0 for so many units from now."""
@@ -514,6 +542,34 @@ class Manager(_Owner):
     def state(self, o):
         """What state an object is in."""
         return _told(State, _c.om_state, self._at, o.slot, o.generation)
+
+    def query_handle(self, process, handle):
+        """What a handle of a process names, with what the host keeps there."""
+        return _told(HandleInfo, _c.om_query_handle, self._at, process, handle)
+
+    def set_object_data(self, o, data):
+        """Keeps 64 bits of the host's own at an object."""
+        _done(_c.om_set_object_data(self._at, o.slot, o.generation, data))
+
+    def set_thread_data(self, thread, data):
+        """Keeps 64 bits of the host's own at a thread."""
+        _done(_c.om_set_thread_data(self._at, thread, data))
+
+    def set_process_data(self, process, data):
+        """Keeps 64 bits of the host's own at a process."""
+        _done(_c.om_set_process_data(self._at, process, data))
+
+    def object_data(self, o):
+        """What the host keeps at an object, or 0."""
+        return _c.om_object_data(self._at, o.slot, o.generation)
+
+    def thread_data(self, thread):
+        """What the host keeps at a thread, or 0."""
+        return _c.om_thread_data(self._at, thread)
+
+    def process_data(self, process):
+        """What the host keeps at a process, or 0."""
+        return _c.om_process_data(self._at, process)
 
     def counts(self, o):
         """What refers to an object."""

@@ -120,12 +120,9 @@ static void look_round(void) {
     do {
         om_take_answered(&m, answers, 4, &count);
         for (size_t i = 0; i < count; i++) {
-            for (guest *g = guests; g < guests + GUESTS; g++) {
-                if (g->thread == answers[i].thread) {
-                    g->code = answers[i].code;
-                    g->is_asleep = false;
-                }
-            }
+            guest *g = &guests[om_thread_data(&m, answers[i].thread)];
+            g->code = answers[i].code;
+            g->is_asleep = false;
         }
     } while (count == 4);
     om_take_ended(&m, ended, SLOTS, &count);
@@ -165,6 +162,7 @@ int main(void) {
     must(om_create_event(&m, host.thread, &inherited, "", 0, false, false, &never) == OM_SUCCESS, "no event");
     for (int i = 0; i < GUESTS; i++) {
         must(om_child(&m, host.thread, true, &member) == OM_SUCCESS, "no guest");
+        must(om_set_thread_data(&m, member.thread, (uint64_t)i) == OM_SUCCESS, "no place for a guest's number");
         guests[i] = (guest){.step = steps[i], .process = member.process, .thread = member.thread};
     }
     while (turn()) {

@@ -21,6 +21,8 @@
    - All processes are in the user's one session, which stands for the first session of the script other than 0. In
      another session a name that isn't global has `#` and the session's number behind it; in session 0 it has `Global\`
      before it.
+   - An object of the host's own is played by an event, whatever its type is; a change of it by its handle is answered
+     here, as of an object of another kind.
    - A grant is an access list for everyone, with the same rights for the owner.
    - A worker has a thread of its own beside the script's, and ends when the last of those does. */
 #include "ask.h"
@@ -234,7 +236,7 @@ static void say_session(line *call, uint32_t session) {
         sprintf(call->name, "%s#%" PRIu32, old, session);
 }
 
-static void print_opened(const desk *at, process *in, const char *how) {
+static void print_opened(const desk *at, process *in, const char *how, bool is_host) {
     uint32_t slot;
 
     if (at->error) {
@@ -242,7 +244,7 @@ static void print_opened(const desk *at, process *in, const char *how) {
         return;
     }
     if (strcmp(how, "new") == 0)
-        slot = new_slot(at->path);
+        all.objects[slot = new_slot(at->path)].is_host = is_host;
     else
         slot = slot_named(at->path);
     print_made(place(in, at->made, slot), how, slot);
@@ -253,7 +255,7 @@ static void open_or_create(thread *by, line *call) {
 
     say_session(call, home_of(by)->session);
     at = ask_thread(by, call);
-    print_opened(at, home_of(by), call->verb == VERB_OPEN ? "opened" : at->existed ? "exists" : "new");
+    print_opened(at, home_of(by), call->verb == VERB_OPEN ? "opened" : at->existed ? "exists" : "new", call->is_host);
 }
 
 /* Gives a worker a handle to a process for a while. */
@@ -363,11 +365,30 @@ static void wait_for(thread *by, const line *call) {
     printf("pending w%" PRIu32 "\n", by->wait);
 }
 
+/* Whether a thread would change a host's object, which Windows refuses of an object that is no event, mutex and so on. */
+static bool is_foreign(thread *by, const line *call) {
+    const entry *named = entry_of(home_of(by), call->handles[0]);
+
+    switch (call->verb) {
+    case VERB_SET:
+    case VERB_RESET:
+    case VERB_RELEASE:
+    case VERB_UNLOCK:
+    case VERB_SETTIMER:
+    case VERB_CANCEL: return named && named->slot != UNKNOWN && all.objects[named->slot].is_host;
+    default: return false;
+    }
+}
+
 static void play_call(line *call) {
     thread *by = caller(call->thread);
 
     if (!by) {
         puts("?");
+        return;
+    }
+    if (is_foreign(by, call)) {
+        printf("error %lu\n", (unsigned long)ERROR_INVALID_HANDLE);
         return;
     }
     switch (call->verb) {
@@ -477,6 +498,18 @@ static void count(const line *call) {
         puts("?");
 }
 
+/* The host's own call, about an object that an event plays. */
+static void signal_host(const line *call) {
+    object *of = call->slot < SLOTS ? &all.objects[call->slot] : NULL;
+    HANDLE real;
+    process *by = of && of->is_there && of->generation == call->generation ? holder_of(call->slot, &real) : NULL;
+
+    if (by)
+        print_done(ask_clerk(by, call->initial ? VERB_SET : VERB_RESET, 0, real), "done");
+    else
+        puts("?");
+}
+
 static void reap(const line *call) {
     object *of = call->slot < LEAST_SLOTS ? &all.objects[call->slot] : NULL;
 
@@ -509,6 +542,7 @@ static void play(line *call) {
     case VERB_EXIT: play_exit(call); break;
     case VERB_COUNT: count(call); break;
     case VERB_REAP: reap(call); break;
+    case VERB_SIGNAL: signal_host(call); break;
     case VERB_PIN:
     case VERB_UNPIN:
         all.has_pinned = true;

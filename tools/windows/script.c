@@ -11,8 +11,9 @@ typedef struct {
 
 /* The letters: t, p, w a thread, a process and a wait; s and S a slot and an Id; h and H one handle and any number;
    n, g, f a session, the mask of flags and the flags; i a count; V and D a moment and a due time; M rights; a, e, o, c
-   the words for a reset, for an event's and a mutex's first state, and for what a child inherits; k a kind; O the
-   options of a create; N those of an open; X what a duplicate has behind its thread; W a wait's mode and timeout. */
+   the words for a reset, for an event's and a mutex's first state, and for what a child inherits; k a kind, or y,
+   the type of a host's object; O the options of a create; N those of an open; X what a duplicate has behind its thread;
+   W a wait's mode and timeout. */
 static const struct {
     const char *word;
     enum verb verb;
@@ -26,6 +27,7 @@ static const struct {
     {"mutex", VERB_CREATE, KIND_MUTEX, "toO"},
     {"semaphore", VERB_CREATE, KIND_SEMAPHORE, "tiiO"},
     {"timer", VERB_CREATE, KIND_TIMER, "taO"},
+    {"host", VERB_CREATE, KIND_EVENT, "tyaeO"},
     {"open", VERB_OPEN, KIND_EVENT, "tkMN"},
     {"dup", VERB_DUP, KIND_EVENT, "tX"},
     {"close", VERB_CLOSE, KIND_EVENT, "th"},
@@ -35,6 +37,7 @@ static const struct {
     {"reset", VERB_RESET, KIND_EVENT, "th"},
     {"release", VERB_RELEASE, KIND_EVENT, "thi"},
     {"unlock", VERB_UNLOCK, KIND_EVENT, "th"},
+    {"signal", VERB_SIGNAL, KIND_EVENT, "Se"},
     {"settimer", VERB_SETTIMER, KIND_EVENT, "thD"},
     {"cancel", VERB_CANCEL, KIND_EVENT, "th"},
     {"tick", VERB_TICK, KIND_EVENT, "V"},
@@ -207,14 +210,16 @@ static bool mode(rest *of, line *read) {
     return true;
 }
 
+static bool type(rest *of, line *read) { return numbered(of, 'k', &read->type) && read->type < 256; }
+
 static bool kind(rest *of, line *read) {
     static const char *const words[] = {"event", "mutex", "semaphore", "timer"};
     int at = 0;
 
     while (at < 4 && !take(of, words[at]))
         at++;
-    read->kind = (enum kind)at;
-    return at < 4;
+    read->kind = (enum kind)(at % 4);
+    return at < 4 || type(of, read);
 }
 
 static bool part(char letter, rest *of, line *read) {
@@ -237,6 +242,7 @@ static bool part(char letter, rest *of, line *read) {
     case 'e': return either(of, "clear", "set", &read->initial);
     case 'o': return either(of, "free", "owned", &read->initial);
     case 'c': return either(of, "plain", "inherit", &read->inherit);
+    case 'y': return read->is_host = type(of, read);
     case 'k': return kind(of, read);
     case 'O': return options(of, read);
     case 'N': read->inherit = take(of, "inherit"); return name(of, read);

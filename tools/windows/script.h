@@ -33,6 +33,7 @@ enum verb {
     VERB_EXIT,
     VERB_COUNT,
     VERB_REAP,
+    VERB_SIGNAL,
     VERB_DIR,
     VERB_PIN,
     VERB_UNPIN,
@@ -46,6 +47,8 @@ typedef struct {
     enum kind kind;
     uint32_t thread, process, wait, slot, generation;
     uint32_t session;
+    uint32_t type; /* of a host's object, which is played by an event */
+    bool is_host; /* that such an object is made */
     bool inherit; /* the option, and that a child inherits */
     bool manual; /* a manual reset */
     bool initial; /* set or owned from the first */

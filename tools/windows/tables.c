@@ -72,6 +72,7 @@ uint32_t new_slot(uint64_t path) {
         stop("too many objects");
     all.objects[at].is_there = true;
     all.objects[at].is_due = false;
+    all.objects[at].is_host = false;
     all.objects[at].generation++;
     all.objects[at].path = path;
     return at;

@@ -35,7 +35,7 @@ typedef struct {
 } thread;
 
 typedef struct {
-    bool is_there, is_due;
+    bool is_there, is_due, is_host;
     uint32_t generation, handles;
     uint64_t path; /* 0 without a name */
     uint64_t due;

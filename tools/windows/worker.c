@@ -291,6 +291,8 @@ static void serve(desk *at) {
     case VERB_EXPIRE: told(at, QueueUserAPC(end_wait, this.threads[at->asked.thread], 0) != 0); break;
     case VERB_FLAGS: told(at, GetHandleInformation(at->real[0], &at->value)); break;
     case VERB_COUNT: count_handles(at); break;
+    case VERB_SET: told(at, SetEvent(at->real[0])); break;
+    case VERB_RESET: told(at, ResetEvent(at->real[0])); break;
     default: fire(at); break;
     }
 }

@@ -38,6 +38,8 @@ pub use sys::om_object as Object;
 pub use sys::om_opening as Opening;
 /// A handle with what it names, its rights and its flags.
 pub use sys::om_entry as Entry;
+/// What a handle names, with what the host keeps there.
+pub use sys::om_handle_info as HandleInfo;
 /// What can still come before a call is refused for want of it: vacant slots, numbers of processes and of threads, handles of a process.
 pub use sys::om_room as Room;
 /// What refers to an object: handles, places of pending waits, and a hold of 1 where there is neither.
@@ -55,6 +57,8 @@ pub const MUTEX_ALL_ACCESS: u32 = 0x001F_0001;
 pub const SEMAPHORE_ALL_ACCESS: u32 = 0x001F_0003;
 /// All rights of a timer.
 pub const TIMER_ALL_ACCESS: u32 = 0x001F_0003;
+/// All rights of an object of the host's own.
+pub const HOST_ALL_ACCESS: u32 = 0x001F_FFFF;
 /// Children inherit the handle.
 pub const HANDLE_FLAG_INHERIT: u32 = 1;
 /// The handle is closed with its process alone.
@@ -176,7 +180,7 @@ pub struct Limits {
 
 impl Limits {
     /// The greatest limits, for a host that runs for long over [`Manager::new`]: numbers of processes, threads and pending waits are given
-    /// once there. A manager reserves 17 MiB from the start, nearly all for its slots.
+    /// once there. A manager reserves 14 MiB from the start, nearly all for its slots.
     pub const MOST: Limits = Limits {
         slots: 65_536,
         processes: 65_536,
@@ -348,7 +352,7 @@ fn reaped(r: sys::om_reaping) -> Reaped {
     Reaped { object: r.object, slot }
 }
 
-/// A kind of objects.
+/// A kind of objects, as which one was created. One of the host's own is told as an event.
 #[derive(Clone, Copy, Debug, PartialEq, Eq, Hash)]
 pub enum Kind {
     /// An event; one that is `manual` stays set until it is reset.
@@ -423,6 +427,13 @@ pub enum State {
         /// The moment for which it is set, in units of 100 ns.
         due: Option<u64>,
     },
+    /// An object of the host's own.
+    Host {
+        /// Its type, which the host chose.
+        object_type: u8,
+        /// Whether it is signaled.
+        signaled: bool,
+    },
     /// No handle and no pending wait refers to it any more.
     Ended,
 }
@@ -433,7 +444,8 @@ fn state_of(s: sys::om_object_state) -> State {
         1 => State::Mutex { owner: (s.owner > 0).then_some(s.owner), recursion: s.count, abandoned: s.abandoned },
         2 => State::Semaphore { count: s.count, max: s.max },
         3 => State::Timer { signaled: s.signaled, due: s.has_due.then_some(s.due) },
-        _ => State::Ended,
+        4 => State::Ended,
+        kind => State::Host { object_type: (kind - 256) as u8, signaled: s.signaled },
     }
 }
 
@@ -581,6 +593,22 @@ impl Manager {
         created(|o| unsafe { sys::om_create_timer(&mut self.m, thread, &making, name.as_ptr(), name.len(), manual, o) })
     }
 
+    /// A new object of the host's own, such as a thread or a file, of a type that the host chooses, or the one that has the name. One
+    /// that is `manual` stays signaled until the host resets it. `of` says what its type has of rights.
+    pub fn create_host(
+        &mut self,
+        thread: u32,
+        of: &Create<'_>,
+        object_type: u8,
+        manual: bool,
+        signaled: bool,
+    ) -> Result<Created, Error> {
+        let (making, name) = of.making();
+        created(|o| unsafe {
+            sys::om_create_host(&mut self.m, thread, &making, name.as_ptr(), name.len(), object_type, manual, signaled, o)
+        })
+    }
+
     /// A handle to the event of a name.
     pub fn open_event(&mut self, thread: u32, access: u32, inherit: bool, name: impl AsRef<[u8]>) -> Result<Opening, Error> {
         let name = name.as_ref();
@@ -603,6 +631,21 @@ impl Manager {
     pub fn open_timer(&mut self, thread: u32, access: u32, inherit: bool, name: impl AsRef<[u8]>) -> Result<Opening, Error> {
         let name = name.as_ref();
         told(|o| unsafe { sys::om_open_timer(&mut self.m, thread, access, inherit, name.as_ptr(), name.len(), o) })
+    }
+
+    /// A handle to the object of the host's own of a type and a name.
+    pub fn open_host(
+        &mut self,
+        thread: u32,
+        object_type: u8,
+        access: u32,
+        inherit: bool,
+        name: impl AsRef<[u8]>,
+    ) -> Result<Opening, Error> {
+        let name = name.as_ref();
+        told(|o| unsafe {
+            sys::om_open_host(&mut self.m, thread, object_type, access, inherit, name.as_ptr(), name.len(), o)
+        })
     }
 
     /// A handle of the process `target` to what a handle of the process `source` names.
@@ -658,6 +701,11 @@ impl Manager {
     /// Releases a mutex once.
     pub fn release_mutex(&mut self, thread: u32, handle: u32) -> Result<(), Error> {
         done(unsafe { sys::om_release_mutex(&mut self.m, thread, handle) })
+    }
+
+    /// Signals an object of the host's own, or resets it.
+    pub fn signal_host(&mut self, object: Object, signaled: bool) -> Result<(), Error> {
+        done(unsafe { sys::om_signal_host(&mut self.m, object.slot, object.generation, signaled) })
     }
 
     /// Sets a timer for a moment in units of 100 ns, or below 0 for so many units from now.
@@ -770,6 +818,41 @@ impl Manager {
     /// A handle of a process, with its rights and flags.
     pub fn handle(&mut self, process: u32, handle: u32) -> Result<Entry, Error> {
         told(|entry| unsafe { sys::om_handle(&mut self.m, process, handle, entry) })
+    }
+
+    /// What a handle of a process names, with what the host keeps there.
+    pub fn query_handle(&mut self, process: u32, handle: u32) -> Result<HandleInfo, Error> {
+        told(|info| unsafe { sys::om_query_handle(&mut self.m, process, handle, info) })
+    }
+
+    /// Keeps 64 bits of the host's own at an object.
+    pub fn set_object_data(&mut self, o: Object, data: u64) -> Result<(), Error> {
+        done(unsafe { sys::om_set_object_data(&mut self.m, o.slot, o.generation, data) })
+    }
+
+    /// Keeps 64 bits of the host's own at a thread.
+    pub fn set_thread_data(&mut self, thread: u32, data: u64) -> Result<(), Error> {
+        done(unsafe { sys::om_set_thread_data(&mut self.m, thread, data) })
+    }
+
+    /// Keeps 64 bits of the host's own at a process.
+    pub fn set_process_data(&mut self, process: u32, data: u64) -> Result<(), Error> {
+        done(unsafe { sys::om_set_process_data(&mut self.m, process, data) })
+    }
+
+    /// What the host keeps at an object, or 0.
+    pub fn object_data(&mut self, o: Object) -> u64 {
+        unsafe { sys::om_object_data(&mut self.m, o.slot, o.generation) }
+    }
+
+    /// What the host keeps at a thread, or 0.
+    pub fn thread_data(&mut self, thread: u32) -> u64 {
+        unsafe { sys::om_thread_data(&mut self.m, thread) }
+    }
+
+    /// What the host keeps at a process, or 0.
+    pub fn process_data(&mut self, process: u32) -> u64 {
+        unsafe { sys::om_process_data(&mut self.m, process) }
     }
 
     /// The session of a process.

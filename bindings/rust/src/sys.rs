@@ -31,7 +31,7 @@ structs! {
     om_limits {
         slots: u32, processes: u32, threads: u32, handles: u32, waits: u32, max_pins: u32, max_gen: u32, max_recursion: u32,
     }
-    om_room { slots: u32, processes: u32, threads: u32, handles: u32, }
+    om_room { slots: u32, processes: u32, threads: u32, handles: u32, waits: u32, }
     om_member { process: u32, thread: u32, }
     om_object { slot: u32, generation: u32, }
     om_opening { handle: u32, object: om_object, }
@@ -42,6 +42,7 @@ structs! {
         due: u64, kind: u32, count: u32, max: u32, owner: u32, signaled: bool, abandoned: bool, has_due: bool,
     }
     om_entry { object: om_object, handle: u32, access: u32, flags: u32, }
+    om_handle_info { data: u64, object: om_object, kind: u32, access: u32, flags: u32, reserved: u32, }
     om_reaping { object: om_object, outcome: u32, pins: u32, }
     om_references { waits: u64, handles: u32, hold: u32, }
     om_answer { wait: u32, thread: u32, code: u32, }
@@ -98,6 +99,17 @@ extern "C" {
         manual: bool,
         opening: *mut om_opening,
     ) -> u32;
+    pub fn om_create_host(
+        m: *mut om_manager,
+        thread: u32,
+        making: *const om_making,
+        name: *const u8,
+        length: usize,
+        object_type: u8,
+        manual: bool,
+        signaled: bool,
+        opening: *mut om_opening,
+    ) -> u32;
     pub fn om_open_event(
         m: *mut om_manager,
         thread: u32,
@@ -134,6 +146,16 @@ extern "C" {
         length: usize,
         opening: *mut om_opening,
     ) -> u32;
+    pub fn om_open_host(
+        m: *mut om_manager,
+        thread: u32,
+        object_type: u8,
+        access: u32,
+        inherit: bool,
+        name: *const u8,
+        length: usize,
+        opening: *mut om_opening,
+    ) -> u32;
     pub fn om_duplicate(
         m: *mut om_manager,
         thread: u32,
@@ -159,6 +181,7 @@ extern "C" {
         previous: *mut u32,
     ) -> u32;
     pub fn om_release_mutex(m: *mut om_manager, thread: u32, handle: u32) -> u32;
+    pub fn om_signal_host(m: *mut om_manager, slot: u32, generation: u32, signaled: bool) -> u32;
     pub fn om_set_timer(m: *mut om_manager, thread: u32, handle: u32, due: i64) -> u32;
     pub fn om_cancel_timer(m: *mut om_manager, thread: u32, handle: u32) -> u32;
     pub fn om_tick(m: *mut om_manager, now: u64) -> u32;
@@ -183,6 +206,13 @@ extern "C" {
     pub fn om_card(m: *mut om_manager, slot: u32, generation: u32, description: *mut om_description) -> u32;
     pub fn om_state(m: *mut om_manager, slot: u32, generation: u32, state: *mut om_object_state) -> u32;
     pub fn om_handle(m: *mut om_manager, process: u32, handle: u32, entry: *mut om_entry) -> u32;
+    pub fn om_query_handle(m: *mut om_manager, process: u32, handle: u32, info: *mut om_handle_info) -> u32;
+    pub fn om_set_object_data(m: *mut om_manager, slot: u32, generation: u32, data: u64) -> u32;
+    pub fn om_set_thread_data(m: *mut om_manager, thread: u32, data: u64) -> u32;
+    pub fn om_set_process_data(m: *mut om_manager, process: u32, data: u64) -> u32;
+    pub fn om_object_data(m: *mut om_manager, slot: u32, generation: u32) -> u64;
+    pub fn om_thread_data(m: *mut om_manager, thread: u32) -> u64;
+    pub fn om_process_data(m: *mut om_manager, process: u32) -> u64;
     pub fn om_next_object(m: *mut om_manager, from: u32, object: *mut om_object) -> u32;
     pub fn om_next_handle(m: *mut om_manager, process: u32, after: u32, entry: *mut om_entry) -> u32;
     pub fn om_session_of(m: *mut om_manager, process: u32, session: *mut u32) -> u32;

@@ -56,7 +56,7 @@ fn numbers_come_back() -> Result<(), Error> {
     for _ in 0..1_000 {
         let second = m.thread(first.process)?;
         assert_eq!((second, m.thread(first.process)), (2, Err(Error::NoSystemResources)));
-        assert_eq!(m.room(0), Room { slots: 63, processes: 63, threads: 0, handles: 0 });
+        assert_eq!(m.room(0), Room { slots: 63, processes: 63, threads: 0, handles: 0, waits: u32::MAX });
         let wait = pending(m.wait(second, false, INFINITE, &[event.handle])?);
         assert_eq!((wait, m.wait_of(second), m.is_pending(second)), (second, Some(second), true));
         m.set_event(first.thread, event.handle)?;
@@ -64,7 +64,7 @@ fn numbers_come_back() -> Result<(), Error> {
         m.end_thread(second)?;
     }
     let mut again = Manager::load(&m.save()?)?;
-    assert_eq!(again.room(first.process), Room { slots: 63, processes: 63, threads: 1, handles: 1_023 });
+    assert_eq!(again.room(first.process), Room { slots: 63, processes: 63, threads: 1, handles: 1_023, waits: u32::MAX });
     assert_eq!((again.thread(first.process)?, again.limits()), (2, m.limits()));
     Ok(())
 }

@@ -1,9 +1,9 @@
 //! Rows of calls, among them each that takes memory.
 use crate::ask::{Line, PLAIN};
 use ob_manager::CallOf::{
-    Child, CloseHandle, Counts, Duplicate, Expire, MakeEvent, MakeMutex, MakeSemaphore, MakeTimer,
-    OpenNamed, Reap, ReleaseMutex, ReleaseSemaphore, SetEvent, SetTimer, Spawn, StartThread, Tick,
-    WaitFor, WaitResult,
+    Child, CloseHandle, Counts, Duplicate, Expire, MakeEvent, MakeHost, MakeMutex, MakeSemaphore,
+    MakeTimer, OpenNamed, Reap, ReleaseMutex, ReleaseSemaphore, SetEvent, SetTimer, SignalHost,
+    Spawn, StartThread, Tick, WaitFor, WaitResult,
 };
 use ob_manager::Reply::{
     Closed, Code, CountsAre, Done, Duplicated, Exists, Expired, Made, Opened, Pending, Previous,
@@ -195,6 +195,34 @@ const TIMERS: &[Line<'static>] = &[
     (WaitResult { wait: 2 }, Code { code: 258 }),
 ];
 
+/// Objects of the host's own, which are opened by their type alone, and which the host alone signals. A wait takes them
+/// as it takes events.
+#[rattlefmt::skip]
+const HOST_OBJECTS: &[Line<'static>] = &[
+    (Spawn { session: 1 }, Spawned { process: 1, thread: 1 }),
+    (StartThread { process: 1 }, Started { thread: 2 }),
+    (MakeHost { thread: 1, make: LONG, object_type: 7, manual: false, signaled: false }, Made { handle: 4, id: FIRST }),
+    (MakeHost { thread: 1, make: LONG, object_type: 7, manual: true, signaled: true }, Exists { handle: 8, id: FIRST }),
+    (MakeHost { thread: 1, make: LONG, object_type: 8, manual: false, signaled: false }, Refused(Fault::Handle)),
+    (MakeEvent { thread: 1, make: LONG, manual: false, set: false }, Refused(Fault::Handle)),
+    (OpenNamed {
+        thread: 1, kind: Kind::Host(7), mask: Rights::SYNCHRONIZE, inherit: false,
+        text: b"Global\\more than sixteen bytes",
+    }, Opened { handle: 12, id: FIRST }),
+    (SetEvent { thread: 1, handle: 4 }, Refused(Fault::Handle)),
+    (WaitFor { thread: 2, mode: Mode::Any, timeout: Timeout::Infinite, handles: &[12] }, Pending { wait: 1 }),
+    (SignalHost { id: FIRST, signaled: true }, Done),
+    (WaitResult { wait: 1 }, Code { code: 0 }),
+    (WaitFor { thread: 1, mode: Mode::Any, timeout: Timeout::Zero, handles: &[4] }, Code { code: 258 }),
+    (MakeHost { thread: 1, make: PLAIN, object_type: 0, manual: true, signaled: true }, Made { handle: 16, id: SECOND }),
+    (WaitFor { thread: 1, mode: Mode::Any, timeout: Timeout::Zero, handles: &[16] }, Code { code: 0 }),
+    (WaitFor { thread: 1, mode: Mode::Any, timeout: Timeout::Zero, handles: &[16] }, Code { code: 0 }),
+    (SignalHost { id: SECOND, signaled: false }, Done),
+    (WaitFor { thread: 1, mode: Mode::Any, timeout: Timeout::Zero, handles: &[16] }, Code { code: 258 }),
+    (MakeEvent { thread: 1, make: PLAIN, manual: false, set: false }, Made { handle: 20, id: THIRD }),
+    (SignalHost { id: THIRD, signaled: true }, Refused(Fault::Handle)),
+];
+
 /// All rows.
 pub const ROWS: &[&[Line<'static>]] = &[
     NAMED_EVENT_WAITS,
@@ -204,4 +232,5 @@ pub const ROWS: &[&[Line<'static>]] = &[
     WAIT_FOR_ALL,
     GRANTS_ACROSS_PROCESSES,
     TIMERS,
+    HOST_OBJECTS,
 ];

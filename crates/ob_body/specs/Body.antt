@@ -7,7 +7,7 @@ use Rattle.ob_rights.specs.declared.fault.Fault.TheVariants as fault
 use Rattle.ob_rights.specs.declared.kind.Kind.{Kind}
 use Rattle.ob_rights.specs.declared.kind.Kind.TheVariants as kind
 use Rattle.ob_body.specs.declared.body.Body.{Body}
-use Rattle.ob_body.specs.declared.body.Body.TheVariants.{Event, Mutex, Semaphore, Timer}
+use Rattle.ob_body.specs.declared.body.Body.TheVariants.{Event, Mutex, Semaphore, Timer, Host}
 use Rattle.ob_body.specs.Event as event
 use Rattle.ob_body.specs.Mutex as mutex
 use Rattle.ob_body.specs.Semaphore as semaphore
@@ -18,6 +18,13 @@ kind_of (Event e) = kind.Event
 kind_of (Mutex m) = kind.Mutex
 kind_of (Semaphore s) = kind.Semaphore
 kind_of (Timer t) = kind.Timer
+kind_of (Host h) = kind.Host h.object_type
+
+-- whether it is an event, or a host's object, which is signaled and reset as an event is
+abbrev pub is_settable : Body → Bool
+is_settable (Event e) = true
+is_settable (Host h) = true
+is_settable body = false
 
 -- whether a wait of the thread may take it
 abbrev pub is_signaled : ℕ → Body → Bool
@@ -25,6 +32,7 @@ is_signaled thread (Event e) = e.set
 is_signaled thread (Mutex m) = mutex.is_signaled thread m
 is_signaled thread (Semaphore s) = semaphore.is_signaled s
 is_signaled thread (Timer t) = t.signaled
+is_signaled thread (Host h) = h.event.set
 
 -- whether it is a mutex whose owner ended
 abbrev pub is_abandoned : Body → Bool
@@ -42,13 +50,16 @@ after_acquire thread (Event e) = Event (event.after_acquire e)
 after_acquire thread (Mutex m) = Mutex (mutex.after_acquire thread m)
 after_acquire thread (Semaphore s) = Semaphore (semaphore.after_acquire s)
 after_acquire thread (Timer t) = Timer (timer.after_acquire t)
+after_acquire thread (Host h) = Host (record h { event = event.after_acquire h.event })
 
 abbrev pub after_set : Body → Body
 after_set (Event e) = Event (event.after_set e)
+after_set (Host h) = Host (record h { event = event.after_set h.event })
 after_set body = body
 
 abbrev pub after_reset : Body → Body
 after_reset (Event e) = Event (event.after_reset e)
+after_reset (Host h) = Host (record h { event = event.after_reset h.event })
 after_reset body = body
 
 -- the answer to a release of a semaphore by a count, and what it leaves

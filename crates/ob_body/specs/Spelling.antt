@@ -7,6 +7,7 @@ use Rattle.ob_codec.specs.Spelling.{Any, BothFit, OptionFits, both, flag, option
 use Rattle.ob_body.specs.declared.body.Body.{Body}
 use Rattle.ob_body.specs.declared.body.Body.TheVariants as body
 use Rattle.ob_body.specs.declared.event.Event.{Event}
+use Rattle.ob_body.specs.declared.host_object.HostObject.{HostObject}
 use Rattle.ob_body.specs.MutexState.{MutexState}
 use Rattle.ob_body.specs.MutexState as mutex
 use Rattle.ob_body.specs.SemaphoreState.{SemaphoreState}
@@ -33,6 +34,22 @@ event_at = as_at event_of (both_at flag_at flag_at)
 
 abbrev pub EventFits : Event → Type 0
 EventFits e = BothFit Any Any (event_parts e)
+
+-- a host's object: its type, in four bytes, and what an event has
+abbrev pub host_of : ℕ × Event → Option HostObject
+host_of p = if nat_lt p.0 256 then Some (record { object_type = p.0; event = p.1 }) else None
+
+abbrev pub host_parts : HostObject → ℕ × Event
+host_parts h = (h.object_type, h.event)
+
+abbrev pub host_text : HostObject → List ℕ
+host_text h = both (to_le_bytes w32) event_text (host_parts h)
+
+abbrev pub host_at : List ℕ → Read HostObject
+host_at = some_at host_of (both_at (number_at w32) event_at)
+
+abbrev pub HostFits : HostObject → Type 0
+HostFits h = (h.object_type < 256) × EventFits h.event
 
 -- a timer: whether it is reset by hand, whether it is signaled, its due moment
 abbrev pub may_be_set : Bool → Option ℕ → Bool
@@ -107,12 +124,14 @@ tag_of (body.Event e) = 0
 tag_of (body.Mutex m) = 1
 tag_of (body.Semaphore s) = 2
 tag_of (body.Timer t) = 3
+tag_of (body.Host h) = 4
 
 abbrev pub parts_text : Body → List ℕ
 parts_text (body.Event e) = event_text e
 parts_text (body.Mutex m) = mutex_text m
 parts_text (body.Semaphore s) = semaphore_text s
 parts_text (body.Timer t) = timer_text t
+parts_text (body.Host h) = host_text h
 
 abbrev pub body_text : Body → List ℕ
 body_text b = tag_of b ∷ parts_text b
@@ -122,7 +141,8 @@ body_in zero rest = as_at body.Event event_at rest
 body_in (suc zero) rest = as_at body.Mutex mutex_at rest
 body_in (suc (suc zero)) rest = as_at body.Semaphore semaphore_at rest
 body_in (suc (suc (suc zero))) rest = as_at body.Timer timer_at rest
-body_in (suc (suc (suc (suc t)))) rest = Err Tag
+body_in (suc (suc (suc (suc zero)))) rest = as_at body.Host host_at rest
+body_in (suc (suc (suc (suc (suc t))))) rest = Err Tag
 
 abbrev pub body_at : List ℕ → Read Body
 body_at = tagged_at body_in
@@ -132,3 +152,4 @@ BodyFits (body.Event e) = EventFits e
 BodyFits (body.Mutex m) = MutexFits m
 BodyFits (body.Semaphore s) = SemaphoreFits s
 BodyFits (body.Timer t) = TimerFits t
+BodyFits (body.Host h) = HostFits h

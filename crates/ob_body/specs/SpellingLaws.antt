@@ -6,16 +6,33 @@ use Rattle.ob_codec.specs.Codecs.{as_codec, both_codec, flag_codec, form_takes, 
 use Rattle.ob_codec.specs.Laws.{IsCodec, Takes}
 use Rattle.ob_codec.specs.Spelling.{Any, AreBytes, BothFit, OptionFits}
 use Rattle.ob_body.specs.declared.body.Body.{Body}
-use Rattle.ob_body.specs.declared.body.Body.TheVariants.{Event, Mutex, Semaphore, Timer}
+use Rattle.ob_body.specs.declared.body.Body.TheVariants.{Event, Mutex, Semaphore, Timer, Host}
+use Rattle.ob_body.specs.declared.event.Event as states
+use Rattle.ob_body.specs.declared.host_object.HostObject.{HostObject}
 use Rattle.ob_body.specs.MutexState.{MutexState}
 use Rattle.ob_body.specs.MutexState as mutex
 use Rattle.ob_body.specs.SemaphoreState.{SemaphoreState}
 use Rattle.ob_body.specs.TimerState.{TimerState}
 use Rattle.ob_body.specs.TimerState as timer
-use Rattle.ob_body.specs.Spelling.{BodyFits, EventFits, MutexFits, SemaphoreFits, TimerFits, body_at, body_in, body_text, event_at, event_of, event_parts, event_text, is_four, may_be_set, may_count, may_own, mutex_at, mutex_of, mutex_parts, mutex_text, parts_text, semaphore_at, semaphore_of, semaphore_parts, semaphore_text, tag_of, timer_at, timer_of, timer_parts, timer_text}
+use Rattle.ob_body.specs.Spelling.{BodyFits, EventFits, HostFits, MutexFits, SemaphoreFits, TimerFits, body_at, body_in, body_text, event_at, event_of, event_parts, event_text, host_at, host_of, host_parts, host_text, is_four, may_be_set, may_count, may_own, mutex_at, mutex_of, mutex_parts, mutex_text, parts_text, semaphore_at, semaphore_of, semaphore_parts, semaphore_text, tag_of, timer_at, timer_of, timer_parts, timer_text}
 
 pub event_codec : IsCodec event_text event_at EventFits
 event_codec = as_codec event_of event_parts (λ _. refl) (λ _. refl) (both_codec flag_codec flag_codec)
+
+host-there : (h : HostObject) → HostFits h
+    → (host_of (host_parts h) ≡ Some h) × BothFit is_four EventFits (host_parts h)
+host-there h fits = let below = fits.0 in
+    (ap (λ (b : Bool). cond b (Some h) None) (lt-ltb _ _ below), (omega arith, fits.1))
+
+host-back : (p : ℕ × states.Event) (h : HostObject) → BothFit is_four EventFits p → host_of p ≡ Some h
+    → (host_parts h ≡ p) × HostFits h
+host-back p h fits e =
+    let made : HostObject = record { object_type = p.0; event = p.1 } in
+    let g = cond_some (ltb p.0 256) made h e in
+    subst (λ (z : HostObject). (host_parts z ≡ p) × HostFits z) g.1 (refl, (ltb-true _ _ g.0, fits.1))
+
+pub host_codec : IsCodec host_text host_at HostFits
+host_codec = some_codec host_of host_parts HostFits host-there host-back (both_codec u32_codec event_codec)
 
 set-true : (signaled : Bool) (due : Option ℕ) → timer.IsPossible signaled due → may_be_set signaled due ≡ true
 set-true signaled None can = refl
@@ -124,6 +141,8 @@ one-again t (Semaphore s) rest is fits = subst (λ (n : ℕ). body_in n (semapho
     ≡ Ok (Semaphore s, rest)) is (rw (semaphore_codec.again s rest fits) refl)
 one-again t (Timer d) rest is fits = subst (λ (n : ℕ). body_in n (timer_text d ++ rest) ≡ Ok (Timer d, rest)) is
     (rw (timer_codec.again d rest fits) refl)
+one-again t (Host h) rest is fits = subst (λ (n : ℕ). body_in n (host_text h ++ rest) ≡ Ok (Host h, rest)) is
+    (rw (host_codec.again h rest fits) refl)
 
 one-takes : (t : ℕ) (bytes : List ℕ) (x : Body) (rest : List ℕ) → AreBytes bytes → body_in t bytes ≡ Ok (x, rest)
     → Takes bytes (parts_text x) rest × BodyFits x × (tag_of x ≡ t)
@@ -132,7 +151,8 @@ one-takes zero = form_takes _ _ _ event_codec 0 Event (λ _. refl) (λ _ fits. f
 one-takes (suc zero) = form_takes _ _ _ mutex_codec 1 Mutex (λ _. refl) (λ _ fits. fits) (λ _. refl)
 one-takes (suc (suc zero)) = form_takes _ _ _ semaphore_codec 2 Semaphore (λ _. refl) (λ _ fits. fits) (λ _. refl)
 one-takes (suc (suc (suc zero))) = form_takes _ _ _ timer_codec 3 Timer (λ _. refl) (λ _ fits. fits) (λ _. refl)
-one-takes (suc (suc (suc (suc t)))) = λ bytes x rest fits e. absurd cc
+one-takes (suc (suc (suc (suc zero)))) = form_takes _ _ _ host_codec 4 Host (λ _. refl) (λ _ fits. fits) (λ _. refl)
+one-takes (suc (suc (suc (suc (suc t))))) = λ bytes x rest fits e. absurd cc
 
 pub body_codec : IsCodec body_text body_at BodyFits
 body_codec = tagged_codec tag_of parts_text body_in BodyFits (λ t. record { again = one-again t; takes = one-takes t })

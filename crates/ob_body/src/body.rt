@@ -3,6 +3,7 @@ ghost use Rattle.ob_body.specs.Body as spec;
 ghost use Rattle.ob_body.specs.Mutex as mutex;
 
 use crate::event::Event;
+use crate::host_object::HostObject;
 use crate::mutex::{Mutex, RECURSION_MAX};
 use crate::semaphore::{COUNT_MAX, Semaphore};
 use crate::timer::Timer;
@@ -19,6 +20,8 @@ pub enum Body {
     Semaphore(Semaphore),
     /// Signaled from a due moment on.
     Timer(Timer),
+    /// Of the host's own.
+    Host(HostObject),
 }
 
 impl Body {
@@ -61,6 +64,23 @@ impl Body {
         Body::Timer(Timer::new(manual))
     }
 
+    /// An object of the host's own, of a type that the host chooses, kept signaled until the host resets it or taken by
+    /// one wait, signaled or not.
+    pub fn new_host(object_type: u8, manual: bool, signaled: bool) -> Body
+        ensures { result ≡ Body.Host (record {
+          object_type = object_type;
+          event = record { manual = manual; set = signaled };
+        }) }
+    {
+        Body::Host(HostObject {
+            object_type,
+            event: Event {
+                manual,
+                set: signaled,
+            },
+        })
+    }
+
     /// The object's kind.
     pub fn kind(&self) -> Kind
         ensures { result ≡ spec.kind_of self.now }
@@ -70,11 +90,12 @@ impl Body {
             Body::Mutex(_) => Kind::Mutex,
             Body::Semaphore(_) => Kind::Semaphore,
             Body::Timer(_) => Kind::Timer,
+            Body::Host(host) => Kind::Host(host.object_type),
         }
     }
 
     /// Whether a wait of this thread is satisfied by it ([Wait Functions]): an event that is set, a semaphore with a
-    /// count above 0, a mutex that nobody or this thread owns, a timer that is signaled.
+    /// count above 0, a mutex that nobody or this thread owns, a timer or a host's object that is signaled.
     ///
     /// [Wait Functions]: https://learn.microsoft.com/windows/win32/sync/wait-functions
     pub fn signaled_for(&self, thread: u32) -> bool
@@ -85,6 +106,7 @@ impl Body {
             Body::Mutex(mutex) => mutex.signaled_for(thread),
             Body::Semaphore(semaphore) => semaphore.is_signaled(),
             Body::Timer(timer) => timer.is_signaled(),
+            Body::Host(host) => host.event.set,
         }
     }
 
@@ -95,13 +117,13 @@ impl Body {
     {
         match self {
             Body::Mutex(mutex) => mutex.has_room(thread, max_recursion),
-            Body::Event(_) | Body::Semaphore(_) | Body::Timer(_) => true,
+            _ => true,
         }
     }
 
-    /// What a satisfied wait of this thread does, and whether it was an abandoned mutex: an event that isn't reset by
-    /// hand and a synchronization timer are reset, a semaphore's count falls by 1, and the thread owns a mutex once
-    /// more, which is no longer abandoned.
+    /// What a satisfied wait of this thread does, and whether it was an abandoned mutex: an event and a host's object that
+    /// aren't reset by hand and a synchronization timer are reset, a semaphore's count falls by 1, and the thread owns a
+    /// mutex once more, which is no longer abandoned.
     pub fn acquire(&mut self, thread: u32) -> bool
         requires signaled { spec.is_signaled thread self.old ≡ true }
         requires room { spec.has_room RECURSION_MAX thread self.old ≡ true }
@@ -122,31 +144,37 @@ impl Body {
                 timer.acquire();
                 false
             }
+            Body::Host(host) => {
+                host.event.acquire();
+                false
+            }
         }
     }
 
-    /// Sets an event ([SetEvent]).
+    /// Sets an event ([SetEvent]), or signals an object of the host's own.
     ///
     /// [SetEvent]: https://learn.microsoft.com/windows/win32/api/synchapi/nf-synchapi-setevent
     pub fn set(&mut self)
-        requires event { spec.kind_of self.old ≡ Kind.Event }
+        requires settable { spec.is_settable self.old ≡ true }
         ensures { self.new ≡ spec.after_set self.old }
     {
         match self {
             Body::Event(event) => event.set(),
+            Body::Host(host) => host.event.set(),
             _ => unreachable!(),
         }
     }
 
-    /// Resets an event ([ResetEvent]).
+    /// Resets an event ([ResetEvent]), or an object of the host's own.
     ///
     /// [ResetEvent]: https://learn.microsoft.com/windows/win32/api/synchapi/nf-synchapi-resetevent
     pub fn reset(&mut self)
-        requires event { spec.kind_of self.old ≡ Kind.Event }
+        requires settable { spec.is_settable self.old ≡ true }
         ensures { self.new ≡ spec.after_reset self.old }
     {
         match self {
             Body::Event(event) => event.reset(),
+            Body::Host(host) => host.event.reset(),
             _ => unreachable!(),
         }
     }
@@ -243,7 +271,7 @@ impl Body {
     {
         match self {
             Body::Timer(timer) => timer.due(),
-            Body::Event(_) | Body::Mutex(_) | Body::Semaphore(_) => None,
+            _ => None,
         }
     }
 
@@ -254,7 +282,7 @@ impl Body {
     {
         match self {
             Body::Mutex(mutex) => mutex.owner(),
-            Body::Event(_) | Body::Semaphore(_) | Body::Timer(_) => None,
+            _ => None,
         }
     }
 

@@ -1,10 +1,11 @@
 // Bodies as bytes: a tag for the kind, and what each kind has.
-ghost use Rattle.ob_body.specs.Spelling.{BodyFits, EventFits};
+ghost use Rattle.ob_body.specs.Spelling.{BodyFits, EventFits, HostFits};
 ghost use Rattle.ob_body.specs.Spelling as spelling;
-ghost use Rattle.ob_body.specs.SpellingLaws.{body_codec, event_codec};
+ghost use Rattle.ob_body.specs.SpellingLaws.{body_codec, event_codec, host_codec};
 
 use crate::body::Body;
 use crate::event::Event;
+use crate::host_object::HostObject;
 use crate::mutex::Mutex;
 use crate::semaphore::Semaphore;
 use crate::timer::Timer;
@@ -32,6 +33,33 @@ impl Spelled for Event {
     ghost codec = { event_codec };
 }
 
+impl Spelled for HostObject {
+    ghost spell = { spelling.host_text };
+
+    ghost read_at = { spelling.host_at };
+
+    ghost Fits = { HostFits };
+
+    fn write(&self, out: &mut Vec<u8>) -> Result<(), AllocError> {
+        u32::from(self.object_type).write(out)?;
+        self.event.write(out)
+    }
+
+    fn read(alloc: Global, from: &mut Cursor<'_>) -> Result<HostObject, ReadFault> {
+        let number = from.four()?;
+        let event = Event::read(alloc, from)?;
+        if number >= 256 {
+            return Err(ReadFault::Text(TextFault::Value));
+        }
+        Ok(HostObject {
+            object_type: number as u8,
+            event,
+        })
+    }
+
+    ghost codec = { host_codec };
+}
+
 impl Spelled for Body {
     ghost spell = { spelling.body_text };
 
@@ -57,6 +85,10 @@ impl Spelled for Body {
                 out.push(3)?;
                 timer.write(out)
             }
+            Body::Host(host) => {
+                out.push(4)?;
+                host.write(out)
+            }
         }
     }
 
@@ -78,6 +110,10 @@ impl Spelled for Body {
             3 => {
                 let timer = Timer::read(alloc, from)?;
                 Ok(Body::Timer(timer))
+            }
+            4 => {
+                let host = HostObject::read(alloc, from)?;
+                Ok(Body::Host(host))
             }
             _ => Err(ReadFault::Text(TextFault::Tag)),
         }

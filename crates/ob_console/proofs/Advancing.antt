@@ -16,12 +16,12 @@ use Rattle.ob_console.proofs.Going.{run-append, run_shape, runs_some}
 
 -- a line ends
 pub line_advances : (old new : ConsoleState) (act : Command) (bytes output : List ℕ) → IsWithin bytes
-    → act ≡ command_of_partial_line (extended_line old.held bytes)
+    → act ≡ command_of_partial_line old.point.more (extended_line old.held bytes)
     → Prints old.point (old.lines + 1) act output new.point
     → new.lines ≡ old.lines + 1 → new.held ≡ Some [] → Advances old (bytes ++ line_end) output new
 line_advances old new act bytes output within is prints counted held first input before session =
     let line = session.rest ++ bytes in
-    let of_line : Prints old.point (1 + length session.lines) (command_of line) output new.point =
+    let of_line : Prints old.point (1 + length session.lines) (command_of old.point.more line) output new.point =
     search (arith, command_of_capped, more_capped) in
     let one : Splits (session.rest ++ (bytes ++ line_end)) (line ∷ []) [] =
     splits_one session.rest bytes session.splits.open_ended within in
@@ -84,11 +84,11 @@ answers_all first input output console held session = search (arith, append-nil)
 
 -- a last line without a line feed
 pub last_answered : (first : Point) (input before output : List ℕ) (old new : ConsoleState) → (old.held ≡ Some [] → ⊥)
-    → Prints old.point (old.lines + 1) (command_of_partial_line old.held) output new.point
+    → Prints old.point (old.lines + 1) (command_of_partial_line old.point.more old.held) output new.point
     → Session first input before old
     → AnswersTo first input (before ++ output) new.point
 last_answered first input before output old new some prints session =
-    let of_line : Prints old.point (1 + length session.lines) (command_of session.rest) output new.point =
+    let of_line : Prints old.point (1 + length session.lines) (command_of old.point.more session.rest) output new.point =
     search (arith, command_of_capped) in
     record {
       lines = session.lines;
@@ -134,7 +134,7 @@ pub finishes_empty : (console : ConsoleState) → console.held ≡ Some [] → F
 finishes_empty console held first input before session = search (arith, append-nil)
 
 pub finishes_line : (old new : ConsoleState) (output : List ℕ) → (old.held ≡ Some [] → ⊥)
-    → Prints old.point (old.lines + 1) (command_of_partial_line old.held) output new.point
+    → Prints old.point (old.lines + 1) (command_of_partial_line old.point.more old.held) output new.point
     → Finishes old output new.point
 finishes_line old new output some prints first input before session = search (arith, last_answered)
 

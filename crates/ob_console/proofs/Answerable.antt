@@ -27,7 +27,7 @@ use Rattle.ob_manager.specs.Copying.{duplicate}
 use Rattle.ob_manager.specs.Waiting as waiting
 use Rattle.ob_manager.specs.Waiting.{wait, wait_result}
 use Rattle.ob_manager.specs.Ending.{end_thread, exit}
-use Rattle.ob_manager.specs.Signaling.{modified, modify_state, set_event, reset_event, release_semaphore, release_mutex}
+use Rattle.ob_manager.specs.Signaling.{modified, modify_state, set_event, reset_event, release_semaphore, release_mutex, host_of, signal_host}
 use Rattle.ob_manager.specs.Timing.{set_timer, cancel_timer, tick}
 use Rattle.ob_manager.specs.Counting.{counts}
 use Rattle.ob_manager.specs.Reaping.{IfReap, if_ended, reap}
@@ -165,6 +165,8 @@ can_answer w (calls.MakeSemaphore thread make initial max) pins =
     refused w (calls.MakeSemaphore thread make initial max) _ (λ P. tt) refl (λ reply. refl)
 can_answer w (calls.MakeTimer thread make manual) pins =
     refused w (calls.MakeTimer thread make manual) _ (λ P. tt) refl (λ reply. refl)
+can_answer w (calls.MakeHost thread make object_type manual signaled) pins =
+    refused w (calls.MakeHost thread make object_type manual signaled) _ (λ P. tt) refl (λ reply. refl)
 can_answer w (calls.OpenNamed thread kind mask inherit text) pins =
     answered w (search (arith, calls.OpenNamed)) (open_named w.state thread kind mask inherit text)
     (λ P. tt) (λ reply. refl)
@@ -206,6 +208,9 @@ can_answer w (calls.ReleaseMutex thread handle) pins =
     (rests_behind w.keeper (caller w.state thread) _
     (λ process. rests_behind w.keeper (found w.state process handle) _ (λ entry.
     search arith)))
+can_answer w (calls.SignalHost id signaled) pins =
+    answered w (calls.SignalHost id signaled) (signal_host w.state id signaled) (λ P. tt) (λ reply. refl)
+    (rests_behind w.keeper (host_of w.state id) _ (λ host. refl))
 can_answer w (calls.SetTimer thread handle due) pins =
     answered w (calls.SetTimer thread handle due) (set_timer w.state thread handle due) (λ P. tt) (λ reply. refl)
     (rests_behind w.keeper (modified w.state thread handle kind.Timer) _ (λ object. refl))

@@ -46,6 +46,17 @@ run_shape s n [] (output ∷ outputs) t run = absurd run
 run_shape s n (line ∷ lines) [] t run = absurd run
 run_shape s n (line ∷ lines) (output ∷ outputs) t run = search (arith, prints_shape, run_shape run.0 (n + 1) lines outputs t run.2)
 
+-- no line changes which lines are read
+pub prints_more : (s : Point) (n : ℕ) (act : Command) (output : List ℕ) (t : Point) → Prints s n act output t
+    → t.more ≡ s.more
+prints_more s n Nothing output t prints = ap (λ (p : Point). p.more) prints.1
+prints_more s n Bad output t prints = ap (λ (p : Point). p.more) prints.1
+prints_more s n ListNames output t prints = ap (λ (p : Point). p.more) prints.1
+prints_more s n (Asks call) output t prints = prints.6
+prints_more s n (Pin id) output t prints = prints.4
+prints_more s n (Unpin id) output t prints = prints.4
+prints_more s n (ShowCard id) output t prints = prints.3
+
 -- what an act may print
 pub record PrintsSome (s : Point) (n : ℕ) (act : Command) : Type 0 where
   pub output : List ℕ
@@ -65,14 +76,14 @@ prints_some s n (Asks call) pins =
     record {
       output = printed answer.reply;
       next = record s { whole = answer.next };
-      prints = (answer.reply, answer.step, answer.looks, answer.spares s.held, refl, refl);
+      prints = (answer.reply, answer.step, answer.looks, answer.spares s.held, refl, refl, refl);
     }
 prints_some s n (Pin id) pins =
     let pin = can_pin s.whole.state s.held s.looks id in
     record {
       output = printed_pin id pin.answer ++ line_end;
-      next = record { whole = s.whole; held = pin.next; looks = pin.looks' };
-      prints = (pin.answer, pin.pins, refl, refl);
+      next = record s { held = pin.next; looks = pin.looks' };
+      prints = (pin.answer, pin.pins, refl, refl, refl);
     }
 prints_some s n (Unpin id) pins = record {
   output = printed_unpin id (is_held id s.held) ++ line_end;
@@ -82,7 +93,7 @@ prints_some s n (Unpin id) pins = record {
 prints_some s n (ShowCard id) pins = record {
   output = printed_card (shown_of s.whole.state s.held id) ++ line_end;
   next = s;
-  prints = (refl, refl, refl);
+  prints = (refl, refl, refl, refl);
 }
 
 -- lines that come may always be answered
@@ -94,9 +105,9 @@ pub record RunsSome (s : Point) (n : ℕ) (lines : List (List ℕ)) : Type 0 whe
 pub runs_some : (s : Point) (n : ℕ) (lines : List (List ℕ)) → 0 < s.whole.keeper.shape.max_pins → RunsSome s n lines
 runs_some s n [] pins = record { outputs = []; last = s; run = refl }
 runs_some s n (line ∷ lines) pins =
-    let first = prints_some s n (command_of line) pins in
+    let first = prints_some s n (command_of s.more line) pins in
     let still : 0 < first.next.whole.keeper.shape.max_pins =
     subst (λ (shape : Shape). 0 < shape.max_pins)
-    (sym (prints_shape s n (command_of line) first.output first.next first.prints)) pins in
+    (sym (prints_shape s n (command_of s.more line) first.output first.next first.prints)) pins in
     let later = runs_some first.next (n + 1) lines still in
     record { outputs = first.output ∷ later.outputs; last = later.last; run = (first.next, first.prints, later.run) }

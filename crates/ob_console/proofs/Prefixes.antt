@@ -1,8 +1,8 @@
 -- A line with an @ and without a space.
-use Rattle.std.proofs.Common.{◌≡◌, ℕ, Option, Some, None, refl}
+use Rattle.std.proofs.Common.{◌≡◌, ℕ, Bool, Option, Some, None, refl}
 use Rattle.ob_console.specs.Lines.{Bad, prefixed}
 use Rattle.std.specs.Prelude.{[]}
 
-pub nothing_behind : (number : Option ℕ) → prefixed number [] ≡ Bad
-nothing_behind None = refl
-nothing_behind (Some n) = refl
+pub nothing_behind : (more : Bool) (number : Option ℕ) → prefixed more number [] ≡ Bad
+nothing_behind more None = refl
+nothing_behind more (Some n) = refl

@@ -1,5 +1,5 @@
 -- A run between two reads, and how it ends.
-use Rattle.std.proofs.Common.{arith, ◌≡◌, ℕ, List, [], ◌++◌, Result, Ok, Err, refl, ◌∙◌}
+use Rattle.std.proofs.Common.{arith, ◌≡◌, ℕ, Bool, List, [], ◌++◌, Result, Ok, Err, refl, ◌∙◌}
 use Rattle.std.specs.Prelude.{IsErrOf}
 use Rattle.std.proofs.lemmas.List.{append_assoc, append-nil}
 use Rattle.ob_store.specs.declared.limits.Limits.{Limits}
@@ -124,15 +124,16 @@ cut_from Read Begins first last input output begins ends = (first, begins, ends)
 cut_from Write Begins first last input output begins ends = (first, begins, ends)
 cut_from Memory Begins first last input output begins ends = absurd ends
 
-pub run_ended : (r : Result (Unit {0}) RunFault) (limits : Limits) (first last : Point) (input output : List ℕ)
-    → IsOpening limits first → Ends r first input output last → IsEnded r limits input output
-run_ended (Ok unit) limits first last input output opens ends = (first, last, opens, ends)
-run_ended (Err fault) limits first last input output opens ends = search (arith, cut_from)
+pub run_ended : (r : Result (Unit {0}) RunFault) (more : Bool) (limits : Limits) (first last : Point)
+    (input output : List ℕ) → IsOpening more limits first → Ends r first input output last
+    → IsEnded r more limits input output
+run_ended (Ok unit) more limits first last input output opens ends = (first, last, opens, ends)
+run_ended (Err fault) more limits first last input output opens ends = search (arith, cut_from)
 
-pub whole_ended : (r : Result (Unit {0}) RunFault) (limits : Limits) (first last : Point) (input output : List ℕ)
-    → (IsErrOf r Read → ⊥) → IsOpening limits first → Ends r first input output last
-    → IsWholeEnded r limits input output
-whole_ended (Ok unit) limits first last input output none opens ends = (first, last, opens, ends)
-whole_ended (Err Read) limits first last input output none opens ends = absurd (none refl)
-whole_ended (Err Write) limits first last input output none opens ends = (first, opens, ends)
-whole_ended (Err Memory) limits first last input output none opens ends = absurd ends
+pub whole_ended : (r : Result (Unit {0}) RunFault) (more : Bool) (limits : Limits) (first last : Point)
+    (input output : List ℕ) → (IsErrOf r Read → ⊥) → IsOpening more limits first → Ends r first input output last
+    → IsWholeEnded r more limits input output
+whole_ended (Ok unit) more limits first last input output none opens ends = (first, last, opens, ends)
+whole_ended (Err Read) more limits first last input output none opens ends = absurd (none refl)
+whole_ended (Err Write) more limits first last input output none opens ends = (first, opens, ends)
+whole_ended (Err Memory) more limits first last input output none opens ends = absurd ends

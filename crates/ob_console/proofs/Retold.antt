@@ -1,4 +1,4 @@
--- A run of a journal's script prints what its entries were answered.
+-- A run of a journal's script, with the lines that `--more` adds, prints what its entries were answered.
 use Rattle.std.proofs.Common.{◌≡◌, ◌⊎◌, inl, inr, ℕ, suc, ◌+◌, ◌-◌, ◌≤◌, arith, refl, ap, sym, subst, ◌∙◌, List, [], ◌∷◌, ◌++◌, length, take, length-take, All, Bool, true, false, not, ◌&&◌, ◌||◌, ◌==◌, Option, Some, None, IfSome, Result, Ok, Err, if◌then◌else◌, is_some, append-nil, codes, true≢false}
 use Rattle.std.proofs.lemmas.Bool.{and_right, not-true, or_parts}
 use Rattle.std.specs.Prelude.{◌≢◌, slice_index, slice_index_or, nat_le}
@@ -33,24 +33,26 @@ use Rattle.ob_console.specs.Runs.{AnswersAll, AnswersTo, IsOutput, Point, Prints
 use Rattle.ob_script.specs.Telling.{asking, comment, is_held, is_held_slot, is_repeatable, lines_for, text_for}
 use Rattle.ob_console.specs.Retelling.{AnswersOtherwise, FitsEntry, Retells, RetellsTo, answer, is_line, script_of}
 use Rattle.ob_console.proofs.Ends.{lines_in, lines_within, one_cut}
+use Rattle.ob_console.proofs.Going.{prints_more}
 
 -- a comment is nothing
-marked : (rest : List ℕ) → length rest ≤ 4095 → command_of_text (35 ∷ rest) ≡ Nothing
-marked rest short = grind (arith, nat_tests)
+marked : (more : Bool) (rest : List ℕ) → length rest ≤ 4095 → command_of_text more (35 ∷ rest) ≡ Nothing
+marked more rest short = grind (arith, nat_tests)
 
-comment_is_nothing : (text : List ℕ) → command_of (comment text) ≡ Nothing
-comment_is_nothing text = by (slice_index (comment text) (length (comment text) - 1) == 13)
+comment_is_nothing : (more : Bool) (text : List ℕ) → command_of more (comment text) ≡ Nothing
+comment_is_nothing more text = by (slice_index (comment text) (length (comment text) - 1) == 13)
   where
     shorter : length (comment text) - 1 ≡ suc (length (take 4094 text))
     shorter = omega arith
 
-    by : (b : Bool) → command_of_text (if b then take (length (comment text) - 1) (comment text) else comment text)
+    by : (b : Bool)
+        → command_of_text more (if b then take (length (comment text) - 1) (comment text) else comment text)
         ≡ Nothing
     by true =
-        ap (λ n. command_of_text (take n (comment text))) shorter
-        ∙ marked (take (length (take 4094 text)) (32 ∷ take 4094 text))
+        ap (λ n. command_of_text more (take n (comment text))) shorter
+        ∙ marked more (take (length (take 4094 text)) (32 ∷ take 4094 text))
         (omega (arith, length-take (length (take 4094 text)) (32 ∷ take 4094 text), length-take 4094 text))
-    by false = marked (32 ∷ take 4094 text) (omega (arith, length-take 4094 text))
+    by false = marked more (32 ∷ take 4094 text) (omega (arith, length-take 4094 text))
 
 -- what a call comes to depends on its answer only where a slot is taken back
 same_outcome : (s : State) (call : Call) (a b : Reply) → IfReap call (λ slot. reclaim_in a ≡ reclaim_in b)
@@ -148,7 +150,7 @@ decide call due found free = inl tt
 
 module _ (w u : Whole) (p q : Point) (number : ℕ) (entry : Entry) (output : List ℕ) (kept : IsConsistent w)
     (step : Step w entry.call entry.reply u) (fits : FitsEntry entry)
-    (at : p.whole.state ≡ w.state) where
+    (at : p.whole.state ≡ w.state) (more : p.more ≡ true) where
   -- the entry's first line is answered as the entry, and leads to the state that the entry led to; or it isn't
   abbrev First : Type 0
   First = ((output ≡ answer entry) × (q.whole.state ≡ u.state)) ⊎ AnswersOtherwise entry output
@@ -184,26 +186,27 @@ module _ (w u : Whole) (p q : Point) (number : ℕ) (entry : Entry) (output : Li
               inl (prints ∙ ap printed both.0 ∙ ap (λ b. if b then printed entry.reply else []) (sym line), both.1)
           with_slots (inr differs) = inr (line, inr (differs.0, differs.1, found, prints, differs.2))
 
-  first : Prints p number (command_of (asking (is_repeatable entry.call entry.reply) (line_of entry.call))) output q
+  first : Prints p number (command_of p.more (asking (is_repeatable entry.call entry.reply) (line_of entry.call))) output q
       → First
   first prints = by (line_of entry.call) (is_repeatable entry.call entry.reply) refl refl prints
     where
       by : (line : Option (List ℕ)) (again : Bool) → line_of entry.call ≡ line
-          → is_repeatable entry.call entry.reply ≡ again → Prints p number (command_of (asking again line)) output q
+          → is_repeatable entry.call entry.reply ≡ again → Prints p number (command_of p.more (asking again line)) output q
           → First
       by None again none is prints =
           silent (ap (λ (x : Whole). x.state) (lineless_is_refused w u entry.call entry.reply fits none step).0)
           (ap (λ line. is_repeatable entry.call entry.reply && is_some line) none
           ∙ and_right (is_repeatable entry.call entry.reply) false refl)
           (subst (λ (act : Command). Prints p number act output q)
-          (comment_is_nothing (codes "a call that no line asks for")) prints)
+          (comment_is_nothing p.more (codes "a call that no line asks for")) prints)
       by (Some line) false some is prints =
           silent (unrepeatable w u entry.call entry.reply kept.still is step)
           (ap (λ b. b && is_some (line_of entry.call)) is)
-          (subst (λ (act : Command). Prints p number act output q) (comment_is_nothing line) prints)
+          (subst (λ (act : Command). Prints p number act output q) (comment_is_nothing p.more line) prints)
       by (Some line) true some is prints =
-          let read : command_of line ≡ Asks (as_said entry.call) =
-          subst (λ l. IfSome l (λ text. command_of text ≡ Asks (as_said entry.call))) some
+          let read : command_of p.more line ≡ Asks (as_said entry.call) =
+          ap (λ (b : Bool). command_of b line) more
+          ∙ subst (λ l. IfSome l (λ text. command_of true text ≡ Asks (as_said entry.call))) some
           (line_is_read entry.call fits) in
           let asks : Prints p number (Asks (as_said entry.call)) output q =
           subst (λ (act : Command). Prints p number act output q) read prints in
@@ -211,24 +214,25 @@ module _ (w u : Whole) (p q : Point) (number : ℕ) (entry : Entry) (output : Li
           ((answered_alike p.whole q.whole entry.call asks.0).0 asks.1)
 
 retold : (entries : List Entry) (w v : Whole) (p q : Point) (number : ℕ) (outputs : List (List ℕ)) → IsConsistent w
-    → Replays w entries v → All FitsEntry entries → p.whole.state ≡ w.state
+    → Replays w entries v → All FitsEntry entries → p.whole.state ≡ w.state → p.more ≡ true
     → Run p number (lines_in entries) outputs q → RetellsTo entries (concat outputs) (q.whole.state ≡ v.state)
-retold [] w v p q number [] kept replays fits at run = (
+retold [] w v p q number [] kept replays fits at more run = (
   refl,
   ap (λ (r : Point). r.whole.state) run ∙ at ∙ ap (λ (x : Whole). x.state) replays,
 )
-retold [] w v p q number (output ∷ outputs) kept replays fits at run = absurd run
-retold (entry ∷ entries) w v p q number [] kept replays fits at run = absurd run
-retold (entry ∷ entries) w v p q number (output ∷ []) kept replays fits at run = absurd run.2
-retold (entry ∷ entries) w v p q number (output ∷ silence ∷ outputs) kept replays fits at run =
-    by (first w replays.0 p run.0 number entry output kept replays.1 (fits 0 entry (omega arith)) at run.1)
+retold [] w v p q number (output ∷ outputs) kept replays fits at more run = absurd run
+retold (entry ∷ entries) w v p q number [] kept replays fits at more run = absurd run
+retold (entry ∷ entries) w v p q number (output ∷ []) kept replays fits at more run = absurd run.2
+retold (entry ∷ entries) w v p q number (output ∷ silence ∷ outputs) kept replays fits at more run =
+    by (first w replays.0 p run.0 number entry output kept replays.1 (fits 0 entry (omega arith)) at more run.1)
     (λ same. retold entries replays.0 v run.2.0 q (number + 1 + 1) outputs replays.2 replays.3
     (λ k d within. fits (suc k) d (omega (arith, within)))
-    (ap (λ (r : Point). r.whole.state) second.1 ∙ same) run.2.2)
+    (ap (λ (r : Point). r.whole.state) second.1 ∙ same)
+    (ap (λ (r : Point). r.more) second.1 ∙ prints_more p number _ output run.0 run.1 ∙ more) run.2.2)
   where
     second : (silence ≡ []) × (run.2.0 ≡ run.0)
     second = subst (λ (act : Command). Prints run.0 (number + 1) act silence run.2.0)
-        (comment_is_nothing (printed_reply entry.reply)) run.2.1
+        (comment_is_nothing run.0.more (printed_reply entry.reply)) run.2.1
 
     by : ((output ≡ answer entry) × (run.0.whole.state ≡ replays.0.state)) ⊎ AnswersOtherwise entry output
         → (run.0.whole.state ≡ replays.0.state → RetellsTo entries (concat outputs) (q.whole.state ≡ v.state))
@@ -263,11 +267,11 @@ text_is (entry ∷ entries) =
 
 -- a run from the state with which a journal began comes to the journal's state
 pub history_rerun : (from : State) (journal : List Entry) (w : Whole) (output : List ℕ) (p q : Point)
-    → IsHistoryFrom from journal w → All FitsEntry journal → p.whole.state ≡ from
+    → IsHistoryFrom from journal w → All FitsEntry journal → p.whole.state ≡ from → p.more ≡ true
     → AnswersTo p (script_of journal) output q → RetellsTo journal output (q.whole.state ≡ w.state)
-history_rerun from journal w output p q history fits at whole =
+history_rerun from journal w output p q history fits at more whole =
     subst (λ (printed : List ℕ). RetellsTo journal printed (q.whole.state ≡ w.state)) (sym run.whole)
-    (retold journal history.first w p q 1 run.outputs history.kept history.replays fits (at ∙ sym history.opens)
+    (retold journal history.first w p q 1 run.outputs history.kept history.replays fits (at ∙ sym history.opens) more
     (subst (λ lines. Run p 1 lines run.outputs q) lines run.run))
   where
     run : IsOutput p (whole.lines ++ last_line whole.rest) output q
@@ -283,7 +287,7 @@ history_rerun from journal w output p q history fits at whole =
     lines = ap (λ rest. whole.lines ++ last_line rest) cut.1 ∙ append-nil whole.lines ∙ cut.0
 
 pub history_retold : (journal : List Entry) (w : Whole) (output : List ℕ) → IsHistory journal w → All FitsEntry journal
-    → AnswersAll w.state.limits (script_of journal) output → Retells journal output
+    → AnswersAll true w.state.limits (script_of journal) output → Retells journal output
 history_retold journal w output history fits answers =
     told_over _ journal output (history_rerun (opening w.state.limits) journal w output answers.0 answers.1 history fits
-    answers.2.state answers.3)
+    answers.2.state answers.2.lines answers.3)

@@ -44,7 +44,7 @@ step_of_beginning w thread mode timeout handles reply v (lacks takes there lack 
 
 prints_whole : (p : Point) (number : ℕ) (act : Command) (output : List ℕ) (q : Point)
     → Prints p number (shortened act) output q → Prints p number act output q
-prints_whole p number (Asks (calls.WaitFor thread mode timeout handles)) output q (reply, step, looks, spares, held, is) =
+prints_whole p number (Asks (calls.WaitFor thread mode timeout handles)) output q (reply, step, looks, spares, held, is, more) =
     search (arith, step_of_beginning)
 prints_whole p number Nothing output q prints = prints
 prints_whole p number act output q prints = prints

@@ -45,30 +45,30 @@ abbrev pub in_prefixed : ℕ → Read → LaneLine
 in_prefixed number read.Nothing = Bad
 in_prefixed number act = in_lane number act
 
-abbrev pub behind_prefix : ℕ → List ℕ → LaneLine
-behind_prefix number line = if bytes_eq (text_of line) (codes "block") then Acts number Block else in_prefixed number
-    (shortened (command_of line))
+abbrev pub behind_prefix : Bool → ℕ → List ℕ → LaneLine
+behind_prefix more number line = if bytes_eq (text_of line) (codes "block") then Acts number Block else in_prefixed number
+    (shortened (command_of more line))
 
 -- a line that begins with an @: the prefix ends at the first space
-abbrev pub prefixed : Option ℕ → List ℕ → LaneLine
-prefixed None line = Bad
-prefixed (Some number) line = behind_prefix number line
+abbrev pub prefixed : Bool → Option ℕ → List ℕ → LaneLine
+prefixed more None line = Bad
+prefixed more (Some number) line = behind_prefix more number line
 
-abbrev pub with_prefix : ℕ → List ℕ → LaneLine
-with_prefix lanes line = prefixed (lane_of lanes (before_first (is_byte 32) line)) (after_first (is_byte 32) line)
+abbrev pub with_prefix : Bool → ℕ → List ℕ → LaneLine
+with_prefix more lanes line = prefixed more (lane_of lanes (before_first (is_byte 32) line)) (after_first (is_byte 32) line)
 
 -- whether a line begins with an @
 abbrev pub is_marked : List ℕ → Bool
 is_marked line = nat_le 1 (length line) && (slice_index line 0 == 64)
 
--- a line of a script with so many lanes beside the prologue, and whether the prologue goes on; a text of more than
--- 4,096 bytes is bad. Of a wait's handles the first 65 are kept: in nothing else does a line of a lane ask otherwise
--- than one without lanes
-abbrev pub line_of : ℕ → Bool → List ℕ → LaneLine
-line_of lanes is_prologue line =
+-- a line of a script with so many lanes beside the prologue, and whether the prologue goes on, with the lines that
+-- `--more` adds or without them; a text of more than 4,096 bytes is bad. Of a wait's handles the first 65 are kept: in
+-- nothing else does a line of a lane ask otherwise than one without lanes
+abbrev pub line_of : Bool → ℕ → Bool → List ℕ → LaneLine
+line_of more lanes is_prologue line =
     if nat_lt 4096 (length (text_of line)) then Bad
-    else (if is_marked line then with_prefix lanes line
-    else without_prefix is_prologue (shortened (command_of line)))
+    else (if is_marked line then with_prefix more lanes line
+    else without_prefix is_prologue (shortened (command_of more line)))
 
 -- a line as the code has it, with the handles that stand beside it
 abbrev pub line_in : List ℕ → Given → LaneLine

@@ -22,23 +22,27 @@ use Rattle.ob_console.specs.declared.script.RunFault.TheVariants.{Memory, Read, 
 use Rattle.ob_script.specs.Grammar.{command_of}
 use Rattle.ob_script.specs.Printed.{printed, printed_card, printed_names, printed_pin, printed_unpin, bad_line, line_end}
 
--- the state with what the keeper says, the copies that the reader holds, and the words that it found, newest first
+-- whether the lines that `--more` adds are read, the state with what the keeper says, the copies that the reader holds,
+-- and the words that it found, newest first
 pub record Point : Type 0 where
+  pub more : Bool
   pub whole : Whole
   pub held : List Id
   pub looks : List Look
 
-abbrev pub point : Whole → ReaderView → Point
-point whole reader = record { whole = whole; held = reader.held; looks = reader.looks }
+abbrev pub point : Bool → Whole → ReaderView → Point
+point more whole reader = record { more = more; whole = whole; held = reader.held; looks = reader.looks }
 
 -- before any line: nothing was asked of the manager and of its keeper, and nothing is held
-pub record IsOpening (limits : Limits) (p : Point) : Type 0 where
+pub record IsOpening (more : Bool) (limits : Limits) (p : Point) : Type 0 where
+  pub lines : p.more ≡ more
   pub state : p.whole.state ≡ opening limits
   pub keeper : IsFresh p.whole.keeper (shape_of limits)
   pub held : p.held ≡ []
 
 -- before any line of a script that goes on over this manager: its keeper begins with the slots, and nothing is held
-pub record Reopens (before : Whole) (p : Point) : Type 0 where
+pub record Reopens (more : Bool) (before : Whole) (p : Point) : Type 0 where
+  pub lines : p.more ≡ more
   pub state : p.whole.state ≡ before.state
   pub keeper : IsFreshWith p.whole.keeper (shape_of before.state.limits) before.keeper.slots
   pub held : p.held ≡ []
@@ -63,20 +67,20 @@ Prints p number Bad output q = (output ≡ bad_line number) × (q ≡ p)
 Prints p number ListNames output q = (output ≡ printed_names (directory_of p.whole.state)) × (q ≡ p)
 Prints p number (Asks call) output q = (reply : Reply) × Step p.whole call reply q.whole
     × Looks p.whole.keeper call reply q.whole.keeper × Spares p.held call reply × (q.held ≡ p.held)
-    × (output ≡ printed reply)
+    × (output ≡ printed reply) × (q.more ≡ p.more)
 Prints p number (Pin id) output q = (answer : Result Descr PinFault)
     × Pins p.whole.state p.held p.looks id answer q.held q.looks
-    × (q.whole ≡ p.whole) × (output ≡ printed_pin id answer ++ line_end)
+    × (q.whole ≡ p.whole) × (output ≡ printed_pin id answer ++ line_end) × (q.more ≡ p.more)
 Prints p number (Unpin id) output q = (done : Bool) × Unpins p.held id done q.held × (q.whole ≡ p.whole)
-    × (output ≡ printed_unpin id done ++ line_end)
+    × (output ≡ printed_unpin id done ++ line_end) × (q.more ≡ p.more)
 Prints p number (ShowCard id) output q = (output ≡ printed_card (shown_of p.whole.state p.held id) ++ line_end)
-    × (q.whole ≡ p.whole) × (q.held ≡ p.held)
+    × (q.whole ≡ p.whole) × (q.held ≡ p.held) × (q.more ≡ p.more)
 
 -- From there, the lines from this number on may print these, one after another, and end with the last.
 abbrev pub Run : Point → ℕ → List (List ℕ) → List (List ℕ) → Point → Type 0
 Run s number [] [] t = t ≡ s
-Run s number (line ∷ lines) (output ∷ outputs) t = (next : Point) × Prints s number (command_of line) output next
-    × Run next (number + 1) lines outputs t
+Run s number (line ∷ lines) (output ∷ outputs) t = (next : Point)
+    × Prints s number (command_of s.more line) output next × Run next (number + 1) lines outputs t
 Run s number [] (output ∷ outputs) t = ⊥
 Run s number (line ∷ lines) [] t = ⊥
 
@@ -126,9 +130,10 @@ pub record AnswersPart (first : Point) (input output : List ℕ) : Type 0 where
   pub last : Point
   pub answers : AnswersTo first input (output ++ missing) last
 
--- the whole input is answered, from a new manager with these limits and a new reader
-abbrev pub AnswersAll : Limits → List ℕ → List ℕ → Type 0
-AnswersAll limits input output = (first last : Point) × IsOpening limits first × AnswersTo first input output last
+-- the whole input is answered, from a new manager with these limits and a new reader, with the lines that `--more` adds
+-- or without them
+abbrev pub AnswersAll : Bool → Limits → List ℕ → List ℕ → Type 0
+AnswersAll more limits input output = (first last : Point) × IsOpening more limits first × AnswersTo first input output last
 
 -- how a run is cut short that begins so: after a read fault its complete lines are answered; after a write fault the
 -- answer to the input is begun; and where memory was wanting nothing was read or written
@@ -138,18 +143,18 @@ IsCut Write Begins input output = (first : Point) × Begins first × AnswersPart
 IsCut Memory Begins input output = (input ≡ []) × (output ≡ [])
 
 -- how a run over a new manager ended
-abbrev pub IsEnded : Result (Unit {0}) RunFault → Limits → List ℕ → List ℕ → Type 0
-IsEnded (Ok unit) limits input output = AnswersAll limits input output
-IsEnded (Err fault) limits input output = IsCut fault (IsOpening limits) input output
+abbrev pub IsEnded : Result (Unit {0}) RunFault → Bool → Limits → List ℕ → List ℕ → Type 0
+IsEnded (Ok unit) more limits input output = AnswersAll more limits input output
+IsEnded (Err fault) more limits input output = IsCut fault (IsOpening more limits) input output
 
 -- the same of a script that is in memory as a whole, so that no read can fail
-abbrev pub IsWholeEnded : Result (Unit {0}) RunFault → Limits → List ℕ → List ℕ → Type 0
-IsWholeEnded (Ok unit) limits input output = AnswersAll limits input output
-IsWholeEnded (Err Read) limits input output = ⊥
-IsWholeEnded (Err Write) limits input output = IsCut Write (IsOpening limits) input output
-IsWholeEnded (Err Memory) limits input output = output ≡ []
+abbrev pub IsWholeEnded : Result (Unit {0}) RunFault → Bool → Limits → List ℕ → List ℕ → Type 0
+IsWholeEnded (Ok unit) more limits input output = AnswersAll more limits input output
+IsWholeEnded (Err Read) more limits input output = ⊥
+IsWholeEnded (Err Write) more limits input output = IsCut Write (IsOpening more limits) input output
+IsWholeEnded (Err Memory) more limits input output = output ≡ []
 
 -- the whole input is answered, from a manager to what it has become
-abbrev pub GoesOn : Whole → List ℕ → List ℕ → Whole → Type 0
-GoesOn before input output after = (first last : Point) × Reopens before first
+abbrev pub GoesOn : Bool → Whole → List ℕ → List ℕ → Whole → Type 0
+GoesOn more before input output after = (first last : Point) × Reopens more before first
     × AnswersTo first input output last × (after ≡ last.whole)

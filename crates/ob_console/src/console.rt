@@ -34,18 +34,18 @@ impl Model for Console {
 }
 
 impl Console {
-    /// A console to which no line has come.
-    pub fn new(manager: Manager<Keeper>, reader: Reader, output: Output) -> Console
+    /// A console to which no line has come. With `more` it reads the lines that the option `--more` adds, too.
+    pub fn new(more: bool, manager: Manager<Keeper>, reader: Reader, output: Output) -> Console
         requires { manager.keeper.table ≡ Some reader.table }
         ensures { result ≡ record {
-          point = point manager reader.view;
+          point = point more manager reader.view;
           pending = output;
           held = Some [];
           lines = 0;
         } }
     {
         Console {
-            evaluator: Evaluator::new(manager, reader, output),
+            evaluator: Evaluator::new(more, manager, reader, output),
             held: PartialLine::new(),
             handles: Handles::new(),
         }

@@ -22,6 +22,7 @@ use std::marker::Model;
 /// Does what lines ask, over a manager and a reader of the same pins, and prints the answers.
 #[derive(Drop)]
 pub struct Evaluator {
+    more: bool,
     manager: Manager<Keeper>,
     reader: Reader,
     output: Output,
@@ -36,7 +37,7 @@ impl Model for Evaluator {
     ghost Value = { Evaluation };
 
     ghost view = { λ evaluator. record {
-      point = point evaluator.manager evaluator.reader.view;
+      point = point evaluator.more evaluator.manager evaluator.reader.view;
       pending = evaluator.output;
       lines = evaluator.lines;
     } };
@@ -45,12 +46,13 @@ impl Model for Evaluator {
 }
 
 impl Evaluator {
-    /// An evaluator to which no line has come.
-    pub fn new(manager: Manager<Keeper>, reader: Reader, output: Output) -> Evaluator
+    /// An evaluator to which no line has come. With `more` it reads the lines that the option `--more` adds, too.
+    pub fn new(more: bool, manager: Manager<Keeper>, reader: Reader, output: Output) -> Evaluator
         requires { manager.keeper.table ≡ Some reader.table }
-        ensures { result ≡ record { point = point manager reader.view; pending = output; lines = 0 } }
+        ensures { result ≡ record { point = point more manager reader.view; pending = output; lines = 0 } }
     {
         Evaluator {
+            more,
             manager,
             reader,
             output,
@@ -67,13 +69,13 @@ impl Evaluator {
         handles: &mut Handles,
     ) -> Result<(), NotWritten>
         requires { self.old.lines < 2 ^ 127 }
-        ensures prints { Enacts self.old (self.old.lines + 1) (command_of line.now) result (W.taken sink.old)
-            (W.taken sink.new) self.new }
+        ensures prints { Enacts self.old (self.old.lines + 1) (command_of self.old.point.more line.now) result
+            (W.taken sink.old) (W.taken sink.new) self.new }
         ensures lines { self.new.lines ≡ self.old.lines + 1 }
         ensures sink { UsesSink W.calls W.faults result sink.old sink.new self.old.pending self.new.pending }
     {
         self.lines += 1;
-        let act = command_of(line, handles);
+        let act = command_of(self.more, line, handles);
         self.enact(sink, &act, handles.as_slice())
     }
 
@@ -85,8 +87,8 @@ impl Evaluator {
         handles: &mut Handles,
     ) -> Result<(), NotWritten>
         requires { self.old.lines < 2 ^ 127 }
-        ensures prints { Enacts self.old (self.old.lines + 1) (command_of_partial_line held.now) result
-            (W.taken sink.old) (W.taken sink.new) self.new }
+        ensures prints { Enacts self.old (self.old.lines + 1) (command_of_partial_line self.old.point.more held.now)
+            result (W.taken sink.old) (W.taken sink.new) self.new }
         ensures lines { self.new.lines ≡ self.old.lines + 1 }
         ensures sink { UsesSink W.calls W.faults result sink.old sink.new self.old.pending self.new.pending }
     {

@@ -10,7 +10,7 @@
 //! let options = read_options(rt.alloc(), args)?;
 //! let mut source = Wired::new(rt.stdin());
 //! let mut sink = Wired::new(rt.stdout());
-//! run(rt.alloc(), options.limits, &mut source, &mut sink)?;
+//! run(rt.alloc(), options.more, options.limits, &mut source, &mut sink)?;
 //! ```
 //!
 //! [`run_lanes`] reads a script with lanes, and makes the calls of each lane on a thread of its own. [`script_of`] tells a

@@ -11,6 +11,8 @@ use thiserror::Error;
 pub struct Options {
     /// How much the manager may hold: each limit as its option says, or at its default.
     pub limits: Limits,
+    /// Whether the lines are read that `--more` adds.
+    pub more: bool,
     /// How many lanes a script has beside lane 0, at most 64, or 0 where all its lines are answered one after another.
     pub lanes: u32,
     /// The path of the savestate that the script begins with, and none where it begins with a new manager.
@@ -145,15 +147,16 @@ impl From<AllocError> for OptionsFault {
 
 /// Reads the arguments after the program's name, by the habits of `clap`: `--slots 4` or `--slots=4`, in any order,
 /// each option at most once, `--help` or `-h`, and `--version` or `-V`. The options are the *profile*'s: one for each
-/// limit of [`Limits`], `--reuse`, `--lanes`, `--load` and `--save`. A savestate has limits of its own, and lanes go
-/// over new managers alone: beside `--load` stands no limit and no `--reuse`, and beside `--load` and `--save` no
-/// `--lanes`.
+/// limit of [`Limits`], `--reuse`, `--more`, `--lanes`, `--load` and `--save`. A savestate has limits of its own, and
+/// lanes go over new managers alone: beside `--load` stands no limit and no `--reuse`, and beside `--load` and `--save`
+/// no `--lanes`.
 pub fn read_options(alloc: Global, args: Vec<String>) -> Result<Options, OptionsFault>
     ensures lanes { IfOk result (λ options. options.lanes ≤ 64) }
 {
     match command(alloc)?.try_get_matches_from(args.as_slice()) {
         Ok(matches) => Ok(Options {
             limits: limits_of(&matches)?,
+            more: matches.get_flag("more"),
             lanes: given(&matches, LANES, 0)?,
             load: path_of(alloc, &matches, "load")?,
             save: path_of(alloc, &matches, "save")?,
@@ -206,7 +209,8 @@ fn value_of<'a>(word: &'a str, next: Option<&'a String>) -> &'a str {
     }
 }
 
-/// The command, with an option for each limit, one for numbers that come back, one for lanes and two for savestates.
+/// The command, with an option for each limit, one for numbers that come back, one for more lines, one for lanes and two
+/// for savestates.
 fn command<'a>(alloc: Global) -> Result<Command<'a>, AllocError> {
     let mut command = Command::new(alloc, "obman")
         .no_binary_name(true)
@@ -218,7 +222,18 @@ fn command<'a>(alloc: Global) -> Result<Command<'a>, AllocError> {
         command = command.arg(number(alloc, option)?)?;
     }
     command
-        .arg(reuse(alloc)?)?
+        .arg(flag(
+            alloc,
+            "reuse",
+            "Numbers come back: a new process or thread has the least that no live one has, so that their limits are of \
+             those that live at a time, and a wait is called by its thread. Not beside --load",
+        )
+        .conflicts_with("load")?)?
+        .arg(flag(
+            alloc,
+            "more",
+            "Lines for objects of the host's own, too: host, signal, and open of one. Without it these are bad",
+        ))?
         .arg(number(alloc, LANES)?.conflicts_with("save")?)?
         .arg(path(
             alloc,
@@ -243,16 +258,12 @@ fn number<'a>(alloc: Global, option: NumberOption) -> Result<Arg<'a>, AllocError
         .conflicts_with("load")
 }
 
-/// The option for numbers that come back, which doesn't stand beside `--load`.
-fn reuse<'a>(alloc: Global) -> Result<Arg<'a>, AllocError> {
-    Arg::new(alloc, "reuse")
-        .long("reuse")
-        .help(
-            "Numbers come back: a new process or thread has the least that no live one has, so that their limits are of \
-             those that live at a time, and a wait is called by its thread. Not beside --load",
-        )
+/// The option of no value.
+fn flag<'a>(alloc: Global, name: &'a str, help: &'a str) -> Arg<'a> {
+    Arg::new(alloc, name)
+        .long(name)
+        .help(help)
         .action(ArgAction::SetTrue)
-        .conflicts_with("load")
 }
 
 /// The option of one path.

@@ -30,15 +30,18 @@ pub enum RunFault {
 /// Runs a script over a new manager and one reader of its pins: reads blocks to the end of the input, answers each
 /// line, and writes all answers to a block before it reads on. Takes memory only at its start, but for the manager's
 /// calls.
+///
+/// With `more` it reads the lines that the option `--more` adds, too; without it these are bad.
 pub fn run<R: Source, W: Sink>(
     alloc: Global,
+    more: bool,
     limits: Limits,
     reader: &mut R,
     writer: &mut W,
 ) -> Result<(), RunFault>
     ensures answers { (input output : List ℕ) × (R.given reader.new ≡ R.given reader.old ++ input)
         × (W.taken writer.new ≡ W.taken writer.old ++ output)
-        × IsEnded result limits input output }
+        × IsEnded result more limits input output }
     ensures ended { OnOk result (R.HasEnded reader.new) }
     ensures memory { IsErrOf result RunFault.Memory → (R.calls reader.new ≡ R.calls reader.old)
         × (W.calls writer.new ≡ W.calls writer.old) }
@@ -47,12 +50,13 @@ pub fn run<R: Source, W: Sink>(
     ensures reads { R.calls reader.new ≤ R.calls reader.old + calls_most }
     ensures writes { W.calls writer.new ≤ W.calls writer.old + calls_most }
 {
-    run_bounded(alloc, limits, CALLS_MOST, CALLS_MOST, reader, writer)
+    run_bounded(alloc, more, limits, CALLS_MOST, CALLS_MOST, reader, writer)
 }
 
 /// [`run`], with at most so many reads and so many writes.
 pub fn run_bounded<R: Source, W: Sink>(
     alloc: Global,
+    more: bool,
     limits: Limits,
     reads: u64,
     writes: u64,
@@ -61,7 +65,7 @@ pub fn run_bounded<R: Source, W: Sink>(
 ) -> Result<(), RunFault>
     ensures answers { (input output : List ℕ) × (R.given reader.new ≡ R.given reader.old ++ input)
         × (W.taken writer.new ≡ W.taken writer.old ++ output)
-        × IsEnded result limits input output }
+        × IsEnded result more limits input output }
     ensures ended { OnOk result (R.HasEnded reader.new) }
     ensures memory { IsErrOf result RunFault.Memory → (R.calls reader.new ≡ R.calls reader.old)
         × (W.calls writer.new ≡ W.calls writer.old) }
@@ -77,7 +81,7 @@ pub fn run_bounded<R: Source, W: Sink>(
     let Ok((pins, opening)) = Pins::new(alloc, limits.shape()) else {
         return Err(RunFault::Memory);
     };
-    let Some(mut console) = opened(alloc, limits, &pins, opening, writes) else {
+    let Some(mut console) = opened(alloc, more, limits, &pins, opening, writes) else {
         return Err(RunFault::Memory);
     };
     let answered = answer_all(&mut console, &mut block, reads, reader, writer);
@@ -89,12 +93,13 @@ pub fn run_bounded<R: Source, W: Sink>(
 /// nothing, so it never ends with [`RunFault::Read`].
 pub fn run_whole<W: Sink>(
     alloc: Global,
+    more: bool,
     limits: Limits,
     script: &[u8],
     writer: &mut W,
 ) -> Result<(), RunFault>
     ensures answers { (output : List ℕ) × (W.taken writer.new ≡ W.taken writer.old ++ output)
-        × IsWholeEnded result limits script.now output }
+        × IsWholeEnded result more limits script.now output }
     ensures memory { IsErrOf result RunFault.Memory → W.calls writer.new ≡ W.calls writer.old }
     ensures write { IsErrOf result RunFault.Write → FailedOrSpent W.faults W.calls writer.old writer.new calls_most }
     ensures writes { W.calls writer.new ≤ W.calls writer.old + calls_most }
@@ -102,7 +107,7 @@ pub fn run_whole<W: Sink>(
     let Ok((pins, opening)) = Pins::new(alloc, limits.shape()) else {
         return Err(RunFault::Memory);
     };
-    let Some(mut console) = opened(alloc, limits, &pins, opening, CALLS_MOST) else {
+    let Some(mut console) = opened(alloc, more, limits, &pins, opening, CALLS_MOST) else {
         return Err(RunFault::Memory);
     };
     let answered = answer_whole(&mut console, script, writer);
@@ -115,16 +120,17 @@ pub fn run_whole<W: Sink>(
 /// ([`Manager::save`](ob_manager::Manager::save)) has none of that.
 pub fn run_over<R: Source, W: Sink>(
     alloc: Global,
+    more: bool,
     manager: Manager<LockedPins>,
     reader: &mut R,
     writer: &mut W,
 ) -> Result<Manager<Keeper>, RunFault>
     ensures ok { IfOk result (λ after. (input output : List ℕ) × (R.given reader.new ≡ R.given reader.old ++ input)
         × (W.taken writer.new ≡ W.taken writer.old ++ output)
-        × GoesOn manager input output after) }
+        × GoesOn more manager input output after) }
     ensures err { IfErr result (λ fault. (input output : List ℕ) × (R.given reader.new ≡ R.given reader.old ++ input)
         × (W.taken writer.new ≡ W.taken writer.old ++ output)
-        × IsCut fault (Reopens manager) input output) }
+        × IsCut fault (Reopens more manager) input output) }
     ensures ended { OnOk result (R.HasEnded reader.new) }
     ensures memory { IsErrOf result RunFault.Memory → (R.calls reader.new ≡ R.calls reader.old)
         × (W.calls writer.new ≡ W.calls writer.old) }
@@ -138,7 +144,7 @@ pub fn run_over<R: Source, W: Sink>(
         drop(manager);
         return Err(RunFault::Memory);
     };
-    let Some(mut console) = reopened(alloc, manager, CALLS_MOST) else {
+    let Some(mut console) = reopened(alloc, more, manager, CALLS_MOST) else {
         return Err(RunFault::Memory);
     };
     match answer_all(&mut console, &mut block, CALLS_MOST, reader, writer) {
@@ -181,6 +187,7 @@ fn answer_whole<W: Sink>(
 /// wanting.
 fn opened(
     alloc: Global,
+    more: bool,
     limits: Limits,
     pins: &Pins,
     opening: Opening,
@@ -188,7 +195,7 @@ fn opened(
 ) -> Option<Console>
     requires same { opening ≡ pins.now }
     requires shape { opening.shape ≡ shape_of limits }
-    ensures opens { IfSome result (λ console. IsOpening limits console.point) }
+    ensures opens { IfSome result (λ console. IsOpening more limits console.point) }
     ensures ready { IfSome result (λ console. IsReady console) }
     ensures writes { IfSome result (λ console. console.pending.writes_left ≡ writes) }
 {
@@ -199,15 +206,15 @@ fn opened(
         return None;
     };
     match Manager::new(alloc, limits, keeper) {
-        Ok(manager) => Some(Console::new(manager, reader, output)),
+        Ok(manager) => Some(Console::new(more, manager, reader, output)),
         Err(_) => None,
     }
 }
 
 /// A console of which no line has come, over a manager that goes on over words, and a reader of these that holds
 /// nothing; none where memory is wanting.
-fn reopened(alloc: Global, manager: Manager<LockedPins>, writes: u64) -> Option<Console>
-    ensures reopens { IfSome result (λ console. Reopens manager console.point) }
+fn reopened(alloc: Global, more: bool, manager: Manager<LockedPins>, writes: u64) -> Option<Console>
+    ensures reopens { IfSome result (λ console. Reopens more manager console.point) }
     ensures ready { IfSome result (λ console. IsReady console) }
     ensures writes { IfSome result (λ console. console.pending.writes_left ≡ writes) }
 {
@@ -220,7 +227,7 @@ fn reopened(alloc: Global, manager: Manager<LockedPins>, writes: u64) -> Option<
         drop(manager);
         return None;
     };
-    Some(Console::new(manager.over(keeper), reader, output))
+    Some(Console::new(more, manager.over(keeper), reader, output))
 }
 
 /// Answers a script block by block, from a console of which no line has come, with at most so many reads.

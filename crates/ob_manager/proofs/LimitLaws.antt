@@ -28,7 +28,7 @@ use Rattle.ob_manager.specs.declared.reply.Reply.TheVariants as reply
 use Rattle.ob_manager.specs.declared.waiting.Timeout.{Timeout}
 use Rattle.ob_manager.specs.Outcomes.{Outcome, ◌>>=◌, or_refuse, refuse_if}
 use Rattle.ob_manager.specs.Checks.{caller, found}
-use Rattle.ob_manager.specs.Creating.{create, created, named_object, new_event, new_handle, new_mutex, new_object, new_semaphore, new_timer}
+use Rattle.ob_manager.specs.Creating.{create, created, named_object, new_event, new_handle, new_host, new_mutex, new_object, new_semaphore, new_timer}
 use Rattle.ob_manager.specs.Copying.{copied_to, is_stuck, is_wrong, leaves, with_source, without_source}
 use Rattle.ob_manager.specs.Reaping.{reap}
 use Rattle.ob_manager.specs.Waiting.{deadline_in, is_zero, pending, satisfied, shown, unsatisfied, wait_on}
@@ -145,6 +145,8 @@ outcome_keeps s (calls.MakeEvent t m manual set) reply = create_keeps s t m (Ok 
 outcome_keeps s (calls.MakeMutex t m owned) reply = create_keeps s t m (Ok (new_mutex t owned))
 outcome_keeps s (calls.MakeSemaphore t m initial max) reply = create_keeps s t m (new_semaphore initial max)
 outcome_keeps s (calls.MakeTimer t m manual) reply = create_keeps s t m (Ok (new_timer manual))
+outcome_keeps s (calls.MakeHost t m object_type manual signaled) reply =
+    create_keeps s t m (Ok (new_host object_type manual signaled))
 outcome_keeps s (calls.OpenNamed t k mask inherit text) reply = search (then_keeps, state_then, handle_keeps)
 outcome_keeps s (calls.Duplicate t source h target mask inherit options) reply =
     then_keeps s.limits (caller s t) _ (λ p. then_keeps s.limits

@@ -10,7 +10,7 @@ use Rattle.ob_rights.specs.declared.rights.Rights.{Rights}
 use Rattle.ob_rights.specs.Rights.{within}
 use Rattle.ob_tables.specs.declared.entry.Entry.{Entry}
 use Rattle.ob_body.specs.declared.body.Body.{Body}
-use Rattle.ob_body.specs.declared.body.Body.TheVariants.{Mutex, Semaphore}
+use Rattle.ob_body.specs.declared.body.Body.TheVariants.{Host, Mutex, Semaphore}
 use Rattle.ob_body.specs.Body.{kind_of, post_answer, unlock_answer}
 use Rattle.ob_body.specs.Mutex as mutex
 use Rattle.ob_body.specs.Semaphore as semaphore
@@ -28,8 +28,8 @@ use Rattle.ob_manager.specs.declared.reply.Reply.{Reply}
 use Rattle.ob_manager.specs.declared.reply.Reply.TheVariants as reply
 use Rattle.ob_manager.specs.Outcomes.{Outcome, ◌>>=◌, or_refuse, refuse_if}
 use Rattle.ob_manager.specs.Checks.{caller, found, if_kind, same_kind}
-use Rattle.ob_manager.specs.Signaling.{modified}
-use Rattle.ob_manager.specs.Creating.{create, created, name_in, named_object, new_event, new_handle, new_mutex, new_object, new_semaphore, new_timer, own_name, room_for, semaphore_of}
+use Rattle.ob_manager.specs.Signaling.{host_of, if_host, modified}
+use Rattle.ob_manager.specs.Creating.{create, created, name_in, named_object, new_event, new_handle, new_host, new_mutex, new_object, new_semaphore, new_timer, own_name, room_for, semaphore_of}
 use Rattle.ob_manager.specs.Copying.{admitted, asked_rights, copied_to, copy_rights, is_stuck, is_wrong, keeps_rights, leaves, with_source, without_source}
 use Rattle.ob_manager.specs.Reaping.{if_ended}
 use Rattle.ob_manager.specs.Waiting.{all_found, deadline_in, is_zero, objects_of, pending, satisfied, shown, unsatisfied, wait_on}
@@ -80,6 +80,13 @@ kind_wants k (Some b) = by (same_kind (kind_of b) k)
     by true = refl
     by false = refl
 
+host_wants : (b : Option Body) → wants (if_host b) ≡ false
+host_wants (Some (Host h)) = refl
+host_wants b = refl
+
+host_of_wants : (s : State) (id : Id) → wants (host_of s id) ≡ false
+host_of_wants s id = search (then_wants, or_wants, host_wants)
+
 modified_wants : (s : State) (t h : ℕ) (k : Kind) → wants (modified s t h k) ≡ false
 modified_wants s t h k = search (then_wants, caller_wants, found_wants, kind_wants, refuse_wants)
 
@@ -125,7 +132,7 @@ own_wants s p (Some text) = then_wants (name_in s p text) _ (name_wants s p text
 
 handle_wants : (s : State) (p : ℕ) (id : Id) (k : Kind) (asked : Rights) (inherit : Bool)
     → wants (new_handle s p id k asked inherit) ≡ false
-handle_wants s p id k asked inherit = search (then_wants, or_wants, refuse_wants)
+handle_wants s p id k asked inherit = search (then_wants, or_wants, kind_wants, refuse_wants)
 
 room_wants : (s : State) (p : ℕ) (m : Making) (k : Kind) → wants (room_for s p m k) ≡ false
 room_wants s p m k = search (then_wants, or_wants, refuse_wants)
@@ -233,6 +240,8 @@ outcome_answers s (calls.MakeMutex t m owned) reply = create_answers s t m (Ok (
 outcome_answers s (calls.MakeSemaphore t m initial max) reply =
     create_answers s t m (new_semaphore initial max) (semaphore_wants initial max)
 outcome_answers s (calls.MakeTimer t m manual) reply = create_answers s t m (Ok (new_timer manual)) refl
+outcome_answers s (calls.MakeHost t m object_type manual signaled) reply =
+    create_answers s t m (Ok (new_host object_type manual signaled)) refl
 outcome_answers s (calls.Duplicate t source h target mask inherit options) reply =
     andThen (caller s t) _ (caller_wants s t) (λ p. andThen
     (or_refuse (get_or s.processes source None) fault.Parameter) _ (or_wants _ fault.Parameter refl) (λ session.
@@ -253,6 +262,7 @@ outcome_answers s call reply =
       refuse_wants,
       or_wants,
       unlock_wants,
+      host_of_wants,
       name_wants,
       handle_wants,
       objects_wants,

@@ -13,6 +13,7 @@ is_plain (calls.MakeEvent thread making manual set) = false
 is_plain (calls.MakeMutex thread making owned) = false
 is_plain (calls.MakeSemaphore thread making initial max) = false
 is_plain (calls.MakeTimer thread making manual) = false
+is_plain (calls.MakeHost thread making object_type manual signaled) = false
 is_plain (calls.OpenNamed thread kind mask inherit text) = false
 is_plain (calls.WaitFor thread mode timeout handles) = false
 is_plain call = true
@@ -30,6 +31,8 @@ with_parts f g h (calls.MakeEvent thread make manual set) = calls.MakeEvent thre
 with_parts f g h (calls.MakeMutex thread make owned) = calls.MakeMutex thread (f make) owned
 with_parts f g h (calls.MakeSemaphore thread make initial max) = calls.MakeSemaphore thread (f make) initial max
 with_parts f g h (calls.MakeTimer thread make manual) = calls.MakeTimer thread (f make) manual
+with_parts f g h (calls.MakeHost thread make object_type manual signaled) =
+    calls.MakeHost thread (f make) object_type manual signaled
 with_parts f g h (calls.OpenNamed thread kind mask inherit text) = calls.OpenNamed thread kind mask inherit (g text)
 with_parts f g h (calls.Duplicate thread source handle target mask inherit options) =
     calls.Duplicate thread source handle target mask inherit options
@@ -40,6 +43,7 @@ with_parts f g h (calls.SetEvent thread handle) = calls.SetEvent thread handle
 with_parts f g h (calls.ResetEvent thread handle) = calls.ResetEvent thread handle
 with_parts f g h (calls.ReleaseSemaphore thread handle count) = calls.ReleaseSemaphore thread handle count
 with_parts f g h (calls.ReleaseMutex thread handle) = calls.ReleaseMutex thread handle
+with_parts f g h (calls.SignalHost id signaled) = calls.SignalHost id signaled
 with_parts f g h (calls.SetTimer thread handle due) = calls.SetTimer thread handle due
 with_parts f g h (calls.CancelTimer thread handle) = calls.CancelTimer thread handle
 with_parts f g h (calls.Tick now) = calls.Tick now

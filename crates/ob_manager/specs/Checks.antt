@@ -4,7 +4,7 @@ use Rattle.pin_core.specs.declared.id.Id.{Id}
 use Rattle.ob_rights.specs.declared.fault.Fault.{Fault}
 use Rattle.ob_rights.specs.declared.fault.Fault.TheVariants as fault
 use Rattle.ob_rights.specs.declared.kind.Kind.{Kind}
-use Rattle.ob_rights.specs.declared.kind.Kind.TheVariants.{Event, Mutex, Semaphore, Timer}
+use Rattle.ob_rights.specs.declared.kind.Kind.TheVariants.{Event, Mutex, Semaphore, Timer, Host}
 use Rattle.ob_rights.specs.declared.rights.Rights.{Rights}
 use Rattle.ob_rights.specs.Rights.{within}
 use Rattle.ob_body.specs.declared.body.Body.{Body}
@@ -31,12 +31,13 @@ caller s thread = do
 abbrev pub found : State → ℕ → ℕ → Result Entry Fault
 found s process handle = or_refuse (entry_at (table_of s.tables process) handle) fault.Handle
 
--- whether two kinds are the same
+-- whether two kinds are the same; those of a host's objects where their types are
 abbrev pub same_kind : Kind → Kind → Bool
 same_kind Event Event = true
 same_kind Mutex Mutex = true
 same_kind Semaphore Semaphore = true
 same_kind Timer Timer = true
+same_kind (Host t) (Host u) = t == u
 same_kind a b = false
 
 -- the body of an object of a kind, else 6

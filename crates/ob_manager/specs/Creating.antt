@@ -11,6 +11,7 @@ use Rattle.ob_rights.specs.declared.handle_flags.HandleFlags.{HandleFlags}
 use Rattle.ob_rights.specs.Rights.{all_access, within}
 use Rattle.ob_arena.specs.Slots.{least_vacant}
 use Rattle.ob_body.specs.declared.body.Body.TheVariants as body
+use Rattle.ob_body.specs.Body.{kind_of}
 use Rattle.ob_body.specs.Mutex as mutex
 use Rattle.ob_name.specs.Names.{ObjectName}
 use Rattle.ob_name.specs.Texts.{name_of}
@@ -25,7 +26,7 @@ use Rattle.ob_store.specs.Objects.{ObjectAttributes}
 use Rattle.ob_store.specs.State.{State, id_at, is_full, settled, vacancy, with_entry, with_object}
 use Rattle.ob_store.specs.Directory.{directory_of}
 use Rattle.ob_manager.specs.Outcomes.{Outcome, ◌>>=◌, or_refuse, refuse_if}
-use Rattle.ob_manager.specs.Checks.{caller, same_kind, is_allowed, positive, natural}
+use Rattle.ob_manager.specs.Checks.{caller, body_of, is_allowed, positive, natural}
 
 -- the rights that are asked for, and those that opens may get: all of the kind's, unless others are given
 abbrev pub or_all : Kind → Option Rights → Rights
@@ -72,9 +73,9 @@ room_for s process making kind = do
 -- a new object, and a handle to it with the rights that are asked for
 abbrev pub new_object : State → ℕ → Making → New → Option ObjectName → Result Outcome Fault
 new_object s process making new name = do
-  slot ← room_for s process making new.descr.kind
-  let attributes : ObjectAttributes = record { descr = new.descr; grant = or_all new.descr.kind making.grant; name = name } in
-      let entry : Entry = entry_of (id_at s slot) (or_all new.descr.kind making.access) making.inherit in
+  slot ← room_for s process making (kind_of new.body)
+  let attributes : ObjectAttributes = record { descr = new.descr; grant = or_all (kind_of new.body) making.grant; name = name } in
+      let entry : Entry = entry_of (id_at s slot) (or_all (kind_of new.body) making.access) making.inherit in
       Ok (record {
         reply = Made (next_handle s process) (id_at s slot);
         state = settled (with_entry (with_object s slot attributes new.body) process entry);
@@ -84,7 +85,7 @@ new_object s process making new name = do
 abbrev pub new_handle : State → ℕ → Id → Kind → Rights → Bool → Result State Fault
 new_handle s process id kind asked inherit = do
   o ← or_refuse (slice_index_or s.objects id.slot None) fault.Handle
-  _ ← refuse_if (not (same_kind o.descr.kind kind)) fault.Handle
+  _ ← body_of s id kind
   _ ← refuse_if (not (is_allowed asked o.grant)) fault.Access
   _ ← refuse_if (is_full s process) fault.Limit
   Ok (settled (with_entry s process (entry_of id asked inherit)))
@@ -93,7 +94,7 @@ new_handle s process id kind asked inherit = do
 abbrev pub named_object : State → ℕ → Making → New → ObjectName → Option Id → Result Outcome Fault
 named_object s process making new name None = new_object s process making new (Some name)
 named_object s process making new name (Some id) = do
-  after ← new_handle s process id new.descr.kind (or_all new.descr.kind making.access) making.inherit
+  after ← new_handle s process id (kind_of new.body) (or_all (kind_of new.body) making.access) making.inherit
   Ok (record { reply = Exists (next_handle s process) id; state = after })
 
 abbrev pub created : State → ℕ → Making → New → Option ObjectName → Result Outcome Fault
@@ -105,7 +106,7 @@ abbrev pub create : State → ℕ → Making → Result New Fault → Result Out
 create s thread making what = do
   process ← caller s thread
   new ← what
-  _ ← refuse_if (not (within (or_all new.descr.kind making.grant).0 (all_access new.descr.kind).0)) fault.Parameter
+  _ ← refuse_if (not (within (or_all (kind_of new.body) making.grant).0 (all_access (kind_of new.body)).0)) fault.Parameter
   name ← own_name s process making.name
   created s process making new name
 
@@ -150,6 +151,13 @@ new_timer manual = record {
   body = body.Timer (record { manual = manual; signaled = false; due = None });
 }
 
+-- an object of the host's own, which a descriptor tells as an event
+abbrev pub new_host : ℕ → Bool → Bool → New
+new_host object_type manual signaled = record {
+  descr = event_descr manual;
+  body = body.Host (record { object_type = object_type; event = record { manual = manual; set = signaled } });
+}
+
 abbrev pub create_event : State → ℕ → Making → Bool → Bool → Result Outcome Fault
 create_event s thread making manual set = create s thread making (Ok (new_event manual set))
 
@@ -161,6 +169,10 @@ create_semaphore s thread making initial max = create s thread making (new_semap
 
 abbrev pub create_timer : State → ℕ → Making → Bool → Result Outcome Fault
 create_timer s thread making manual = create s thread making (Ok (new_timer manual))
+
+abbrev pub create_host : State → ℕ → Making → ℕ → Bool → Bool → Result Outcome Fault
+create_host s thread making object_type manual signaled =
+    create s thread making (Ok (new_host object_type manual signaled))
 
 -- 2 for a name that no object has, whatever the rights are
 abbrev pub open_named : State → ℕ → Kind → Rights → Bool → List ℕ → Result Outcome Fault

@@ -12,6 +12,8 @@ pub mod Counting
 pub mod States
 pub mod Ending
 pub mod Reaping
+pub mod HostData
+pub mod HostDataLaws
 pub mod Savestates
 pub mod Rising
 pub mod Waiting

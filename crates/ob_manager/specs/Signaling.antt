@@ -1,16 +1,18 @@
--- Setting and resetting events, and releasing semaphores and mutexes.
-use Rattle.std.specs.Prelude.{ℕ, Result, Ok, ℤ}
+-- Setting and resetting events, releasing semaphores and mutexes, and signaling objects of the host's own.
+use Rattle.std.specs.Prelude.{ℕ, Bool, if◌then◌else◌, Option, Some, None, Result, Ok, Err, ℤ, slice_index_or}
 use Rattle.pin_core.specs.declared.id.Id.{Id}
 use Rattle.ob_rights.specs.declared.fault.Fault.{Fault}
 use Rattle.ob_rights.specs.declared.fault.Fault.TheVariants as fault
 use Rattle.ob_rights.specs.declared.kind.Kind.{Kind}
 use Rattle.ob_rights.specs.declared.kind.Kind.TheVariants as kind
 use Rattle.ob_body.specs.declared.body.Body.{Body}
+use Rattle.ob_body.specs.declared.body.Body.TheVariants as body
 use Rattle.ob_body.specs.Body.{after_set, after_reset, after_post, after_unlock, post_answer, unlock_answer}
 use Rattle.ob_manager.specs.declared.reply.Reply.TheVariants.{Done, Previous}
 use Rattle.ob_store.specs.State.{State, settled, with_body}
 use Rattle.ob_manager.specs.Outcomes.{Outcome, ◌>>=◌, or_refuse}
 use Rattle.ob_manager.specs.Checks.{caller, found, body_of, granted, positive}
+use Rattle.ob_manager.specs.Counting.{object_of}
 
 -- the right MODIFY_STATE
 abbrev pub modify_state : ℕ
@@ -55,3 +57,20 @@ release_mutex s thread handle = do
   mutex ← body_of s entry.id kind.Mutex
   _ ← unlock_answer thread mutex
   Ok (record { reply = Done; state = settled (with_body s entry.id (after_unlock thread mutex)) })
+
+-- the body of a host's object, else 6
+abbrev pub if_host : Option Body → Result Body Fault
+if_host (Some (body.Host h)) = Ok (body.Host h)
+if_host other = Err fault.Handle
+
+abbrev pub host_of : State → Id → Result Body Fault
+host_of s id = do
+  _ ← or_refuse (object_of s id) fault.Handle
+  if_host (slice_index_or s.bodies id.slot None)
+
+-- the host signals an object of its own by its Id, or resets it: it needs no handle and no right
+abbrev pub signal_host : State → Id → Bool → Result Outcome Fault
+signal_host s id signaled = do
+  host ← host_of s id
+  let after : Body = if signaled then after_set host else after_reset host in
+      Ok (record { reply = Done; state = settled (with_body s id after) })

@@ -4,7 +4,7 @@ use Rattle.pin_core.specs.declared.id.Id.{Id}
 use Rattle.ob_body.specs.declared.body.Body.{Body}
 use Rattle.ob_body.specs.declared.body.Body.TheVariants as body
 use Rattle.ob_manager.specs.declared.object_state.ObjectState.{ObjectState}
-use Rattle.ob_manager.specs.declared.object_state.ObjectState.TheVariants.{Event, Mutex, Semaphore, Timer, Ended}
+use Rattle.ob_manager.specs.declared.object_state.ObjectState.TheVariants.{Event, Mutex, Semaphore, Timer, Host, Ended}
 use Rattle.ob_store.specs.Objects.{Object}
 use Rattle.ob_store.specs.State.{State}
 use Rattle.ob_manager.specs.Counting.{object_of}
@@ -16,6 +16,7 @@ state_of_body (Some (body.Event e)) = Event e.set
 state_of_body (Some (body.Mutex m)) = Mutex m.owner m.recursion m.abandoned
 state_of_body (Some (body.Semaphore s)) = Semaphore s.count s.maximum
 state_of_body (Some (body.Timer t)) = Timer t.signaled t.due
+state_of_body (Some (body.Host h)) = Host h.object_type h.event.set
 
 abbrev pub state_in : Option Object → Option Body → Option ObjectState
 state_in None body = None

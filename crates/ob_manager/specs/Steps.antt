@@ -14,10 +14,10 @@ use Rattle.ob_store.specs.State.{State, Whole}
 use Rattle.ob_store.specs.Moves.{OnlyCloses}
 use Rattle.ob_manager.specs.Outcomes.{Outcome, Refuses}
 use Rattle.ob_manager.specs.Processes.{spawn, child, thread}
-use Rattle.ob_manager.specs.Creating.{create_event, create_mutex, create_semaphore, create_timer, open_named, takes_place}
+use Rattle.ob_manager.specs.Creating.{create_event, create_host, create_mutex, create_semaphore, create_timer, open_named, takes_place}
 use Rattle.ob_manager.specs.Handles.{close, handle_flags, set_handle_flags}
 use Rattle.ob_manager.specs.Copying.{duplicate, is_copy}
-use Rattle.ob_manager.specs.Signaling.{set_event, reset_event, release_semaphore, release_mutex}
+use Rattle.ob_manager.specs.Signaling.{set_event, reset_event, release_semaphore, release_mutex, signal_host}
 use Rattle.ob_manager.specs.Timing.{set_timer, cancel_timer, tick}
 use Rattle.ob_manager.specs.Counting.{counts}
 use Rattle.ob_manager.specs.Ending.{end_thread, exit}
@@ -39,6 +39,8 @@ outcome_of s (calls.MakeEvent thread making manual set) reply = create_event s t
 outcome_of s (calls.MakeMutex thread making owned) reply = create_mutex s thread making owned
 outcome_of s (calls.MakeSemaphore thread making initial max) reply = create_semaphore s thread making initial max
 outcome_of s (calls.MakeTimer thread making manual) reply = create_timer s thread making manual
+outcome_of s (calls.MakeHost thread making object_type manual signaled) reply =
+    create_host s thread making object_type manual signaled
 outcome_of s (calls.OpenNamed thread kind mask inherit text) reply = open_named s thread kind mask inherit text
 outcome_of s (calls.Duplicate thread source handle target mask inherit options) reply =
     duplicate s thread source handle target mask inherit options
@@ -49,6 +51,7 @@ outcome_of s (calls.SetEvent thread handle) reply = set_event s thread handle
 outcome_of s (calls.ResetEvent thread handle) reply = reset_event s thread handle
 outcome_of s (calls.ReleaseSemaphore thread handle count) reply = release_semaphore s thread handle count
 outcome_of s (calls.ReleaseMutex thread handle) reply = release_mutex s thread handle
+outcome_of s (calls.SignalHost id signaled) reply = signal_host s id signaled
 outcome_of s (calls.SetTimer thread handle due) reply = set_timer s thread handle due
 outcome_of s (calls.CancelTimer thread handle) reply = cancel_timer s thread handle
 outcome_of s (calls.Tick now) reply = tick s now
@@ -70,6 +73,7 @@ takes_memory s (calls.MakeEvent thread making manual set) = true
 takes_memory s (calls.MakeMutex thread making owned) = true
 takes_memory s (calls.MakeSemaphore thread making initial max) = true
 takes_memory s (calls.MakeTimer thread making manual) = true
+takes_memory s (calls.MakeHost thread making object_type manual signaled) = true
 takes_memory s (calls.OpenNamed thread kind mask inherit text) = takes_place s (slice_index_or s.threads thread None)
 takes_memory s (calls.Duplicate thread source handle target mask inherit options) =
     is_copy (duplicate s thread source handle target mask inherit options) && takes_place s target

@@ -70,6 +70,19 @@ pub enum CallOf<M, T, H> {
         /// Whether only setting it resets it.
         manual: bool,
     },
+    /// `Manager::create_host`.
+    MakeHost {
+        /// The calling thread.
+        thread: u32,
+        /// What it asks for.
+        make: M,
+        /// The type of the object, which the host chooses.
+        object_type: u8,
+        /// Whether it stays signaled until the host resets it; else the wait that it satisfies resets it.
+        manual: bool,
+        /// Whether it begins signaled.
+        signaled: bool,
+    },
     /// `Manager::open_named`.
     OpenNamed {
         /// The calling thread.
@@ -155,6 +168,13 @@ pub enum CallOf<M, T, H> {
         /// The handle.
         handle: u32,
     },
+    /// `Manager::signal_host`.
+    SignalHost {
+        /// The object.
+        id: Id,
+        /// Whether it is to be signaled, or reset.
+        signaled: bool,
+    },
     /// `Manager::set_timer`.
     SetTimer {
         /// The calling thread.
@@ -238,6 +258,7 @@ impl<M, T, H> CallOf<M, T, H> {
                 | CallOf::MakeMutex { .. }
                 | CallOf::MakeSemaphore { .. }
                 | CallOf::MakeTimer { .. }
+                | CallOf::MakeHost { .. }
                 | CallOf::OpenNamed { .. }
                 | CallOf::WaitFor { .. }
         )
@@ -295,6 +316,7 @@ impl<M, T, H> CallOf<M, T, H> {
                 count,
             },
             CallOf::ReleaseMutex { thread, handle } => CallOf::ReleaseMutex { thread, handle },
+            CallOf::SignalHost { id, signaled } => CallOf::SignalHost { id, signaled },
             CallOf::SetTimer {
                 thread,
                 handle,
@@ -365,6 +387,19 @@ impl<M: AsMake, T: AsSlice<u8>, H> CallOf<M, T, H> {
                 thread: *thread,
                 make: make.as_make().owned(alloc)?,
                 manual: *manual,
+            }),
+            CallOf::MakeHost {
+                thread,
+                make,
+                object_type,
+                manual,
+                signaled,
+            } => Ok(Call::MakeHost {
+                thread: *thread,
+                make: make.as_make().owned(alloc)?,
+                object_type: *object_type,
+                manual: *manual,
+                signaled: *signaled,
             }),
             CallOf::OpenNamed {
                 thread,

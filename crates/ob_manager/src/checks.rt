@@ -3,7 +3,7 @@ ghost use Rattle.ob_body.specs.Body as spec;
 ghost use Rattle.ob_store.specs.Kept.{IsLive};
 ghost use Rattle.ob_tables.specs.Table.{entry_at};
 ghost use Rattle.ob_tables.specs.Tables.{table_of};
-ghost use Rattle.ob_manager.specs.Checks.{body_of, caller, found, granted, is_allowed, natural, positive, same_kind};
+ghost use Rattle.ob_manager.specs.Checks.{body_of, caller, found, granted, if_kind, is_allowed, natural, positive, same_kind};
 
 use ob_body::Body;
 use ob_rights::{Fault, Kind, Rights, within};
@@ -38,7 +38,7 @@ pub fn found<K: PinKeeper>(store: &Store<K>, process: u32, handle: u32) -> Resul
     store.look(process, handle).ok_or(Fault::Handle)
 }
 
-/// Whether two kinds are the same.
+/// Whether two kinds are the same, and the types of two of a host's objects.
 pub fn same_kind(a: Kind, b: Kind) -> bool
     ensures { result ≡ same_kind a b }
 {
@@ -47,7 +47,21 @@ pub fn same_kind(a: Kind, b: Kind) -> bool
         | (Kind::Mutex, Kind::Mutex)
         | (Kind::Semaphore, Kind::Semaphore)
         | (Kind::Timer, Kind::Timer) => true,
+        (Kind::Host(one), Kind::Host(other)) => one == other,
         _ => false,
+    }
+}
+
+/// A body; refused with 6 where there is none, and where it isn't of the kind.
+#[inline(always)]
+pub fn if_kind(kind: Kind, body: Option<Body>) -> Result<Body, Fault>
+    ensures value { result ≡ if_kind kind body }
+    ensures is_there { IfOk result (λ it. body ≡ Some it) }
+    ensures kind { IfOk result (λ it. spec.kind_of it ≡ kind) }
+{
+    match body {
+        Some(body) if same_kind(body.kind(), kind) => Ok(body),
+        _ => Err(Fault::Handle),
     }
 }
 
@@ -57,13 +71,7 @@ pub fn body_of<K: PinKeeper>(store: &Store<K>, id: Id, kind: Kind) -> Result<Bod
     ensures is_there { IfOk result (λ body. slice_index_or store.now.state.bodies id.slot None ≡ Some body) }
     ensures kind { IfOk result (λ body. spec.kind_of body ≡ kind) }
 {
-    let Some(body) = store.body(id) else {
-        return Err(Fault::Handle);
-    };
-    if same_kind(body.kind(), kind) {
-        return Ok(body);
-    }
-    Err(Fault::Handle)
+    if_kind(kind, store.body(id))
 }
 
 /// Refused with 5 where the handle wasn't granted the right.

@@ -12,14 +12,14 @@ ghost use Rattle.ob_arena.specs.Slots.{is_vacant_at};
 ghost use Rattle.ob_store.specs.State.{handles_of, is_full, vacancy};
 ghost use Rattle.ob_store.specs.Kept.{IsLive, form_in};
 ghost use Rattle.ob_manager.specs.Makings.{making_of};
-ghost use Rattle.ob_manager.specs.Creating.{create, create_event, create_mutex, create_semaphore, create_timer};
-ghost use Rattle.ob_manager.specs.Creating.{created, flags_of, name_in, new_event, new_handle, new_mutex, new_object};
+ghost use Rattle.ob_manager.specs.Creating.{create, create_event, create_host, create_mutex, create_semaphore, create_timer};
+ghost use Rattle.ob_manager.specs.Creating.{created, flags_of, name_in, new_event, new_handle, new_host, new_mutex, new_object};
 ghost use Rattle.ob_manager.specs.Creating.{new_semaphore, new_timer, next_handle, open_named, or_all, room_for};
 ghost use Rattle.ob_manager.specs.Creating.{takes_place};
 ghost use Rattle.ob_manager.specs.Outcomes.{Refuses};
 ghost use Rattle.ob_manager.specs.Steps.{GivesOrLacks};
 
-use crate::checks::{caller, is_allowed, natural, positive, same_kind};
+use crate::checks::{caller, if_kind, is_allowed, natural, positive};
 use crate::making::{AsMake, Make};
 use crate::reply::Reply;
 use ob_body::Body;
@@ -126,6 +126,20 @@ fn new_timer(manual: bool) -> New
     }
 }
 
+/// What a new object of the host's own is.
+fn new_host(object_type: u8, manual: bool, signaled: bool) -> New
+    ensures { result ≡ new_host object_type manual signaled }
+{
+    New {
+        descr: Descr {
+            kind: Kind::Event,
+            manual,
+            max: 0,
+        },
+        body: Body::new_host(object_type, manual, signaled),
+    }
+}
+
 /// What a name that a caller gives stands for in its session.
 #[tactic(auto, using(crate::proofs::Refusing::name_known))]
 fn name_in<'a, K: PinKeeper>(
@@ -171,15 +185,15 @@ fn room_for<K: PinKeeper>(
 fn creation_of(make: &Make<'_>, new: New) -> Creation
     ensures descr { result.descr ≡ new.descr }
     ensures body { result.body ≡ new.body }
-    ensures grant { result.grant ≡ or_all new.descr.kind make.now.grant }
-    ensures rights { result.rights ≡ or_all new.descr.kind make.now.access }
+    ensures grant { result.grant ≡ or_all (spec.kind_of new.body) make.now.grant }
+    ensures rights { result.rights ≡ or_all (spec.kind_of new.body) make.now.access }
     ensures flags { result.flags ≡ flags_of make.now.inherit }
 {
     Creation {
         descr: new.descr,
         body: new.body,
-        grant: or_all(new.descr.kind, make.grant),
-        rights: or_all(new.descr.kind, make.access),
+        grant: or_all(new.body.kind(), make.grant),
+        rights: or_all(new.body.kind(), make.access),
         flags: flags_of(make.inherit),
     }
 }
@@ -199,7 +213,7 @@ fn new_nameless<K: PinKeeper>(
     ensures { GivesOrLacks result store.old store.new
         (new_object store.old.state process (making_of make.now) new None) }
 {
-    let slot = room_for(store, process, make, new.descr.kind)?;
+    let slot = room_for(store, process, make, new.body.kind())?;
     let id = store.id_at(slot);
     let handle = store.add_nameless(process, slot, creation_of(make, new))?;
     Ok(Reply::Made { handle, id })
@@ -222,7 +236,7 @@ fn new_named<K: PinKeeper>(
     ensures { GivesOrLacks result store.old store.new
         (new_object store.old.state process (making_of make.now) new (Some (name_at name.now))) }
 {
-    let slot = room_for(store, process, make, new.descr.kind)?;
+    let slot = room_for(store, process, make, new.body.kind())?;
     let id = store.id_at(slot);
     let handle = store.add_named(process, slot, creation_of(make, new), name)?;
     Ok(Reply::Made { handle, id })
@@ -251,9 +265,7 @@ fn new_handle<K: PinKeeper>(
     let Some(found) = store.object(id.slot) else {
         return Err(Fault::Handle);
     };
-    if !same_kind(found.label.descr.kind, kind) {
-        return Err(Fault::Handle);
-    }
+    if_kind(kind, found.header.body)?;
     if !is_allowed(rights, found.header.grant) {
         return Err(Fault::Access);
     }
@@ -284,8 +296,9 @@ fn named_object<K: PinKeeper>(
     let Some(id) = store.find(name) else {
         return new_named(store, process, make, new, name);
     };
-    let rights = or_all(new.descr.kind, make.access);
-    let handle = new_handle(store, process, id, new.descr.kind, rights, make.inherit)?;
+    let kind = new.body.kind();
+    let rights = or_all(kind, make.access);
+    let handle = new_handle(store, process, id, kind, rights, make.inherit)?;
     Ok(Reply::Exists { handle, id })
 }
 
@@ -306,10 +319,8 @@ fn create<K: PinKeeper>(
 {
     let process = caller(store, thread)?;
     let new = what?;
-    if !within(
-        or_all(new.descr.kind, make.grant),
-        all_access(new.descr.kind),
-    ) {
+    let kind = new.body.kind();
+    if !within(or_all(kind, make.grant), all_access(kind)) {
         return Err(Fault::Parameter);
     }
     let Some(text) = make.name else {
@@ -370,6 +381,26 @@ pub fn create_timer<K: PinKeeper, M: AsMake>(
         (create_timer store.old.state thread (M.making make.now) manual) }
 {
     create(store, thread, &make.as_make(), Ok(new_timer(manual)))
+}
+
+/// Makes a new object of the host's own, or a handle to the one of its type that has the name already.
+pub fn create_host<K: PinKeeper, M: AsMake>(
+    store: &mut Store<K>,
+    thread: u32,
+    make: &M,
+    object_type: u8,
+    manual: bool,
+    signaled: bool,
+) -> Result<Reply, Fault>
+    ensures { GivesOrLacks result store.old store.new
+        (create_host store.old.state thread (M.making make.now) object_type manual signaled) }
+{
+    create(
+        store,
+        thread,
+        &make.as_make(),
+        Ok(new_host(object_type, manual, signaled)),
+    )
 }
 
 /// Makes a handle to the object of a name.

@@ -42,6 +42,8 @@ impl<K: PinKeeper> Manager<K> {
                 creating::create_semaphore(&mut self.store, *thread, make, *initial, *max),
             CallOf::MakeTimer { thread, make, manual } =>
                 creating::create_timer(&mut self.store, *thread, make, *manual),
+            CallOf::MakeHost { thread, make, object_type, manual, signaled } =>
+                creating::create_host(&mut self.store, *thread, make, *object_type, *manual, *signaled),
             CallOf::OpenNamed { thread, kind, mask, inherit, text } =>
                 creating::open_named(&mut self.store, *thread, *kind, *mask, *inherit, text.as_slice()),
             CallOf::Duplicate { thread, source, handle, target, mask, inherit, options } =>
@@ -55,6 +57,7 @@ impl<K: PinKeeper> Manager<K> {
             CallOf::ReleaseSemaphore { thread, handle, count } =>
                 signaling::release_semaphore(&mut self.store, *thread, *handle, *count),
             CallOf::ReleaseMutex { thread, handle } => signaling::release_mutex(&mut self.store, *thread, *handle),
+            CallOf::SignalHost { id, signaled } => signaling::signal_host(&mut self.store, *id, *signaled),
             CallOf::SetTimer { thread, handle, due } => timing::set_timer(&mut self.store, *thread, *handle, *due),
             CallOf::CancelTimer { thread, handle } => timing::cancel_timer(&mut self.store, *thread, *handle),
             CallOf::Tick { now } => timing::tick(&mut self.store, *now),

@@ -2,7 +2,8 @@ ghost use Rattle.std.specs.Prelude.{◌≡◌, ℕ, List, Ok, false};
 ghost use Rattle.ob_codec.specs.Spelling.{AreBytes};
 ghost use Rattle.ob_manager.specs.Calls.{Call};
 ghost use Rattle.ob_manager.specs.declared.reply.Reply.{Reply};
-ghost use Rattle.ob_manager.specs.Savestates.{load, saved};
+ghost use Rattle.ob_manager.specs.HostData.{HostData};
+ghost use Rattle.ob_manager.specs.Savestates.{load, load_with, saved, saved_with};
 ghost use Rattle.ob_manager.specs.Steps.{Step, is_lack, next, reclaim_in};
 ghost use Rattle.ob_store.specs.State.{Whole};
 
@@ -19,7 +20,10 @@ pub fn law_of_steps()
         → v.state.limits ≡ w.state.limits }
 {}
 
-/// Bytes that load are the savestate of the state that they give, so a state has just one savestate.
+/// Bytes that load are the savestate of the state that they give, so a state has just one savestate; and so with what a
+/// host keeps.
 pub fn law_of_savestates()
     ensures takes { (bytes : List ℕ) (w : Whole) → AreBytes bytes → load bytes ≡ Ok w → bytes ≡ saved w }
+    ensures takes_with { (bytes : List ℕ) (w : Whole) (kept : HostData) → AreBytes bytes
+        → load_with bytes ≡ Ok (w, kept) → bytes ≡ saved_with kept w }
 {}

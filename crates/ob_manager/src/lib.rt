@@ -27,6 +27,7 @@ mod creating;
 mod door;
 mod ending;
 mod handles;
+mod host_data;
 mod law;
 mod making;
 mod manager;
@@ -44,6 +45,7 @@ mod walking;
 
 pub use call::{Ask, Call, CallOf};
 pub use card::Card;
+pub use host_data::{HostData, ObjectData};
 pub use law::{law_of_savestates, law_of_steps};
 pub use making::{AsMake, Make, Making, Text};
 pub use manager::Manager;

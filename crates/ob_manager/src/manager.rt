@@ -230,6 +230,34 @@ impl<K: PinKeeper> Manager<K> {
         })
     }
 
+    /// A new object of the host's own, such as a thread, a process or a file, or a handle to the one of this type that
+    /// has the name already, as [`create_event`](Manager::create_event) makes an event. One that is `manual` stays
+    /// signaled until the host resets it, another until it satisfies a wait. It is refused in the same way; all rights of
+    /// such an object are each standard right and each specific one (0x1F_FFFF), of which `make` says those of its type.
+    ///
+    /// Waits take it as they take an event, [`open_named`](Manager::open_named) opens it as
+    /// [`Kind::Host`](ob_rights::Kind), and each call for another kind of object is refused with 6. A descriptor tells it
+    /// as an event.
+    pub fn create_host(
+        &mut self,
+        thread: u32,
+        make: &Make<'_>,
+        object_type: u8,
+        manual: bool,
+        signaled: bool,
+    ) -> Reply
+        ensures { Step self.old (calls.MakeHost thread (making_of make.now) object_type manual signaled) result self.new }
+    {
+        let make = *make;
+        self.call(&Ask::MakeHost {
+            thread,
+            make,
+            object_type,
+            manual,
+            signaled,
+        })
+    }
+
     /// A handle to the object of a name: `Opened` ([OpenEvent]).
     ///
     /// Refused with 87 where the thread isn't live, 170 where it waits; for the name with 206, 87 or 3; 2 where no
@@ -389,6 +417,16 @@ impl<K: PinKeeper> Manager<K> {
         ensures { Step self.old (calls.ReleaseMutex thread handle) result self.new }
     {
         self.call(&Ask::ReleaseMutex { thread, handle })
+    }
+
+    /// Signals an object of the host's own, or resets it: `Done`. It is the host's call, which needs no handle, no thread
+    /// and no right.
+    ///
+    /// Refused with 6 where no such object has the Id.
+    pub fn signal_host(&mut self, id: Id, signaled: bool) -> Reply
+        ensures { Step self.old (calls.SignalHost id signaled) result self.new }
+    {
+        self.call(&Ask::SignalHost { id, signaled })
     }
 
     /// Sets a timer: `Done` ([SetWaitableTimer]). `due` is a moment in units of 100 ns, or below 0 so many units from

@@ -37,6 +37,13 @@ pub enum ObjectState {
         /// The moment at which it becomes signaled, if it is set.
         due: Option<u64>,
     },
+    /// An object of the host's own.
+    Host {
+        /// Its type, which the host chose.
+        object_type: u8,
+        /// Whether it is signaled.
+        signaled: bool,
+    },
     /// The object ended: no handle and no pending wait names it, and its slot can be taken back.
     Ended,
 }
@@ -59,6 +66,10 @@ fn state_of_body(body: &Option<Body>) -> ObjectState
         Some(Body::Timer(timer)) => ObjectState::Timer {
             signaled: timer.is_signaled(),
             due: timer.due(),
+        },
+        Some(Body::Host(host)) => ObjectState::Host {
+            object_type: host.object_type,
+            signaled: host.event.set,
         },
         None => ObjectState::Ended,
     }

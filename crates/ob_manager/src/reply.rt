@@ -47,7 +47,8 @@ pub enum Reply {
     },
     /// The handle was closed.
     Closed,
-    /// An event was set or reset, a mutex released, a timer set or cancelled, or the flags of a handle were set.
+    /// An event or an object of the host's own was set or reset, a mutex released, a timer set or cancelled, or the flags
+    /// of a handle were set.
     Done,
     /// The flags of a handle.
     Flags {

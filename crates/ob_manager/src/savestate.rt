@@ -3,11 +3,12 @@ ghost use Rattle.ob_codec.specs.Reading.{Gives, GivesAll, number_at, where_at};
 ghost use Rattle.pin_core.specs.Opened.{Opens};
 ghost use Rattle.pin_words.specs.Keepers.{IsFreshWith, state_of};
 ghost use Rattle.pin_words.specs.Views.{keeper_gave, keeper_with_slots};
-ghost use Rattle.ob_manager.specs.Savestates.{is_mark, load, saved};
+ghost use Rattle.ob_manager.specs.Savestates.{data_behind, is_mark, load, load_with, saved, saved_with};
 ghost use Rattle.ob_store.specs.SavedStore.{begun_again};
 ghost use Rattle.ob_store.specs.State.{shape_of};
 ghost use Rattle.std.specs.Int.{w64};
 
+use crate::host_data::HostData;
 use crate::manager::Manager;
 use ob_codec::{Cursor, ReadFault, Spelled, TextFault, seal, unseal};
 use ob_rights::Fault;
@@ -19,6 +20,9 @@ use std::alloc::{AllocError, Global};
 // The letters OBJS, and the version of the format: 1.
 const MARK: u64 = 0x1_534a_424f;
 
+// The letters OBJD, and the version of the format with what a host keeps: 1.
+const DATA_MARK: u64 = 0x1_444a_424f;
+
 /// Reads the mark of a savestate of this version.
 fn read_mark(from: &mut Cursor<'_>) -> Result<u64, ReadFault>
     ensures { Gives (λ mark. mark) result (where_at is_mark (number_at w64) from.old) from.new }
@@ -28,6 +32,24 @@ fn read_mark(from: &mut Cursor<'_>) -> Result<u64, ReadFault>
         return Err(ReadFault::Text(TextFault::Value));
     }
     Ok(mark)
+}
+
+/// Reads what a host keeps behind its mark; nothing is kept behind the other. [`TextFault::Value`] where that is neither,
+/// and where nothing is kept though the mark says so.
+fn read_data(alloc: Global, mark: u64, from: &mut Cursor<'_>) -> Result<HostData, ReadFault>
+    ensures { Gives (λ kept. kept) result (data_behind mark from.old) from.new }
+{
+    if mark == DATA_MARK {
+        let kept = HostData::read(alloc, from)?;
+        if kept.is_empty() {
+            return Err(ReadFault::Text(TextFault::Value));
+        }
+        return Ok(kept);
+    }
+    if mark == MARK {
+        return Ok(HostData::new(alloc));
+    }
+    Err(ReadFault::Text(TextFault::Value))
 }
 
 impl<K: PinKeeper> Manager<K> {
@@ -44,6 +66,23 @@ impl<K: PinKeeper> Manager<K> {
     {
         let mut bytes = Vec::new(alloc);
         MARK.write(&mut bytes)?;
+        self.store.write(&mut bytes)?;
+        seal(&mut bytes)?;
+        Ok(bytes)
+    }
+
+    /// The same with what a host keeps, for [`load_with`](Manager::load_with): where it keeps nothing, as
+    /// [`save`](Manager::save) has it.
+    pub fn save_with(&self, alloc: Global, kept: &HostData) -> Result<Vec<u8>, AllocError>
+        ensures saved { IfOk result (λ bytes. bytes.items ≡ saved_with kept.now self.now) }
+        ensures again { IfOk result (λ bytes. load_with bytes.items ≡ Ok (begun_again self.now, kept.now)) }
+    {
+        if kept.is_empty() {
+            return self.save(alloc);
+        }
+        let mut bytes = Vec::new(alloc);
+        DATA_MARK.write(&mut bytes)?;
+        kept.write(&mut bytes)?;
         self.store.write(&mut bytes)?;
         seal(&mut bytes)?;
         Ok(bytes)
@@ -74,6 +113,24 @@ impl Manager<LockedPins> {
         let store = Store::read(alloc, &mut from)?;
         from.end()?;
         Ok(Manager { store })
+    }
+
+    /// The manager of a savestate with what a host kept, as [`save_with`](Manager::save_with) wrote it, and of one in
+    /// which it kept nothing. It is refused as [`load`](Manager::load) refuses.
+    pub fn load_with(
+        alloc: Global,
+        bytes: &[u8],
+    ) -> Result<(Manager<LockedPins>, HostData), ReadFault>
+        ensures gives { GivesAll (λ read. (read.0, read.1)) result (load_with bytes.now) }
+        ensures digest { (fault : TextFault) → unsealed bytes.now ≡ Err fault → result ≡ Err (Text fault) }
+    {
+        let text = unseal(bytes)?;
+        let mut from = Cursor::new(text);
+        let mark = from.eight()?;
+        let kept = read_data(alloc, mark, &mut from)?;
+        let store = Store::read(alloc, &mut from)?;
+        from.end()?;
+        Ok((Manager { store }, kept))
     }
 
     /// The slots: another keeper has to begin with these, if the manager is to go on over it.

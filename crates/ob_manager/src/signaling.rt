@@ -1,10 +1,15 @@
-ghost use Rattle.ob_manager.specs.Signaling.{release_mutex, release_semaphore, reset_event, set_event};
+ghost use Rattle.std.specs.Prelude.{◌≡◌, IfOk, None, Some, true, slice_index_or};
+ghost use Rattle.ob_body.specs.Body as spec;
+ghost use Rattle.ob_manager.specs.Signaling.{release_mutex, release_semaphore, reset_event, set_event, signal_host};
+ghost use Rattle.ob_manager.specs.Signaling.{host_of};
 ghost use Rattle.ob_manager.specs.Steps.{Gives};
 
 use crate::checks::{body_of, caller, found, granted, positive};
 use crate::reply::Reply;
+use ob_body::Body;
 use ob_rights::{Fault, Kind, Rights};
 use ob_store::Store;
+use pin_core::Id;
 use pin_words::PinKeeper;
 
 /// Sets an event.
@@ -74,5 +79,40 @@ pub fn release_mutex<K: PinKeeper>(
     let entry = found(store, process, handle)?;
     let mutex = body_of(store, entry.id, Kind::Mutex)?;
     store.unlock(entry.id, mutex, thread)?;
+    Ok(Reply::Done)
+}
+
+/// The body of an object of the host's own; refused with 6 where no such object has the Id.
+fn host_of<K: PinKeeper>(store: &Store<K>, id: Id) -> Result<Body, Fault>
+    ensures value { result ≡ host_of store.now.state id }
+    ensures is_there { IfOk result (λ body. slice_index_or store.now.state.bodies id.slot None ≡ Some body) }
+    ensures settable { IfOk result (λ body. spec.is_settable body ≡ true) }
+{
+    let Some(found) = store.object(id.slot) else {
+        return Err(Fault::Handle);
+    };
+    if found.header.id != id {
+        return Err(Fault::Handle);
+    }
+    match found.header.body {
+        Some(Body::Host(host)) => Ok(Body::Host(host)),
+        _ => Err(Fault::Handle),
+    }
+}
+
+/// Signals an object of the host's own, or resets it.
+pub fn signal_host<K: PinKeeper>(
+    store: &mut Store<K>,
+    id: Id,
+    signaled: bool,
+) -> Result<Reply, Fault>
+    ensures { Gives result store.old store.new (signal_host store.old.state id signaled) }
+{
+    let host = host_of(store, id)?;
+    if signaled {
+        store.set(id, host);
+    } else {
+        store.reset(id, host);
+    }
     Ok(Reply::Done)
 }

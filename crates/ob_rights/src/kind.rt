@@ -11,4 +11,7 @@ pub enum Kind {
     Semaphore,
     /// Signaled from a due moment on; reset when it is set again, or by the wait that it satisfies.
     Timer,
+    /// An object of the host's own, such as a thread, a process or a file, that a wait takes as it takes an event. The
+    /// number is its type, which the host chooses.
+    Host(u8),
 }

@@ -68,12 +68,14 @@ pub fn within(asked: Rights, held: Rights) -> bool
     held.contains(asked)
 }
 
-/// All rights that an object of a kind has: the kind's `ALL_ACCESS`.
+/// All rights that an object of a kind has: the kind's `ALL_ACCESS`. Those of a host's object are each standard right
+/// and each specific one, as `THREAD_ALL_ACCESS` and `PROCESS_ALL_ACCESS` have them.
 pub fn all_access(kind: Kind) -> Rights
     ensures { result ≡ all_access kind }
 {
     match kind {
         Kind::Event | Kind::Semaphore | Kind::Timer => Rights::EVENT_ALL_ACCESS,
         Kind::Mutex => Rights::MUTEX_ALL_ACCESS,
+        Kind::Host(_) => Rights(0x001F_FFFF),
     }
 }

@@ -8,7 +8,7 @@ use Rattle.memchr.specs.Find.{is_byte}
 use Rattle.std.proofs.lemmas.Fmt.{decimal_is_IsNumeral}
 use Rattle.pin_core.specs.declared.id.Id.{Id}
 use Rattle.ob_rights.specs.declared.kind.Kind.{Kind}
-use Rattle.ob_rights.specs.declared.kind.Kind.TheVariants.{Event}
+use Rattle.ob_rights.specs.declared.kind.Kind.TheVariants.{Event, Mutex, Semaphore, Timer, Host}
 use Rattle.ob_rights.specs.declared.rights.Rights.{Rights}
 use Rattle.ob_waits.specs.declared.wait.Mode.{Mode}
 use Rattle.ob_waits.specs.declared.wait.Mode.TheVariants.{Any, All}
@@ -16,9 +16,9 @@ use Rattle.ob_manager.specs.declared.waiting.Timeout.{Timeout}
 use Rattle.ob_manager.specs.declared.waiting.Timeout.TheVariants.{Zero, Infinite, Millis}
 use Rattle.ob_manager.specs.Makings.{Making}
 use Rattle.ob_manager.specs.Copying.{closes, keeps_rights}
-use Rattle.ob_script.specs.Words.{words_of, joined, begins_with, behind, labelled, number_of, id_of, mask_of, kind_of, either_of, are_handles, handles_in, ◌>>=◌}
+use Rattle.ob_script.specs.Words.{words_of, joined, begins_with, behind, labelled, number_of, id_of, mask_of, kind_of, type_of, either_of, are_handles, handles_in, ◌>>=◌}
 use Rattle.ob_script.specs.Grammar.{masked, text_of_words, name_of, named, make_of, target_of, access_of, closing_of, mode_of, timeout_of}
-use Rattle.ob_script.specs.Fitting.{FitsMake, FitsTarget, FitsTimeout, FitHandles}
+use Rattle.ob_script.specs.Fitting.{FitsKind, FitsMake, FitsTarget, FitsTimeout, FitHandles}
 use Rattle.ob_script.specs.Writing.{label, id_word, mask_word, either_word, word_if, mask_words, text_words, name_words, make_words, kind_word, mode_word, timeout_word, target_word}
 use Rattle.ob_script.proofs.Cuts.{words_joined}
 use Rattle.ob_script.proofs.Numerals.{reads_number, reads_mask}
@@ -154,13 +154,22 @@ pub access_is_word : (same : Bool) (mask : Rights) → is_word (if same then cod
 access_is_word true mask = refl
 access_is_word false mask = hex_word mask.0
 
-pub reads_kind : (kind : Kind) → kind_of (kind_word kind) ≡ Some kind
-reads_kind Event = refl
-reads_kind kind = refl
+pub reads_type : (object_type : ℕ) → object_type ≤ 255 → type_of (label 107 object_type) ≡ Some object_type
+reads_type object_type fits = search (arith, reads_number)
+
+pub reads_kind : (kind : Kind) → FitsKind kind → kind_of true (kind_word kind) ≡ Some kind
+reads_kind Event fits = refl
+reads_kind Mutex fits = refl
+reads_kind Semaphore fits = refl
+reads_kind Timer fits = refl
+reads_kind (Host object_type) fits = search (arith, reads_type)
 
 pub kind_is_word : (kind : Kind) → is_word (kind_word kind) ≡ true
 kind_is_word Event = refl
-kind_is_word kind = refl
+kind_is_word Mutex = refl
+kind_is_word Semaphore = refl
+kind_is_word Timer = refl
+kind_is_word (Host object_type) = decimal_word object_type
 
 pub either_is_word : (first second : List ℕ) (is_so : Bool) → is_word first ≡ true → is_word second ≡ true
     → is_word (either_word first second is_so) ≡ true

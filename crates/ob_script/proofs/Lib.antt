@@ -12,6 +12,7 @@ pub mod Numerals
 pub mod Spaces
 pub mod Fields
 pub mod ReadBack
+pub mod Added
 pub mod Alike
 pub mod Fitted
 pub mod Short

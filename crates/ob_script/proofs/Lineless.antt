@@ -18,11 +18,11 @@ use Rattle.ob_manager.specs.declared.reply.Reply.TheVariants.{Refused}
 use Rattle.ob_manager.specs.Makings.{Making}
 use Rattle.ob_manager.specs.Outcomes.{Outcome, ◌>>=◌}
 use Rattle.ob_manager.specs.Copying.{closes, duplicate, is_wrong, keeps_rights}
-use Rattle.ob_manager.specs.Creating.{create, name_in, new_event, new_mutex, new_semaphore, new_timer, open_named, own_name}
+use Rattle.ob_manager.specs.Creating.{create, name_in, new_event, new_host, new_mutex, new_semaphore, new_timer, open_named, own_name}
 use Rattle.ob_manager.specs.Timing.{tick}
 use Rattle.ob_manager.specs.Waiting.{wait}
 use Rattle.ob_manager.specs.Steps.{Step, does, closes as closes_source, lacks, KeeperAfter, final, outcome_of}
-use Rattle.ob_script.specs.Fitting.{Fits, FitsMake, FitsTarget, FitsTimeout, FitHandles}
+use Rattle.ob_script.specs.Fitting.{Fits, FitsKind, FitsMake, FitsTarget, FitsTimeout, FitHandles}
 use Rattle.ob_script.specs.Writing.{label, either_word, word_if, name_words, make_words, handle_words, words_for, can_be_said, line_of, mask_word, kind_word}
 use Rattle.ob_script.proofs.Short.{IsShort, AreShort, no_feed, have_line, number_short, label_short, id_short, signed_short, mask_short, known_short, kind_short, mode_short, timeout_short, target_short, access_short, handles_short, append_short, if_short, masks_short, make_few}
 
@@ -97,10 +97,10 @@ nameless_fails : (s : State) (thread : ℕ) (kind : Kind) (mask : Rights) (inher
 nameless_fails s thread kind mask inherit text fails = search (rest_fails, first_fails)
 
 open_fails : (s : State) (thread : ℕ) (kind : Kind) (mask : Rights) (inherit : Bool) (text : List ℕ)
-    → thread ≤ 4294967295 → mask.0 ≤ 4294967295
+    → thread ≤ 4294967295 → mask.0 ≤ 4294967295 → FitsKind kind
     → line_of (calls.OpenNamed thread kind mask inherit text) ≡ None
     → is_ok (open_named s thread kind mask inherit text) ≡ false
-open_fails s thread kind mask inherit text fits mask_fits none = by (is_nameable text) refl
+open_fails s thread kind mask inherit text fits mask_fits kind_fits none = by (is_nameable text) refl
   where
     call : Call
     call = calls.OpenNamed thread kind mask inherit text
@@ -118,7 +118,7 @@ open_fails s thread kind mask inherit text fits mask_fits none = by (is_nameable
           (
             search (arith, wide, label_short),
             (
-              kind_short 260 wide kind,
+              kind_short 260 wide kind kind_fits,
               (
                 mask_short 260 wide mask mask_fits,
                 append_short 260 wide (word_if inherit (codes "inherit")) named
@@ -273,8 +273,23 @@ fails s (calls.MakeTimer thread make manual) reply fits none =
       ),
     )
     (omega arith) refl refl fits.1 none
+fails s (calls.MakeHost thread make object_type manual signaled) reply fits none =
+    create_fails s thread make (Ok (new_host object_type manual signaled))
+    (calls.MakeHost thread make object_type manual signaled)
+    (codes "host" ∷ label 116 thread ∷ label 107 object_type ∷ either_word (codes "auto") (codes "manual") manual
+    ∷ either_word (codes "clear") (codes "set") signaled ∷ []) (
+      word (codes "host") (omega arith) refl,
+      (
+        label_short 260 wide 116 thread refl fits.0,
+        (
+          label_short 260 wide 107 object_type refl (omega (arith, fits.2)),
+          search arith,
+        ),
+      ),
+    )
+    (omega arith) refl refl fits.1 none
 fails s (calls.OpenNamed thread kind mask inherit text) reply fits none =
-    open_fails s thread kind mask inherit text fits.0 fits.1 none
+    open_fails s thread kind mask inherit text fits.0 fits.1 fits.2 none
 fails s (calls.Duplicate thread source handle target mask inherit options) reply fits none = search (arith, dup_fails)
 fails s (calls.CloseHandle thread handle) reply fits none =
     absurd (have_line 260 (calls.CloseHandle thread handle) refl
@@ -305,6 +320,15 @@ fails s (calls.ReleaseSemaphore thread handle count) reply fits none =
 fails s (calls.ReleaseMutex thread handle) reply fits none =
     absurd (have_line 260 (calls.ReleaseMutex thread handle) refl
     (handle_short (codes "unlock") thread handle [] (search arith) fits.0 fits.1 tt)
+    (omega arith) none)
+fails s (calls.SignalHost id signaled) reply fits none =
+    absurd (have_line 260 (calls.SignalHost id signaled) refl (
+      word (codes "signal") (omega arith) refl,
+      (
+        id_short 130 (omega arith) id fits.0 fits.1,
+        search arith,
+      ),
+    )
     (omega arith) none)
 fails s (calls.SetTimer thread handle due) reply fits none =
     absurd (have_line 260 (calls.SetTimer thread handle due) refl

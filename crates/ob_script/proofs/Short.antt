@@ -6,7 +6,7 @@ use Rattle.std.proofs.lemmas.Fmt.{length-decimal-le}
 use Rattle.std.proofs.lemmas.List.Folds.{list_all-append}
 use Rattle.pin_core.specs.declared.id.Id.{Id}
 use Rattle.ob_rights.specs.declared.kind.Kind.{Kind}
-use Rattle.ob_rights.specs.declared.kind.Kind.TheVariants.{Event, Mutex, Semaphore, Timer}
+use Rattle.ob_rights.specs.declared.kind.Kind.TheVariants.{Event, Mutex, Semaphore, Timer, Host}
 use Rattle.ob_rights.specs.declared.rights.Rights.{Rights}
 use Rattle.ob_waits.specs.declared.wait.Mode.{Mode}
 use Rattle.ob_waits.specs.declared.wait.Mode.TheVariants.{Any, All}
@@ -15,7 +15,7 @@ use Rattle.ob_manager.specs.declared.waiting.Timeout.TheVariants.{Zero, Infinite
 use Rattle.ob_manager.specs.Makings.{Making}
 use Rattle.ob_manager.specs.Calls.{Call}
 use Rattle.ob_script.specs.Words.{joined}
-use Rattle.ob_script.specs.Fitting.{FitsMask, FitsSign, FitsTarget, FitsTimeout, FitHandles}
+use Rattle.ob_script.specs.Fitting.{FitsKind, FitsMask, FitsSign, FitsTarget, FitsTimeout, FitHandles}
 use Rattle.ob_script.specs.Writing.{label, id_word, mask_word, either_word, word_if, mask_words, make_words, kind_word, mode_word, timeout_word, target_word, words_for, can_be_said, line_of}
 use Rattle.ob_script.proofs.Numerals.{digits_pass, hex_few}
 
@@ -100,11 +100,12 @@ module _ (most : ℕ) (room : 21 ≤ most) where
   either_short first second true first_is second_is = second_is
   either_short first second false first_is second_is = first_is
 
-  pub kind_short : (kind : Kind) → IsShort most (kind_word kind)
-  kind_short Event = search arith
-  kind_short Mutex = search arith
-  kind_short Semaphore = search arith
-  kind_short Timer = search arith
+  pub kind_short : (kind : Kind) → FitsKind kind → IsShort most (kind_word kind)
+  kind_short Event fits = search arith
+  kind_short Mutex fits = search arith
+  kind_short Semaphore fits = search arith
+  kind_short Timer fits = search arith
+  kind_short (Host object_type) fits = label_short 107 object_type refl (omega (arith, fits))
 
   pub mode_short : (mode : Mode) → IsShort most (mode_word mode)
   mode_short Any = search arith

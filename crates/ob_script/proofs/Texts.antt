@@ -1,12 +1,13 @@
 -- What a capped text is.
-use Rattle.std.proofs.Common.{◌≡◌, ℕ, List, ◌++◌, arith}
+use Rattle.std.proofs.Common.{◌≡◌, ℕ, Bool, List, ◌++◌, arith}
 use Rattle.std.proofs.lemmas.List.{length-append, length-take}
 use Rattle.ob_script.specs.Grammar.{command_of}
 use Rattle.ob_script.specs.PartialLines.{capped, extended_line, command_of_partial_line}
 
 -- what is kept of a line is enough to say what it is
-pub command_of_capped : (line : List ℕ) → command_of_partial_line (capped line) ≡ command_of line
-command_of_capped line = search (arith, length-take)
+pub command_of_capped : (more : Bool) (line : List ℕ)
+    → command_of_partial_line more (capped line) ≡ command_of more line
+command_of_capped more line = search (arith, length-take)
 
 -- and to go on
 pub more_capped : (text part : List ℕ) → extended_line (capped text) part ≡ capped (text ++ part)

@@ -8,5 +8,5 @@ skips : (b : Bool) (rest : Command) → rest ≡ Bad → (if b then Bad else res
 skips true rest bad = refl
 skips false rest bad = bad
 
-pub lone_is_bad : (word : List ℕ) → command_of_words (word ∷ []) ≡ Bad
-lone_is_bad word = search (skips) depth 32
+pub lone_is_bad : (more : Bool) (word : List ℕ) → command_of_words more (word ∷ []) ≡ Bad
+lone_is_bad more word = search (skips) depth 36

@@ -1,5 +1,7 @@
 -- The numbers of a call are those of their types.
 use Rattle.std.specs.Prelude.{ℕ, ◌<◌, ◌≤◌, List, [], ◌∷◌, Option, Some, None, ℤ, pos, negsuc}
+use Rattle.ob_rights.specs.declared.kind.Kind.{Kind}
+use Rattle.ob_rights.specs.declared.kind.Kind.TheVariants.{Host}
 use Rattle.ob_rights.specs.declared.rights.Rights.{Rights}
 use Rattle.ob_manager.specs.declared.waiting.Timeout.{Timeout}
 use Rattle.ob_manager.specs.declared.waiting.Timeout.TheVariants.{Zero, Infinite, Millis}
@@ -20,6 +22,11 @@ FitsSign limit (negsuc n) = n < limit
 abbrev pub FitsMask : Option Rights → Type 0
 FitsMask None = Unit {0}
 FitsMask (Some mask) = mask.0 ≤ 4294967295
+
+-- a type of a host's objects is a byte
+abbrev pub FitsKind : Kind → Type 0
+FitsKind (Host object_type) = object_type ≤ 255
+FitsKind kind = Unit {0}
 
 -- a create's masks fit 32 bits
 pub record FitsMake (make : Making) : Type 0 where
@@ -51,7 +58,8 @@ Fits (calls.MakeMutex thread make owned) = Small thread × FitsMake make
 Fits (calls.MakeSemaphore thread make initial max) = Small thread × FitsMake make × FitsSign 2147483648 initial
     × FitsSign 2147483648 max
 Fits (calls.MakeTimer thread make manual) = Small thread × FitsMake make
-Fits (calls.OpenNamed thread kind mask inherit text) = Small thread × Small mask.0
+Fits (calls.MakeHost thread make object_type manual signaled) = Small thread × FitsMake make × (object_type ≤ 255)
+Fits (calls.OpenNamed thread kind mask inherit text) = Small thread × Small mask.0 × FitsKind kind
 Fits (calls.Duplicate thread source handle target mask inherit options) = Small thread × Small source × Small handle
     × FitsTarget target × Small mask.0
 Fits (calls.CloseHandle thread handle) = Small thread × Small handle
@@ -61,6 +69,7 @@ Fits (calls.SetEvent thread handle) = Small thread × Small handle
 Fits (calls.ResetEvent thread handle) = Small thread × Small handle
 Fits (calls.ReleaseSemaphore thread handle count) = Small thread × Small handle × FitsSign 2147483648 count
 Fits (calls.ReleaseMutex thread handle) = Small thread × Small handle
+Fits (calls.SignalHost id signaled) = Small id.slot × Small id.generation
 Fits (calls.SetTimer thread handle due) = Small thread × Small handle × FitsSign 9223372036854775808 due
 Fits (calls.CancelTimer thread handle) = Small thread × Small handle
 Fits (calls.Tick now) = Unit {0}

@@ -1,7 +1,7 @@
 -- The grammar of a script: what each line is. T is a thread behind the letter t, P a process behind p, H a handle
--- behind h, W a wait behind w, K a slot behind s and S an object; M is a mask, N a number, I one with a sign, V a
--- moment, and D when a timer is due.
-use Rattle.std.specs.Prelude.{ℕ, ◌+◌, ◌-◌, ◌==◌, ◌||◌, nat_lt, List, [], ◌∷◌, Option, Some, None, if◌then◌else◌, length, codes, slice_index, take}
+-- behind h, W a wait behind w, K a slot behind s and S an object; Y is a type of a host's objects behind k, M a mask, N a
+-- number, I one with a sign, V a moment, and D when a timer is due.
+use Rattle.std.specs.Prelude.{ℕ, ◌+◌, ◌-◌, ◌==◌, ◌&&◌, ◌||◌, nat_lt, Bool, List, [], ◌∷◌, Option, Some, None, if◌then◌else◌, length, codes, slice_index, take}
 use Rattle.std.specs.Str.{bytes_eq}
 use Rattle.pin_core.specs.declared.id.Id.{Id}
 use Rattle.ob_rights.specs.declared.rights.Rights.{Rights}
@@ -11,9 +11,9 @@ use Rattle.ob_manager.specs.declared.waiting.Timeout.{Timeout}
 use Rattle.ob_manager.specs.declared.waiting.Timeout.TheVariants.{Infinite, Millis}
 use Rattle.ob_manager.specs.Makings.{Making}
 use Rattle.ob_manager.specs.Calls.{Call}
-use Rattle.ob_manager.specs.declared.call.CallOf.TheVariants.{Spawn, Child, StartThread, MakeEvent, MakeMutex, MakeSemaphore, MakeTimer, OpenNamed, Duplicate, CloseHandle, GetFlags, SetFlags, SetEvent, ResetEvent, ReleaseSemaphore, ReleaseMutex, SetTimer, CancelTimer, Tick, WaitFor, WaitResult, Expire, EndThread, Exit, Reap, Counts}
+use Rattle.ob_manager.specs.declared.call.CallOf.TheVariants.{Spawn, Child, StartThread, MakeEvent, MakeMutex, MakeSemaphore, MakeTimer, MakeHost, OpenNamed, Duplicate, CloseHandle, GetFlags, SetFlags, SetEvent, ResetEvent, ReleaseSemaphore, ReleaseMutex, SignalHost, SetTimer, CancelTimer, Tick, WaitFor, WaitResult, Expire, EndThread, Exit, Reap, Counts}
 use Rattle.ob_script.specs.Commands.{Command, Nothing, Bad, ListNames, Asks, Pin, Unpin, ShowCard}
-use Rattle.ob_script.specs.Words.{words_of, joined, begins_with, behind, number_of, signed_of, moment_of, due_of, mask_of, kind_of, labelled, id_of, either_of, are_handles, handles_in, ◌>>=◌}
+use Rattle.ob_script.specs.Words.{words_of, joined, begins_with, behind, number_of, signed_of, moment_of, due_of, mask_of, kind_of, labelled, id_of, type_of, either_of, are_handles, handles_in, ◌>>=◌}
 
 -- `[KEYWORD M]`: the mask, where there is one, and the words behind it
 abbrev pub some_mask : List (List ℕ) → Option (Option Rights × List (List ℕ))
@@ -101,15 +101,34 @@ timer_of (thread ∷ reset ∷ words) = do
   Some (MakeTimer thread make manual)
 timer_of words = None
 
--- `open T event|mutex|semaphore|timer M [inherit] name TEXT`
-abbrev pub open_of : List (List ℕ) → Option Call
-open_of (thread ∷ kind ∷ mask ∷ words) = do
+-- with `--more` `host T Y auto|manual clear|set [inherit] [access M] [grant M] [name TEXT]`
+abbrev pub host_of : List (List ℕ) → Option Call
+host_of (thread ∷ object_type ∷ reset ∷ state ∷ words) = do
   thread ← labelled 116 thread
-  kind ← kind_of kind
+  object_type ← type_of object_type
+  manual ← either_of (codes "auto") (codes "manual") reset
+  signaled ← either_of (codes "clear") (codes "set") state
+  make ← make_of words
+  Some (MakeHost thread make object_type manual signaled)
+host_of words = None
+
+-- with `--more` `signal S clear|set`
+abbrev pub signal_of : List (List ℕ) → Option Call
+signal_of (object ∷ state ∷ []) = do
+  id ← id_of object
+  signaled ← either_of (codes "clear") (codes "set") state
+  Some (SignalHost id signaled)
+signal_of words = None
+
+-- `open T event|mutex|semaphore|timer M [inherit] name TEXT`, and with `--more` `open T Y M [inherit] name TEXT`
+abbrev pub open_of : Bool → List (List ℕ) → Option Call
+open_of more (thread ∷ kind ∷ mask ∷ words) = do
+  thread ← labelled 116 thread
+  kind ← kind_of more kind
   mask ← mask_of mask
   name ← name_of (behind (codes "inherit") words)
   Some (OpenNamed thread kind mask (begins_with (codes "inherit") words) name)
-open_of words = None
+open_of more words = None
 
 -- `VERB T H`: the thread and the handle
 abbrev pub handle_of : List (List ℕ) → Option (ℕ × ℕ)
@@ -218,10 +237,10 @@ abbrev pub asked : Option Call → Command
 asked None = Bad
 asked (Some call) = Asks call
 
--- what the words of a line are
-abbrev pub command_of_words : List (List ℕ) → Command
-command_of_words [] = Bad
-command_of_words (verb ∷ words) =
+-- what the words of a line are, where the lines that `--more` adds are read or aren't
+abbrev pub command_of_words : Bool → List (List ℕ) → Command
+command_of_words more [] = Bad
+command_of_words more (verb ∷ words) =
     if bytes_eq verb (codes "close") then asked (handled CloseHandle words)
     else (if bytes_eq verb (codes "set") then asked (handled SetEvent words)
     else (if bytes_eq verb (codes "wait") then asked (wait_of words)
@@ -230,7 +249,7 @@ command_of_words (verb ∷ words) =
     else (if bytes_eq verb (codes "reset") then asked (handled ResetEvent words)
     else (if bytes_eq verb (codes "release") then asked (release_of words)
     else (if bytes_eq verb (codes "unlock") then asked (handled ReleaseMutex words)
-    else (if bytes_eq verb (codes "open") then asked (open_of words)
+    else (if bytes_eq verb (codes "open") then asked (open_of more words)
     else (if bytes_eq verb (codes "dup") then asked (dup_of words)
     else (if bytes_eq verb (codes "result") then asked (lone_of (labelled 119) WaitResult words)
     else (if bytes_eq verb (codes "mutex") then asked (mutex_of words)
@@ -251,19 +270,21 @@ command_of_words (verb ∷ words) =
     else (if bytes_eq verb (codes "pin") then on_object Pin (object_of words)
     else (if bytes_eq verb (codes "unpin") then on_object Unpin (object_of words)
     else (if bytes_eq verb (codes "card") then on_object ShowCard (object_of words)
-    else Bad))))))))))))))))))))))))))))
+    else (if more && bytes_eq verb (codes "host") then asked (host_of words)
+    else (if more && bytes_eq verb (codes "signal") then asked (signal_of words)
+    else Bad))))))))))))))))))))))))))))))
 
 -- the text of a line: one carriage return at its end is dropped
 abbrev pub text_of : List ℕ → List ℕ
 text_of line = if slice_index line (length line - 1) == 13 then take (length line - 1) line else line
 
 -- A text of more than 4,096 bytes is bad; an empty text and a text that begins with # are nothing; `dir` lists names.
-abbrev pub command_of_text : List ℕ → Command
-command_of_text text =
+abbrev pub command_of_text : Bool → List ℕ → Command
+command_of_text more text =
     if nat_lt 4096 (length text) then Bad
     else (if (length text == 0) || (slice_index text 0 == 35) then Nothing
     else (if bytes_eq text (codes "dir") then ListNames
-    else command_of_words (words_of text)))
+    else command_of_words more (words_of text)))
 
-abbrev pub command_of : List ℕ → Command
-command_of line = command_of_text (text_of line)
+abbrev pub command_of : Bool → List ℕ → Command
+command_of more line = command_of_text more (text_of line)

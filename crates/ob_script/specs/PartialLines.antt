@@ -18,6 +18,6 @@ partial_line_of true bytes = None
 partial_line_of false bytes = Some bytes
 
 -- what the line is
-abbrev pub command_of_partial_line : Option (List ℕ) → Command
-command_of_partial_line None = Bad
-command_of_partial_line (Some line) = command_of line
+abbrev pub command_of_partial_line : Bool → Option (List ℕ) → Command
+command_of_partial_line more None = Bad
+command_of_partial_line more (Some line) = command_of more line

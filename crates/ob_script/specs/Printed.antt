@@ -10,7 +10,7 @@ use Rattle.pin_words.specs.declared.pin_keeper.Reclaim.{Reclaim}
 use Rattle.pin_words.specs.declared.pin_keeper.Reclaim.TheVariants.{Freed, Retired, Held}
 use Rattle.ob_rights.specs.Fault.{code_of}
 use Rattle.ob_rights.specs.declared.kind.Kind.{Kind}
-use Rattle.ob_rights.specs.declared.kind.Kind.TheVariants.{Event, Mutex, Semaphore, Timer}
+use Rattle.ob_rights.specs.declared.kind.Kind.TheVariants.{Event, Mutex, Semaphore, Timer, Host}
 use Rattle.ob_name.specs.Names.{Namespace, ObjectName, Global, Session}
 use Rattle.ob_name.specs.Listing.{Rows}
 use Rattle.ob_name.specs.Refs.{row_at}
@@ -95,6 +95,7 @@ printed_kind Event manual max = printed_reset manual
 printed_kind Mutex manual max = codes "mutex"
 printed_kind Semaphore manual max = codes "semaphore " ++ decimal max
 printed_kind Timer manual max = printed_timer manual
+printed_kind (Host object_type) manual max = printed_reset manual
 
 abbrev pub printed_descr : Descr → List ℕ
 printed_descr descr = printed_kind descr.kind descr.manual descr.max

@@ -8,7 +8,7 @@ use Rattle.std.specs.Str.Parse.{digits_value}
 use Rattle.memchr.specs.Find.{is_byte}
 use Rattle.pin_core.specs.declared.id.Id.{Id}
 use Rattle.ob_rights.specs.declared.kind.Kind.{Kind}
-use Rattle.ob_rights.specs.declared.kind.Kind.TheVariants.{Event, Mutex, Semaphore, Timer}
+use Rattle.ob_rights.specs.declared.kind.Kind.TheVariants.{Event, Mutex, Semaphore, Timer, Host}
 use Rattle.ob_rights.specs.declared.rights.Rights.{Rights}
 
 -- words are parted by single spaces
@@ -66,14 +66,20 @@ abbrev pub either_of : List ℕ → List ℕ → List ℕ → Option Bool
 either_of first second word = if bytes_eq word first then Some false else
     (if bytes_eq word second then Some true else None)
 
--- one of the kinds of objects
-abbrev pub kind_of : List ℕ → Option Kind
-kind_of word =
+-- a type of a host's objects: a number up to 255 behind the letter k
+abbrev pub type_of : List ℕ → Option ℕ
+type_of word = do
+  number ← labelled 107 word
+  if nat_le number 255 then Some number else None
+
+-- one of the kinds of objects; a type of a host's objects is one where the lines that `--more` adds are read
+abbrev pub kind_of : Bool → List ℕ → Option Kind
+kind_of more word =
     if bytes_eq word (codes "event") then Some Event
     else (if bytes_eq word (codes "mutex") then Some Mutex
     else (if bytes_eq word (codes "semaphore") then Some Semaphore
     else (if bytes_eq word (codes "timer") then Some Timer
-    else None)))
+    else (if more then type_of word >>= (λ object_type. Some (Host object_type)) else None))))
 
 -- a number up to a limit, and the negative of one that is
 abbrev pub up_to : ℕ → ℕ → Option ℤ

@@ -5,7 +5,7 @@ use Rattle.std.specs.Fmt.{digits, signed_decimal}
 use Rattle.std.specs.List.{list_all, flat_map}
 use Rattle.pin_core.specs.declared.id.Id.{Id}
 use Rattle.ob_rights.specs.declared.kind.Kind.{Kind}
-use Rattle.ob_rights.specs.declared.kind.Kind.TheVariants.{Event, Mutex, Semaphore, Timer}
+use Rattle.ob_rights.specs.declared.kind.Kind.TheVariants.{Event, Mutex, Semaphore, Timer, Host}
 use Rattle.ob_rights.specs.declared.rights.Rights.{Rights}
 use Rattle.ob_waits.specs.declared.wait.Mode.{Mode}
 use Rattle.ob_waits.specs.declared.wait.Mode.TheVariants.{Any, All}
@@ -60,6 +60,7 @@ kind_word Event = codes "event"
 kind_word Mutex = codes "mutex"
 kind_word Semaphore = codes "semaphore"
 kind_word Timer = codes "timer"
+kind_word (Host object_type) = label 107 object_type
 
 abbrev pub mode_word : Mode → List ℕ
 mode_word Any = codes "any"
@@ -96,6 +97,9 @@ words_for (calls.MakeSemaphore thread make initial max) =
     codes "semaphore" ∷ label 116 thread ∷ signed_decimal initial ∷ signed_decimal max ∷ make_words make
 words_for (calls.MakeTimer thread make manual) =
     codes "timer" ∷ label 116 thread ∷ either_word (codes "auto") (codes "manual") manual ∷ make_words make
+words_for (calls.MakeHost thread make object_type manual signaled) =
+    codes "host" ∷ label 116 thread ∷ label 107 object_type ∷ either_word (codes "auto") (codes "manual") manual
+    ∷ either_word (codes "clear") (codes "set") signaled ∷ make_words make
 words_for (calls.OpenNamed thread kind mask inherit text) =
     codes "open" ∷ label 116 thread ∷ kind_word kind ∷ mask_word mask
     ∷ (word_if inherit (codes "inherit") ++ text_words text)
@@ -112,6 +116,8 @@ words_for (calls.ResetEvent thread handle) = handle_words (codes "reset") thread
 words_for (calls.ReleaseSemaphore thread handle count) =
     handle_words (codes "release") thread handle (signed_decimal count ∷ [])
 words_for (calls.ReleaseMutex thread handle) = handle_words (codes "unlock") thread handle []
+words_for (calls.SignalHost id signaled) =
+    codes "signal" ∷ id_word id ∷ either_word (codes "clear") (codes "set") signaled ∷ []
 words_for (calls.SetTimer thread handle due) =
     handle_words (codes "settimer") thread handle (signed_decimal due ∷ [])
 words_for (calls.CancelTimer thread handle) = handle_words (codes "cancel") thread handle []

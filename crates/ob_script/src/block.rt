@@ -367,8 +367,9 @@ impl Block {
         ensures len { length self.new ≤ length self.old + 60 }
     {
         match descr.kind {
-            Kind::Event if descr.manual => self.text(b"event manual"),
-            Kind::Event => self.text(b"event auto"),
+            Kind::Event | Kind::Host(_) if descr.manual => self.text(b"event manual"),
+            // (as which a descriptor tells an object of the host's own)
+            Kind::Event | Kind::Host(_) => self.text(b"event auto"),
             Kind::Mutex => self.text(b"mutex"),
             Kind::Semaphore => {
                 self.text(b"semaphore ");

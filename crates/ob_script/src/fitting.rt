@@ -1,11 +1,11 @@
-ghost use Rattle.std.specs.Prelude.{All};
+ghost use Rattle.std.specs.Prelude.{◌≤◌, All};
 ghost use Rattle.ob_manager.specs.Calls.{with_parts};
 ghost use Rattle.ob_manager.specs.Makings.{making_of};
-ghost use Rattle.ob_script.specs.Fitting.{FitHandles, Fits, FitsMake, FitsMask, FitsSign, FitsTarget, FitsTimeout};
-ghost use Rattle.ob_script.specs.Fitting.{Small};
+ghost use Rattle.ob_script.specs.Fitting.{FitHandles, Fits, FitsKind, FitsMake, FitsMask, FitsSign, FitsTarget};
+ghost use Rattle.ob_script.specs.Fitting.{FitsTimeout, Small};
 
 use ob_manager::{AsMake, CallOf, Make, Timeout};
-use ob_rights::Rights;
+use ob_rights::{Kind, Rights};
 use std::convert::AsSlice;
 
 // Each function here reads numbers, which is how a contract knows that they are those of their types.
@@ -21,6 +21,18 @@ fn signed(_number: i32)
 fn long(_number: i64)
     ensures { FitsSign 9223372036854775808 _number }
 {}
+
+fn byte(_number: u8)
+    ensures { _number ≤ 255 }
+{}
+
+fn kind(kind: Kind)
+    ensures { FitsKind kind }
+{
+    if let Kind::Host(object_type) = kind {
+        byte(object_type);
+    }
+}
 
 fn mask(mask: Option<Rights>)
     ensures { FitsMask mask }
@@ -111,13 +123,25 @@ pub(crate) fn fits<M: AsMake, T: AsSlice<u8>, H: AsSlice<u32>>(call: &CallOf<M, 
             small(*thread);
             make(what.as_make());
         }
+        CallOf::MakeHost {
+            thread,
+            make: what,
+            object_type,
+            ..
+        } => {
+            small(*thread);
+            make(what.as_make());
+            byte(*object_type);
+        }
         CallOf::OpenNamed {
             thread,
+            kind: of,
             mask: asked,
             ..
         } => {
             small(*thread);
             small(asked.0);
+            kind(*of);
         }
         CallOf::Duplicate {
             thread,
@@ -186,7 +210,7 @@ pub(crate) fn fits<M: AsMake, T: AsSlice<u8>, H: AsSlice<u32>>(call: &CallOf<M, 
         CallOf::EndThread { thread } => small(*thread),
         CallOf::Exit { process } => small(*process),
         CallOf::Reap { slot } => small(*slot),
-        CallOf::Counts { id } => {
+        CallOf::SignalHost { id, .. } | CallOf::Counts { id } => {
             small(id.slot);
             small(id.generation);
         }

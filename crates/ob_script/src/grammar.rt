@@ -3,15 +3,15 @@ ghost use Rattle.ob_manager.specs.declared.call.CallOf.TheVariants as calls;
 ghost use Rattle.ob_script.specs.Words.{are_handles, handles_in, id_of, labelled, moment_of, number_of};
 ghost use Rattle.ob_script.specs.Commands.{IsRead, Pin, ShowCard, Unpin, command_in, shortened};
 ghost use Rattle.ob_script.specs.Grammar.{access_of, asked, child_of, closing_of, command_of, dup_of, event_of};
-ghost use Rattle.ob_script.specs.Grammar.{handle_of, handled, lone_of, mode_of, mutex_of, object_of, on_object, open_of};
-ghost use Rattle.ob_script.specs.Grammar.{release_of, semaphore_of, setflags_of, settimer_of, target_of, text_of};
+ghost use Rattle.ob_script.specs.Grammar.{handle_of, handled, host_of, lone_of, mode_of, mutex_of, object_of, on_object, open_of};
+ghost use Rattle.ob_script.specs.Grammar.{release_of, semaphore_of, setflags_of, settimer_of, signal_of, target_of, text_of};
 ghost use Rattle.ob_script.specs.Grammar.{timeout_of, timer_of, wait_of};
 
 use crate::command::{Command, Handles, LineCall};
 use crate::line::ScriptLine;
 use crate::naming::{make_of, name_of};
 use crate::numbers::{due_of, either_of, labelled, moment_of, number_of, signed_of};
-use crate::rights::{kind_of, mask_of};
+use crate::rights::{kind_of, mask_of, type_of};
 use crate::words::{Words, is};
 use ob_manager::{Mode, Timeout};
 use ob_rights::Rights;
@@ -37,7 +37,8 @@ pub fn is_too_long(text: &[u8]) -> bool
     text.len() > TEXT_MOST
 }
 
-/// What a line is. The handles of a wait are read into `handles`, in place of those that stood there.
+/// What a line is; with `more` it may be one of those that the option `--more` adds. The handles of a wait are read into
+/// `handles`, in place of those that stood there.
 //
 // What a line of each verb is stands in this one function when it runs: a function of its own would have a copy of the
 // words that are left, and each of these would be cleared for every line. Each verb makes its command in one step, with
@@ -45,8 +46,8 @@ pub fn is_too_long(text: &[u8]) -> bool
 // no command is made where its parts are enough: who reads lines calls it in one place.
 #[inline(always)]
 #[tactic(auto, using(crate::proofs::Verbs::lone_is_bad))]
-pub fn command_of<'a>(line: &ScriptLine<'a>, handles: &mut Handles) -> Command<'a>
-    ensures { command_in handles.new.items result ≡ shortened (command_of line.now) }
+pub fn command_of<'a>(more: bool, line: &ScriptLine<'a>, handles: &mut Handles) -> Command<'a>
+    ensures { command_in handles.new.items result ≡ shortened (command_of more line.now) }
 {
     let text = text_of(line.bytes());
     if is_too_long(text) {
@@ -84,7 +85,7 @@ pub fn command_of<'a>(line: &ScriptLine<'a>, handles: &mut Handles) -> Command<'
         return unlock_of(words);
     }
     if is(verb, b"open") {
-        return open_of(words);
+        return open_of(more, words);
     }
     if is(verb, b"dup") {
         return dup_of(words);
@@ -145,6 +146,12 @@ pub fn command_of<'a>(line: &ScriptLine<'a>, handles: &mut Handles) -> Command<'
     }
     if is(verb, b"card") {
         return card_of(words);
+    }
+    if more && is(verb, b"host") {
+        return host_of(words);
+    }
+    if more && is(verb, b"signal") {
+        return signal_of(words);
     }
     Command::Bad
 }
@@ -262,14 +269,49 @@ fn timer_of(mut words: Words<'_>) -> Command<'_>
 }
 
 #[inline(always)]
-fn open_of(mut words: Words<'_>) -> Command<'_>
-    ensures { IsRead result (asked (open_of words.entry)) }
+fn host_of(mut words: Words<'_>) -> Command<'_>
+    ensures { IsRead result (asked (host_of words.entry)) }
+{
+    let thread = wanted!(words.labelled(b't'));
+    let object_type = wanted!(words.next());
+    let reset = wanted!(words.next());
+    let state = wanted!(words.next());
+    let thread = wanted!(thread);
+    let object_type = wanted!(type_of(object_type));
+    let manual = wanted!(either_of(b"auto", b"manual", reset));
+    let signaled = wanted!(either_of(b"clear", b"set", state));
+    let make = wanted!(make_of(words));
+    Command::Ask(LineCall::MakeHost {
+        thread,
+        make,
+        object_type,
+        manual,
+        signaled,
+    })
+}
+
+#[inline(always)]
+fn signal_of(mut words: Words<'_>) -> Command<'_>
+    ensures { IsRead result (asked (signal_of words.entry)) }
+{
+    let object = wanted!(words.object());
+    let state = wanted!(words.next());
+    wanted!(words.end());
+    let Id { slot, generation } = wanted!(object);
+    let signaled = wanted!(either_of(b"clear", b"set", state));
+    let id = Id { slot, generation };
+    Command::Ask(LineCall::SignalHost { id, signaled })
+}
+
+#[inline(always)]
+fn open_of(more: bool, mut words: Words<'_>) -> Command<'_>
+    ensures { IsRead result (asked (open_of more words.entry)) }
 {
     let thread = wanted!(words.labelled(b't'));
     let kind = wanted!(words.next());
     let mask = wanted!(words.next());
     let thread = wanted!(thread);
-    let kind = wanted!(kind_of(kind));
+    let kind = wanted!(kind_of(more, kind));
     let mask = wanted!(mask_of(mask));
     let inherit = words.skip(b"inherit");
     let text = wanted!(name_of(words));

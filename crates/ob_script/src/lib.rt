@@ -8,11 +8,13 @@
 //! # use pin_core::Id;
 //! let mut handles = Handles::new();
 //! let (line, rest) = ScriptLine::first_of(b"close t1 h4\npin s0.1\n").unwrap();
-//! command_of(&line, &mut handles);                        // Command::Ask(LineCall::CloseHandle { thread: 1, handle: 4 })
-//! command_of(&ScriptLine::of(b"pin s0.1"), &mut handles); // Command::Pin(Id { slot: 0, generation: 1 })
-//! command_of(&ScriptLine::of(b"wait t1 all 5 h8 h4"), &mut handles);
+//! command_of(false, &line, &mut handles);                 // Command::Ask(LineCall::CloseHandle { thread: 1, handle: 4 })
+//! command_of(false, &ScriptLine::of(b"pin s0.1"), &mut handles); // Command::Pin(Id { slot: 0, generation: 1 })
+//! command_of(false, &ScriptLine::of(b"wait t1 all 5 h8 h4"), &mut handles);
 //! handles.len();                                      // 2
-//! command_of(&ScriptLine::of(b"close t1"), &mut handles); // Command::Bad
+//! command_of(false, &ScriptLine::of(b"close t1"), &mut handles); // Command::Bad
+//! command_of(false, &ScriptLine::of(b"signal s0.1 set"), &mut handles); // Command::Bad
+//! command_of(true, &ScriptLine::of(b"signal s0.1 set"), &mut handles);  // Command::Ask(LineCall::SignalHost { .. })
 //! # assert!(rt; rest == b"pin s0.1\n".as_slice() && handles.as_slice() == [8, 4].as_slice());
 //! ```
 //!

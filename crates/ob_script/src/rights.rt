@@ -1,13 +1,25 @@
 ghost use Rattle.std.specs.Prelude.{◌≡◌, ◌<◌, IfSome, codes, is_some};
 ghost use Rattle.std.specs.Char.{digit_value, is_ascii_hexdigit};
-ghost use Rattle.ob_script.specs.Words.{hex_of, kind_of, mask_of};
+ghost use Rattle.ob_script.specs.Words.{hex_of, kind_of, mask_of, type_of};
 
+use crate::numbers::labelled;
 use crate::words::is;
 use ob_rights::{Kind, Rights};
 
-/// One of the kinds of objects.
-pub fn kind_of(word: &[u8]) -> Option<Kind>
-    ensures { result ≡ kind_of word.now }
+/// A type of a host's objects: a number up to 255 behind the letter k.
+pub fn type_of(word: &[u8]) -> Option<u8>
+    ensures { result ≡ type_of word.now }
+{
+    let number = labelled(b'k', word)?;
+    if number > 255 {
+        return None;
+    }
+    Some(number as u8)
+}
+
+/// One of the kinds of objects; a type of a host's objects is one where the lines that `--more` adds are read.
+pub fn kind_of(more: bool, word: &[u8]) -> Option<Kind>
+    ensures { result ≡ kind_of more word.now }
 {
     if is(word, b"event") {
         Some(Kind::Event)
@@ -17,6 +29,9 @@ pub fn kind_of(word: &[u8]) -> Option<Kind>
         Some(Kind::Semaphore)
     } else if is(word, b"timer") {
         Some(Kind::Timer)
+    } else if more {
+        let object_type = type_of(word)?;
+        Some(Kind::Host(object_type))
     } else {
         None
     }

@@ -46,17 +46,6 @@ fn mode_of(mode: Mode) -> &'static [u8]
     }
 }
 
-fn kind_of(kind: Kind) -> &'static [u8]
-    ensures { result.now ≡ kind_word kind }
-{
-    match kind {
-        Kind::Event => b"event",
-        Kind::Mutex => b"mutex",
-        Kind::Semaphore => b"semaphore",
-        Kind::Timer => b"timer",
-    }
-}
-
 impl Line {
     fn text(&mut self, text: &[u8]) -> Result<(), AllocError>
         ensures { OnOk result (self.new ≡ self.old ++ text.now) }
@@ -293,6 +282,25 @@ impl Line {
         self.make(alloc, make)
     }
 
+    fn host(
+        &mut self,
+        alloc: Global,
+        thread: u32,
+        make: Make<'_>,
+        object_type: u8,
+        manual: bool,
+        signaled: bool,
+    ) -> Result<(), AllocError>
+        ensures { OnOk result (self.new ≡ self.old
+            ++ said (words_for (calls.MakeHost thread (making_of make.entry) object_type manual signaled))) }
+    {
+        self.lone(b"host", b't', thread)?;
+        self.label(b'k', u32::from(object_type))?;
+        self.either(b"auto", b"manual", manual)?;
+        self.either(b"clear", b"set", signaled)?;
+        self.make(alloc, make)
+    }
+
     fn open(
         &mut self,
         alloc: Global,
@@ -306,10 +314,22 @@ impl Line {
             ≡ self.old ++ said (words_for (calls.OpenNamed thread kind mask inherit text.now))) }
     {
         self.lone(b"open", b't', thread)?;
-        self.word(kind_of(kind))?;
+        self.kind(kind)?;
         self.mask(alloc, mask)?;
         self.word_if(inherit, b"inherit")?;
         self.name(text)
+    }
+
+    fn kind(&mut self, kind: Kind) -> Result<(), AllocError>
+        ensures { OnOk result (self.new ≡ self.old ++ 32 ∷ kind_word kind) }
+    {
+        match kind {
+            Kind::Event => self.word(b"event"),
+            Kind::Mutex => self.word(b"mutex"),
+            Kind::Semaphore => self.word(b"semaphore"),
+            Kind::Timer => self.word(b"timer"),
+            Kind::Host(object_type) => self.label(b'k', u32::from(object_type)),
+        }
     }
 
     fn access(&mut self, alloc: Global, mask: Rights, options: u32) -> Result<(), AllocError>
@@ -420,6 +440,14 @@ impl Line {
         self.id(id)
     }
 
+    fn signal(&mut self, id: Id, signaled: bool) -> Result<(), AllocError>
+        ensures { OnOk result (self.new ≡ self.old ++ said (words_for (calls.SignalHost id signaled))) }
+    {
+        self.text(b"signal")?;
+        self.id(id)?;
+        self.either(b"clear", b"set", signaled)
+    }
+
     fn either(&mut self, first: &[u8], second: &[u8], is_so: bool) -> Result<(), AllocError>
         ensures { OnOk result (self.new ≡ self.old ++ 32 ∷ either_word first.now second.now is_so) }
     {
@@ -498,6 +526,22 @@ impl Line {
                 make,
                 manual,
             } => self.timer(alloc, *thread, make.as_make(), *manual),
+            CallOf::MakeHost {
+                thread,
+                make,
+                object_type,
+                manual,
+                signaled,
+            } => {
+                self.host(
+                    alloc,
+                    *thread,
+                    make.as_make(),
+                    *object_type,
+                    *manual,
+                    *signaled,
+                )
+            }
             CallOf::OpenNamed {
                 thread,
                 kind,
@@ -534,6 +578,7 @@ impl Line {
                 count,
             } => { self.counted(b"release", *thread, *handle, i64::from(*count)) }
             CallOf::ReleaseMutex { thread, handle } => self.handle(b"unlock", *thread, *handle),
+            CallOf::SignalHost { id, signaled } => self.signal(*id, *signaled),
             CallOf::SetTimer {
                 thread,
                 handle,

@@ -33,7 +33,7 @@ use Rattle.ob_store.proofs.CountingLaws.{Counts, tables_count}
 use Rattle.ob_store.proofs.KeeperLaws.{all_shown}
 use Rattle.ob_store.proofs.SavedBirthLaws.{ordered_born}
 use Rattle.ob_store.proofs.SavedLaws.{objects-long}
-use Rattle.ob_store.proofs.SavedSlotLaws.{IsSlotSound, items_all, slot_aged, slot_generation, slot_sound}
+use Rattle.ob_store.proofs.SavedSlotLaws.{IsSlotSound, items_all, slot_aged, slot_formed, slot_generation, slot_sound}
 
 -- each slot has a body exactly where something refers to its object
 all_bodied : (o : waits.CountedBodies) (n : ℕ) → length o.bodies ≡ n → length o.handles ≡ n → length o.blocks ≡ n →
@@ -119,7 +119,12 @@ module _ (n max_gen clock : ℕ) (p : Places) (slots : List Slot) (r : AreRead n
   -- bodies are what the descriptors say, and no timer is due
   pub read_formed : AreFormed clock q.objects q.seen.bodies
   read_formed = record {
-    each = λ k o b is has. grind (arith, nat_tests, at_place, objects-long-here, object-here, body-here);
+    each = λ k o b is has. elim (cases_lt k n) [
+      | inl lt ↦ slot_formed max_gen clock (at k) (r.sound k lt) k o b (sym (object-here k lt) ∙ is)
+          (sym (body-here k lt) ∙ has)
+      | inr le ↦ (let none : get_or q.objects k None ≡ None = get_or_past q.objects k None (omega (arith, objects-long-here)) in
+          absurd (cc (sym none ∙ is)))
+    ];
     later = search (arith, length-map, body-here, get_or_past);
   }
 

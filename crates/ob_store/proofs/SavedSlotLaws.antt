@@ -13,10 +13,14 @@ use Rattle.ob_rights.specs.Spelling.{rights_at}
 use Rattle.pin_core.specs.declared.descr.Descr.{Descr}
 use Rattle.pin_core.specs.Descrs.{IsGiven, decoded}
 use Rattle.pin_core.specs.Spelling.{descr_at}
+use Rattle.pin_core.proofs.Moves.{same_of_descr}
 use Rattle.ob_body.specs.declared.body.Body.{Body}
+use Rattle.ob_waits.specs.Form.{form_of}
 use Rattle.ob_store.specs.declared.saved_slot.SavedObject.{SavedObject}
 use Rattle.ob_store.specs.declared.saved_slot.SavedSlot.{SavedSlot}
-use Rattle.ob_store.specs.SavedSlots.{any_slot_at, keeper_slot, may_retire, object_at, object_of, object_stands, slot_at, slot_of, slot_stands}
+use Rattle.ob_store.specs.Kept.{form_in, unset}
+use Rattle.ob_store.specs.Objects.{Object}
+use Rattle.ob_store.specs.SavedSlots.{any_slot_at, body_from, body_in, body_stands, descr_of, keeper_slot, may_retire, object_at, object_from, object_in_slot, object_of, object_stands, slot_at, slot_of, slot_stands}
 
 -- what was read in parts
 module _ {A B : Type 0} where
@@ -142,3 +146,18 @@ module _ (max_gen clock : ℕ) (x : SavedSlot) (sound : IsSlotSound max_gen cloc
 
   stands : object_stands clock x.object ≡ true
   stands = search arith
+
+  -- its body is what its descriptor says
+  pub slot_formed : (k : ℕ) (o : Object) (b : Body) → object_from k x ≡ Some o → body_from x ≡ Some b →
+      unset (form_of b) ≡ form_in o.descr
+  slot_formed k o b is has = by x.object stands is has
+    where
+      by : (s : Option SavedObject) → object_stands clock s ≡ true →
+          object_in_slot (record { slot = k; generation = x.generation }) s ≡ Some o → body_in s ≡ Some b →
+          unset (form_of b) ≡ form_in o.descr
+      by None holds is has = absurd cc
+      by (Some s) holds is has =
+          let body : body_stands clock s.descr (Some b) ≡ true = subst (λ (y : Option Body). body_stands clock s.descr y ≡ true) has holds in
+          let same : descr_of b ≡ s.descr = same_of_descr (descr_of b) s.descr (search (arith, body)) in
+          let descr : s.descr ≡ o.descr = search (arith, is) in
+          ap form_in (same ∙ descr)

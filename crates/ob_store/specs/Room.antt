@@ -15,6 +15,10 @@ used_up reuse numbers = if reuse then count_by is_some numbers else length numbe
 abbrev pub handles_left : State → ℕ → ℕ
 handles_left s process = if is_process s process then s.limits.handles - entries_in (table_of s.tables process) else 0
 
+-- how many wait numbers can still be given: without end where they come back
+abbrev pub waits_left : State → ℕ
+waits_left s = if s.limits.reuse then 4294967295 else s.limits.waits - (length s.waits - 1)
+
 -- what can still come, and which handles to this process
 abbrev pub room_of : State → ℕ → Room
 room_of s process = record {
@@ -22,4 +26,5 @@ room_of s process = record {
   processes = s.limits.processes - used_up s.limits.reuse s.processes;
   threads = s.limits.threads - used_up s.limits.reuse s.threads;
   handles = handles_left s process;
+  waits = waits_left s;
 }

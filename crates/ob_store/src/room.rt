@@ -1,5 +1,5 @@
 ghost use Rattle.std.specs.Prelude.{◌≡◌};
-ghost use Rattle.ob_store.specs.Room.{handles_left, room_of};
+ghost use Rattle.ob_store.specs.Room.{handles_left, room_of, waits_left};
 
 use crate::store::Store;
 use pin_words::PinKeeper;
@@ -15,6 +15,8 @@ pub struct Room {
     pub threads: u32,
     /// Handles that one process can still have: none where it isn't live.
     pub handles: u32,
+    /// Wait numbers that can still be given: 4,294,967,295 where they come back, which have no end.
+    pub waits: u32,
 }
 
 impl<K: PinKeeper> Store<K> {
@@ -28,6 +30,17 @@ impl<K: PinKeeper> Store<K> {
         }
     }
 
+    /// How many wait numbers can still be given.
+    fn waits_left(&self) -> u32
+        ensures { result ≡ waits_left self.now.state }
+    {
+        let limits = self.parts.limits;
+        if limits.reuse {
+            return u32::MAX;
+        }
+        limits.waits.saturating_sub(self.parts.waits.given())
+    }
+
     /// What can still come, with the handles of one process.
     pub fn room(&self, process: u32) -> Room
         ensures { result ≡ room_of self.now.state process }
@@ -38,6 +51,7 @@ impl<K: PinKeeper> Store<K> {
             processes: limits.processes - self.parts.processes.used_processes(limits.reuse),
             threads: limits.threads - self.parts.processes.used_threads(limits.reuse),
             handles: self.handles_left(process),
+            waits: self.waits_left(),
         }
     }
 }

@@ -6,7 +6,7 @@ ghost use Rattle.ob_store.specs.SavedSlots.{object_stands, slot_at, slot_stands}
 use ob_body::Body;
 use ob_codec::{Cursor, ReadFault, Spelled, TextFault};
 use ob_name::Name;
-use ob_rights::Rights;
+use ob_rights::{Kind, Rights};
 use pin_core::{Descr, Phase, Slot, read_descr};
 use std::alloc::Global;
 
@@ -32,17 +32,14 @@ pub(crate) struct SavedSlot {
 fn descr_of(body: &Body) -> Descr
     ensures { result ≡ descr_of body.now }
 {
-    let (manual, max) = match body {
-        Body::Event(event) => (event.manual, 0),
-        Body::Mutex(_) => (false, 0),
-        Body::Semaphore(semaphore) => (false, semaphore.maximum()),
-        Body::Timer(timer) => (timer.is_manual(), 0),
+    let (kind, manual, max) = match body {
+        Body::Event(event) => (Kind::Event, event.manual, 0),
+        Body::Mutex(_) => (Kind::Mutex, false, 0),
+        Body::Semaphore(semaphore) => (Kind::Semaphore, false, semaphore.maximum()),
+        Body::Timer(timer) => (Kind::Timer, timer.is_manual(), 0),
+        Body::Host(host) => (Kind::Event, host.event.manual, 0),
     };
-    Descr {
-        kind: body.kind(),
-        manual,
-        max,
-    }
+    Descr { kind, manual, max }
 }
 
 /// Whether a moment, if there is one, is after now.

@@ -1,6 +1,6 @@
 ghost use Rattle.std.specs.Prelude.{◌≡◌, ℕ, true, None, Some, OnErr, OnOk, slice_index_or};
 ghost use Rattle.ob_body.specs.Body as spec;
-ghost use Rattle.ob_rights.specs.declared.kind.Kind.TheVariants.{Event, Mutex, Semaphore, Timer};
+ghost use Rattle.ob_rights.specs.declared.kind.Kind.TheVariants.{Mutex, Semaphore, Timer};
 ghost use Rattle.ob_store.specs.State.{settled, with_body};
 ghost use Rattle.ob_store.specs.Kept.{Yields};
 ghost use Rattle.ob_store.specs.Moves.{OnlyCloses};
@@ -31,12 +31,12 @@ impl<K: PinKeeper> Store<K> {
         self.parts.settle_after(id);
     }
 
-    /// Sets an event.
+    /// Sets an event, or signals an object of the host's own.
     #[inline(always)]
     #[tactic(auto, using(crate::proofs::Yielding::set_yields))]
     pub fn set(&mut self, id: Id, event: Body)
         requires bodied { slice_index_or self.old.state.bodies id.slot None ≡ Some event }
-        requires event { spec.kind_of event ≡ Event }
+        requires settable { spec.is_settable event ≡ true }
         ensures state { self.new.state ≡ settled (with_body self.old.state id (spec.after_set event)) }
         ensures keeper { OnlyCloses self.old.keeper self.new.keeper }
     {
@@ -59,12 +59,12 @@ impl<K: PinKeeper> Store<K> {
         self.parts.objects.kept();
     }
 
-    /// Resets an event. Nothing becomes signaled by that, so nothing settles.
+    /// Resets an event, or an object of the host's own. Nothing becomes signaled by that, so nothing settles.
     #[inline(always)]
     #[tactic(auto, using(crate::proofs::Yielding::reset_less, crate::proofs::Yielding::reset_yields))]
     pub fn reset(&mut self, id: Id, event: Body)
         requires bodied { slice_index_or self.old.state.bodies id.slot None ≡ Some event }
-        requires event { spec.kind_of event ≡ Event }
+        requires settable { spec.is_settable event ≡ true }
         ensures state { self.new.state ≡ settled (with_body self.old.state id (spec.after_reset event)) }
         ensures keeper { OnlyCloses self.old.keeper self.new.keeper }
     {

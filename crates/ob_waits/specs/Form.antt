@@ -3,13 +3,13 @@ use Rattle.std.specs.Prelude.{◌≡◌, ◌<◌, ℕ, Bool, false, List, Option
 use Rattle.ob_rights.specs.declared.kind.Kind.{Kind}
 use Rattle.ob_rights.specs.declared.kind.Kind.TheVariants as kind
 use Rattle.ob_body.specs.declared.body.Body.{Body}
-use Rattle.ob_body.specs.declared.body.Body.TheVariants.{Event, Mutex, Semaphore, Timer}
+use Rattle.ob_body.specs.declared.body.Body.TheVariants.{Event, Mutex, Semaphore, Timer, Host}
 use Rattle.ob_body.specs.Body.{due_of, owner_of}
 use Rattle.ob_waits.specs.declared.wait.Wait.{Wait}
 use Rattle.ob_waits.specs.Rules.{thread_of}
 
 -- its kind, whether an event or a timer is reset by hand, the maximum of a semaphore, and the moment at which a timer
--- is due
+-- is due; a host's object has the form of an event
 pub record Form : Type 0 where
   pub kind : Kind
   pub manual : Bool
@@ -21,6 +21,7 @@ form_of (Event e) = record { kind = kind.Event; manual = e.manual; maximum = 0; 
 form_of (Mutex m) = record { kind = kind.Mutex; manual = false; maximum = 0; due = None }
 form_of (Semaphore s) = record { kind = kind.Semaphore; manual = false; maximum = s.maximum; due = None }
 form_of (Timer t) = record { kind = kind.Timer; manual = t.manual; maximum = 0; due = t.due }
+form_of (Host h) = record { kind = kind.Event; manual = h.event.manual; maximum = 0; due = None }
 
 abbrev pub slot_form : Option Body → Option Form
 slot_form None = None

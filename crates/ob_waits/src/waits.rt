@@ -152,7 +152,7 @@ impl Waits {
     }
 
     /// The last number given, or 0.
-    pub(crate) fn given(&self) -> u32
+    pub fn given(&self) -> u32
         ensures { length self.now.waits ≡ result + 1 }
     {
         self.live.given()

@@ -27,16 +27,24 @@ fn main(rt: HostRuntime) -> ExitCode {
     };
     let mut source = Wired::new(rt.stdin());
     let mut sink = Wired::new(rt.stdout());
-    let (alloc, limits) = (rt.alloc(), options.limits);
+    let (alloc, more, limits) = (rt.alloc(), options.more, options.limits);
     if options.lanes > 0 {
-        let answered = run_lanes(&rt, alloc, limits, options.lanes, &mut source, &mut sink);
+        let answered = run_lanes(
+            &rt,
+            alloc,
+            more,
+            limits,
+            options.lanes,
+            &mut source,
+            &mut sink,
+        );
         return ended_by(&rt, answered);
     }
     if options.load.is_some() || options.save.is_some() {
         let answered = run_states(&rt, &options, &mut source, &mut sink);
         return ended_by(&rt, answered);
     }
-    ended_by(&rt, run(alloc, limits, &mut source, &mut sink))
+    ended_by(&rt, run(alloc, more, limits, &mut source, &mut sink))
 }
 
 /// Ends well, or says which fault ended the script.

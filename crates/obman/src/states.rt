@@ -30,7 +30,7 @@ pub fn run_states<I: Source, O: Sink>(
 ) -> Result<(), StateFault> {
     // What owns much is made by functions that hand it out, and dropped by a call: then one way out lets it go.
     let manager = begun(rt, options)?;
-    let after = answered(rt.alloc(), manager, reader, writer)?;
+    let after = answered(rt.alloc(), options.more, manager, reader, writer)?;
     let saved = match &options.save {
         Some(path) => save(rt, path.as_str(), &after),
         None => Ok(()),
@@ -47,24 +47,25 @@ fn begun(rt: &HostRuntime, options: &Options) -> Result<Manager<LockedPins>, Sta
     }
 }
 
-/// The manager as the script leaves it.
+/// The manager as the script leaves it, which with `more` may have the lines that `--more` adds.
 fn answered<I: Source, O: Sink>(
     alloc: Global,
+    more: bool,
     manager: Manager<LockedPins>,
     reader: &mut I,
     writer: &mut O,
 ) -> Result<Manager<Keeper>, StateFault> {
-    match run_over(alloc, manager, reader, writer) {
+    match run_over(alloc, more, manager, reader, writer) {
         Ok(after) => Ok(after),
         Err(fault) => Err(StateFault::Run(fault)),
     }
 }
 
-/// The manager of a savestate.
+/// The manager of a savestate; what a host kept beside it is let go.
 fn loaded(rt: &HostRuntime, path: &str) -> Result<Manager<LockedPins>, StateFault> {
     let bytes = fs::read(rt, path).map_err(|error| fault_of(&error))?;
-    match Manager::load(rt.alloc(), bytes.as_slice()) {
-        Ok(manager) => Ok(manager),
+    match Manager::load_with(rt.alloc(), bytes.as_slice()) {
+        Ok((manager, _)) => Ok(manager),
         Err(ReadFault::Memory) => Err(StateFault::Run(RunFault::Memory)),
         Err(ReadFault::Text(_)) => Err(StateFault::State),
     }

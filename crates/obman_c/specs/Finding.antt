@@ -1,9 +1,9 @@
 -- What C is told of what is only read.
-use Rattle.std.specs.Prelude.{◌≡◌, ℕ, Option, Some, None, Result, Ok, Err}
+use Rattle.std.specs.Prelude.{◌≡◌, ℕ, ◌+◌, Option, Some, None, Result, Ok, Err}
 use Rattle.ob_rights.specs.Fault.{code_of}
 use Rattle.ob_rights.specs.declared.fault.Fault.{Fault}
 use Rattle.ob_rights.specs.declared.kind.Kind.{Kind}
-use Rattle.ob_rights.specs.declared.kind.Kind.TheVariants.{Event, Mutex, Semaphore, Timer}
+use Rattle.ob_rights.specs.declared.kind.Kind.TheVariants.{Event, Mutex, Semaphore, Timer, Host}
 use Rattle.pin_core.specs.declared.id.Id.{Id}
 use Rattle.ob_manager.specs.declared.card.Card.{Card}
 use Rattle.obman_c.specs.declared.values.Object.{Object}
@@ -21,6 +21,7 @@ kind_number Event = 0
 kind_number Mutex = 1
 kind_number Semaphore = 2
 kind_number Timer = 3
+kind_number (Host object_type) = 256 + object_type
 
 -- what an object was created as
 abbrev pub description_of : Card → Description

@@ -20,7 +20,7 @@ use Rattle.ob_store.specs.declared.room.Room.{Room}
 use Rattle.ob_store.specs.State.{State}
 use Rattle.ob_store.specs.Walking.{is_object_at, is_value_of}
 use Rattle.ob_manager.specs.declared.object_state.ObjectState.{ObjectState}
-use Rattle.ob_manager.specs.declared.object_state.ObjectState.TheVariants.{Event, Mutex, Semaphore, Timer, Ended}
+use Rattle.ob_manager.specs.declared.object_state.ObjectState.TheVariants.{Event, Mutex, Semaphore, Timer, Host, Ended}
 use Rattle.obman_c.specs.declared.looking.HandleEntry.{HandleEntry}
 use Rattle.obman_c.specs.declared.looking.PendingWait.{PendingWait}
 use Rattle.obman_c.specs.declared.looking.CObjectState.{CObjectState}
@@ -63,6 +63,7 @@ c_object_state_of (Timer signaled due) = record ended {
   signaled = signaled;
   has_due = is_some due;
 }
+c_object_state_of (Host object_type signaled) = record ended { kind = 256 + object_type; signaled = signaled }
 c_object_state_of Ended = ended
 
 -- what can still come
@@ -72,6 +73,7 @@ c_room room = record {
   processes = room.processes;
   threads = room.threads;
   handles = room.handles;
+  waits = room.waits;
 }
 
 -- at its place and 0, or 6, and the place as it was

@@ -6,6 +6,7 @@ use Rattle.pin_words.specs.Seats.{KeeperSeat, TableState}
 use Rattle.pin_words.specs.Views.{keeper_gave, opening_keeper}
 use Rattle.ob_store.specs.declared.limits.Limits.{Limits}
 use Rattle.ob_store.specs.State.{Whole, opening, shape_of}
+use Rattle.ob_manager.specs.HostData.{no_data}
 use Rattle.obman_c_base.specs.Owned.{unrecorded}
 use Rattle.obman_c_base.specs.declared.owned.OwnedManager.{OwnedManager}
 use Rattle.obman_c_base.specs.declared.limits.CLimits.{CLimits}
@@ -19,9 +20,9 @@ new_keeper shape t = record { table = t; view = keeper_gave (opening_keeper shap
 abbrev pub new_manager : Limits → TableState → Whole
 new_manager limits t = record { state = opening limits; keeper = state_of (new_keeper (shape_of limits) t) }
 
--- and nothing is recorded
+-- and nothing is recorded or kept
 abbrev pub new_owned : Limits → TableState → OwnedManager
-new_owned limits t = unrecorded (new_manager limits t)
+new_owned limits t = unrecorded (new_manager limits t) no_data
 
 -- A place gets a new manager with these limits, whose numbers come back or not, over words of its own, and 0 is told; or
 -- it stays as it is, and 87 is told where a limit is out of its range, else 8, for want of memory.

@@ -153,6 +153,35 @@ pub extern "C" fn om_create_timer(
     )
 }
 
+/// [`Manager::create_host`](ob_manager::Manager::create_host): 0, 183, 87, 170, 206, 3, 6, 5, 1450 or 8.
+#[unsafe(no_mangle)]
+pub extern "C" fn om_create_host(
+    owner: &mut ManagerOwner,
+    thread: u32,
+    asking: &Asking,
+    name: &[u8],
+    object_type: u8,
+    manual: bool,
+    signaled: bool,
+    opening: &mut Opening,
+) -> u32
+    ensures { TellsValue opening_in owner.old.value
+        (Call.MakeHost thread (asked_for asking.now name.now) object_type manual signaled)
+        result owner.new.value opening.old opening.new }
+{
+    let make = make_of(asking, name);
+    tell_opening(
+        owner.call(&Ask::MakeHost {
+            thread,
+            make,
+            object_type,
+            manual,
+            signaled,
+        }),
+        opening,
+    )
+}
+
 /// Opens the object of a name and a kind.
 #[inline(always)]
 #[tactic(auto, using(crate::proofs::Told::tells_as))]
@@ -256,4 +285,31 @@ pub extern "C" fn om_open_timer(
         (mask_of access) inherit name.now) result owner.new.value opening.old opening.new }
 {
     open(owner, thread, Kind::Timer, access, inherit, name, opening)
+}
+
+/// [`Manager::open_named`](ob_manager::Manager::open_named) of a host's object of a type: 0, 87, 170, 206, 3, 2, 6, 5,
+/// 1450 or 8.
+#[unsafe(no_mangle)]
+pub extern "C" fn om_open_host(
+    owner: &mut ManagerOwner,
+    thread: u32,
+    object_type: u8,
+    access: u32,
+    inherit: bool,
+    name: &[u8],
+    opening: &mut Opening,
+) -> u32
+    ensures { TellsValue opening_in owner.old.value
+        (Call.OpenNamed thread (Kind.Host object_type)
+        (mask_of access) inherit name.now) result owner.new.value opening.old opening.new }
+{
+    open(
+        owner,
+        thread,
+        Kind::Host(object_type),
+        access,
+        inherit,
+        name,
+        opening,
+    )
 }

@@ -19,6 +19,7 @@
 
 mod creating;
 mod handles;
+mod host_data;
 mod looking;
 mod opening;
 mod pinning;

@@ -10,6 +10,7 @@ ghost use Rattle.ob_store.specs.Walking.{is_process, is_thread_of};
 ghost use Rattle.ob_manager.specs.Handles.{entry_of};
 ghost use Rattle.ob_manager.specs.States.{state_of};
 ghost use Rattle.obman_c.specs.Asking.{number_at};
+ghost use Rattle.obman_c.specs.HostData.{kind_in};
 ghost use Rattle.obman_c.specs.Looking.{FindsEntry, IdsTell, NextHandle, NextObject, SessionTold, TellsState};
 ghost use Rattle.obman_c.specs.Looking.{WaitTells, c_room, handle_entry, or_zero, pending_wait, places, c_object_state_of};
 ghost use Rattle.obman_c.specs.Pinning.{id_at};
@@ -18,11 +19,12 @@ ghost use Rattle.obman_c.specs.Telling.{object_of};
 use crate::pinning::id_at;
 use crate::status::NO_MORE;
 use crate::values::{Object, object_of};
-use ob_manager::{Mode, ObjectState};
+use ob_manager::{Manager, Mode, ObjectState};
 use ob_rights::{Fault, code_of};
 use ob_tables::Entry;
 use obman_c_base::{ManagerOwner, SUCCESS, TOO_SMALL};
 use pin_core::Id;
+use pin_words::Keeper;
 
 /// What state an object is in (`om_object_state`). What its kind hasn't is 0.
 #[repr(C)]
@@ -30,7 +32,7 @@ use pin_core::Id;
 pub struct CObjectState {
     /// The moment at which a timer is due, in units of 100 ns.
     pub due: u64,
-    /// Its kind: an event 0, a mutex 1, a semaphore 2, a timer 3; 4 once it has ended.
+    /// Its kind: an event 0, a mutex 1, a semaphore 2, a timer 3, a host's object 256 and its type; 4 once it has ended.
     pub kind: u32,
     /// The count of a semaphore; how often a mutex is owned.
     pub count: u32,
@@ -38,8 +40,8 @@ pub struct CObjectState {
     pub max: u32,
     /// The thread that owns a mutex, or 0.
     pub owner: u32,
-    /// Whether it is signaled: an event is set, a mutex isn't owned, a semaphore has a count, a timer's moment has
-    /// come.
+    /// Whether it is signaled: an event or a host's object is set, a mutex isn't owned, a semaphore has a count, a timer's
+    /// moment has come.
     pub signaled: bool,
     /// Whether the last owner of a mutex ended.
     pub abandoned: bool,
@@ -87,6 +89,8 @@ pub struct CRoom {
     pub threads: u32,
     /// Handles of one process.
     pub handles: u32,
+    /// Wait numbers: 4,294,967,295 where they come back.
+    pub waits: u32,
 }
 
 /// The state of an object that has ended.
@@ -147,7 +151,25 @@ fn c_object_state_of(state: ObjectState) -> CObjectState
             has_due: due.is_some(),
             ..ENDED
         },
+        ObjectState::Host {
+            object_type,
+            signaled,
+        } => CObjectState {
+            kind: 256 + u32::from(object_type),
+            signaled,
+            ..ENDED
+        },
         ObjectState::Ended => ENDED,
+    }
+}
+
+/// The kind of an object, as [`CObjectState`] has it.
+pub(crate) fn kind_at(manager: &Manager<Keeper>, id: Id) -> u32
+    ensures { result ≡ kind_in (state_of manager.now.state id) }
+{
+    match manager.state_of(id) {
+        Some(state) => c_object_state_of(state).kind,
+        None => ENDED.kind,
     }
 }
 
@@ -218,6 +240,7 @@ pub extern "C" fn om_room_of(owner: &mut ManagerOwner, process: u32, room: &mut 
         processes: left.processes,
         threads: left.threads,
         handles: left.handles,
+        waits: left.waits,
     };
     SUCCESS
 }

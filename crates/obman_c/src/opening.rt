@@ -6,7 +6,7 @@ ghost use Rattle.obman_c_base.specs.Allowed.{AreAs};
 ghost use Rattle.obman_c_base.specs.declared.owned.OwnedManager.{OwnedManager};
 ghost use Rattle.obman_c.specs.Opening.{Opens, new_keeper, new_owned};
 
-use ob_manager::{Limits, Manager};
+use ob_manager::{HostData, Limits, Manager};
 use ob_rights::{Fault, code_of};
 use obman_c_base::{
     CLimits, ManagerOut, ManagerOwner, ManagerTaken, OwnedManager, SUCCESS, limits_of,
@@ -85,7 +85,7 @@ fn held(alloc: Global, limits: Limits) -> Result<Box<OwnedManager>, Fault>
 {
     let keeper = keeper(alloc, limits.shape())?;
     match Manager::new(alloc, limits, keeper) {
-        Ok(manager) => Ok(OwnedManager::boxed(alloc, manager)?),
+        Ok(manager) => Ok(OwnedManager::boxed(alloc, manager, HostData::new(alloc))?),
         Err(_) => Err(Fault::Memory),
     }
 }

@@ -56,6 +56,7 @@ pub(crate) fn number_of_kind(kind: Kind) -> u32
         Kind::Mutex => 1,
         Kind::Semaphore => 2,
         Kind::Timer => 3,
+        Kind::Host(object_type) => 256 + u32::from(object_type),
     }
 }
 

@@ -11,6 +11,7 @@ use obman_c_base::{ManagerOwner, SUCCESS, TOO_SMALL};
 pub extern "C" fn om_record(owner: &mut ManagerOwner, on: bool) -> u32
     ensures told { RecordTold on owner.old.value.recorder result owner.new.value.recorder }
     ensures manager { owner.new.value.manager ≡ owner.old.value.manager }
+    ensures kept { owner.new.value.kept ≡ owner.old.value.kept }
 {
     let recorder = &mut owner.lend().recorder;
     if !on {
@@ -35,6 +36,7 @@ pub extern "C" fn om_take_record(
     ensures told { TakeTold written.new owner.new.value.recorder.text result }
     ensures on { owner.new.value.recorder.is_on ≡ owner.old.value.recorder.is_on }
     ensures manager { owner.new.value.manager ≡ owner.old.value.manager }
+    ensures kept { owner.new.value.kept ≡ owner.old.value.kept }
 {
     let recorder = &mut owner.lend().recorder;
     let count = recorder.take(bytes);

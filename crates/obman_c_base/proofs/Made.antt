@@ -3,6 +3,7 @@ use Rattle.std.proofs.Common.{◌≡◌, ◌∙◌, Bool, false, subst, sym}
 use Rattle.pin_words.specs.Keepers.{ReclaimsFound}
 use Rattle.ob_manager.specs.Calls.{Call}
 use Rattle.ob_manager.specs.declared.reply.Reply.{Reply}
+use Rattle.ob_manager.specs.HostData.{data_after}
 use Rattle.ob_manager.specs.Reaping.{IfReap, IfReaped}
 use Rattle.ob_manager.specs.Steps.{Step}
 use Rattle.ob_script.specs.Recording.{AddsWhere, Notes}
@@ -13,16 +14,18 @@ use Rattle.obman_c_base.specs.declared.owned.OwnedManager.{OwnedManager}
 pub noted : {old new : OwnedManager} {call : Call} {reply : Reply} → Step old.manager call reply new.manager
     → IfReap call (λ slot. IfReaped reply
     (λ outcome. ReclaimsFound old.manager.keeper slot outcome new.manager.keeper))
-    → Notes old.recorder (text_for call reply) new.recorder → Makes old call reply new
-noted step exact lines = record { step = step; exact = exact; noted = lines }
+    → Notes old.recorder (text_for call reply) new.recorder → new.kept ≡ data_after reply old.kept
+    → Makes old call reply new
+noted step exact lines kept = record { step = step; exact = exact; noted = lines; kept = kept }
 
 pub unnoted : {old new : OwnedManager} {call : Call} {reply : Reply} {on : Bool} → on ≡ false
     → on ≡ old.recorder.is_on → new.recorder ≡ old.recorder → Step old.manager call reply new.manager
     → IfReap call (λ slot. IfReaped reply
     (λ outcome. ReclaimsFound old.manager.keeper slot outcome new.manager.keeper))
-    → Makes old call reply new
-unnoted {old} {new} {call} {reply} off is same step exact = record {
+    → new.kept ≡ data_after reply old.kept → Makes old call reply new
+unnoted {old} {new} {call} {reply} off is same step exact kept = record {
   step = step;
   exact = exact;
   noted = subst (λ (b : Bool). AddsWhere b old.recorder (text_for call reply) new.recorder) (sym off ∙ is) same;
+  kept = kept;
 }

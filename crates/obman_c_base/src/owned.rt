@@ -3,7 +3,7 @@ ghost use Rattle.ob_manager.specs.Steps.{reply_of};
 ghost use Rattle.obman_c_base.specs.Made.{Makes, call_of};
 ghost use Rattle.obman_c_base.specs.Owned.{unrecorded};
 
-use ob_manager::{Ask, Manager, Reply};
+use ob_manager::{Ask, HostData, Manager, Reply};
 use ob_rights::Fault;
 use ob_script::Recorder;
 use pin_words::{Keeper, Reader};
@@ -16,6 +16,8 @@ pub struct OwnedManager {
     pub manager: Manager<Keeper>,
     /// Its calls with their answers, while they are recorded.
     pub recorder: Recorder,
+    /// What the host keeps at objects, threads and processes.
+    pub kept: HostData,
 }
 
 /// What C's pointer to a reader leads to.
@@ -26,15 +28,20 @@ pub struct OwnedReader {
 }
 
 impl OwnedManager {
-    /// A manager in a box of its own, whose calls aren't recorded.
-    pub fn boxed(alloc: Global, manager: Manager<Keeper>) -> Result<Box<OwnedManager>, AllocError>
-        ensures { IfOk result (λ held. held.value ≡ unrecorded manager) }
+    /// A manager in a box of its own, whose calls aren't recorded, with what the host keeps.
+    pub fn boxed(
+        alloc: Global,
+        manager: Manager<Keeper>,
+        kept: HostData,
+    ) -> Result<Box<OwnedManager>, AllocError>
+        ensures { IfOk result (λ held. held.value ≡ unrecorded manager kept) }
     {
         Ok(Box::new(
             alloc,
             OwnedManager {
                 manager,
                 recorder: Recorder::new(alloc),
+                kept,
             },
         )?)
     }
@@ -50,7 +57,9 @@ impl OwnedManager {
             let call = *call;
             return self.recorded(&call);
         }
-        self.manager.try_call(call)
+        let answer = self.manager.try_call(call);
+        self.kept.follow(&answer);
+        answer
     }
 
     #[cold]
@@ -61,6 +70,8 @@ impl OwnedManager {
     {
         let reply = self.manager.call(call);
         self.recorder.note(call, &reply);
-        Ok(reply)
+        let answer = Ok(reply);
+        self.kept.follow(&answer);
+        answer
     }
 }

@@ -4,7 +4,8 @@ use Rattle.std.specs.Prelude.{Result, is_ok}
 use Rattle.ob_codec.specs.declared.fault.TextFault.{TextFault}
 use Rattle.ob_codec.specs.Reading.{◌>>=◌, whole_at}
 use Rattle.ob_codec.specs.Sealing.{unsealed}
-use Rattle.ob_manager.specs.Savestates.{load, marked_at}
+use Rattle.ob_manager.specs.HostData.{HostData}
+use Rattle.ob_manager.specs.Savestates.{load_with, whole_with_at}
 use Rattle.ob_store.specs.State.{Whole}
 
 pub known : (bytes : List ℕ) → ((fault : TextFault) → unsealed bytes ≡ Err fault → ⊥) → is_ok (unsealed bytes) ≡ true
@@ -14,7 +15,8 @@ known bytes never = by (unsealed bytes) refl
     by (Ok text) is = refl
     by (Err fault) is = absurd (never fault is)
 
-pub of_loaded : (bytes : List ℕ) (w : Whole) → load bytes ≡ Ok w → is_ok (unsealed bytes) ≡ true
-of_loaded bytes w is = known bytes (λ fault wrong.
-    let refused : load bytes ≡ Err fault = ap (λ text. text >>= (λ text. whole_at marked_at text)) wrong in
-    let both : Err fault ≡ Ok w = sym refused ∙ is in cc)
+pub of_loaded : (bytes : List ℕ) (w : Whole) (kept : HostData) → load_with bytes ≡ Ok (w, kept)
+    → is_ok (unsealed bytes) ≡ true
+of_loaded bytes w kept is = known bytes (λ fault wrong.
+    let refused : load_with bytes ≡ Err fault = ap (λ text. text >>= (λ text. whole_at whole_with_at text)) wrong in
+    let both : Err fault ≡ Ok (w, kept) = sym refused ∙ is in cc)

@@ -4,14 +4,14 @@ ghost use Rattle.pin_words.specs.Seats.{TableState};
 ghost use Rattle.obman_c_whole.specs.Savestates.{Loads, Saves, loaded_owned};
 
 use ob_codec::ReadFault;
-use ob_manager::Manager;
+use ob_manager::{HostData, Manager};
 use ob_rights::{Fault, code_of};
 use obman_c_base::{INVALID_DATA, ManagerOut, ManagerOwner, OwnedManager, SUCCESS, TOO_SMALL};
 use pin_words::LockedPins;
 use std::alloc::Global;
 
-/// [`Manager::save`](ob_manager::Manager::save): 0 with how many bytes were written, 122 with how many it takes where
-/// they don't fit, or 8.
+/// [`Manager::save_with`](ob_manager::Manager::save_with): 0 with how many bytes were written, 122 with how many it
+/// takes where they don't fit, or 8.
 #[unsafe(no_mangle)]
 pub extern "C" fn om_save(
     alloc: Global,
@@ -19,10 +19,11 @@ pub extern "C" fn om_save(
     bytes: &mut [u8],
     written: &mut usize,
 ) -> u32
-    ensures saved { Saves owner.old.value.manager result bytes.old bytes.new written.old written.new }
+    ensures saved { Saves owner.old.value result bytes.old bytes.new written.old written.new }
     ensures same { owner.new.value ≡ owner.old.value }
 {
-    let Ok(saved) = owner.lend().manager.save(alloc) else {
+    let held = owner.lend();
+    let Ok(saved) = held.manager.save_with(alloc, &held.kept) else {
         return code_of(Fault::Memory);
     };
     let text = saved.as_slice();
@@ -34,14 +35,14 @@ pub extern "C" fn om_save(
     SUCCESS
 }
 
-/// [`Manager::load`](ob_manager::Manager::load), over words of its own, at a place of C's: 0, 13 where the bytes are no
-/// savestate, or 8. What stood at the place isn't read.
+/// [`Manager::load_with`](ob_manager::Manager::load_with), over words of its own, at a place of C's: 0, 13 where the
+/// bytes are no savestate, or 8. What stood at the place isn't read.
 #[unsafe(no_mangle)]
 pub extern "C" fn om_load(alloc: Global, bytes: &[u8], place: &mut ManagerOut) -> u32
     ensures { Loads bytes.now result place.old.value place.new.value }
 {
-    match Manager::load(alloc, bytes) {
-        Ok(manager) => match held(alloc, manager) {
+    match Manager::load_with(alloc, bytes) {
+        Ok((manager, kept)) => match held(alloc, manager, kept) {
             Ok(held) => {
                 *place = ManagerOut::of(held);
                 SUCCESS
@@ -53,11 +54,15 @@ pub extern "C" fn om_load(alloc: Global, bytes: &[u8], place: &mut ManagerOut) -
     }
 }
 
-/// A manager that was loaded in a box of its own, over words that begin with its slots.
-fn held(alloc: Global, manager: Manager<LockedPins>) -> Result<Box<OwnedManager>, Fault>
-    ensures loaded { IfOk result (λ held. (t : TableState) × (held.value ≡ loaded_owned manager t)) }
+/// A manager that was loaded in a box of its own, over words that begin with its slots, with what the host kept.
+fn held(
+    alloc: Global,
+    manager: Manager<LockedPins>,
+    kept: HostData,
+) -> Result<Box<OwnedManager>, Fault>
+    ensures loaded { IfOk result (λ held. (t : TableState) × (held.value ≡ loaded_owned manager kept t)) }
     ensures memory { IfErr result (λ fault. fault ≡ Fault.Memory) }
 {
     let (keeper, _) = manager.words(alloc)?;
-    Ok(OwnedManager::boxed(alloc, manager.over(keeper))?)
+    Ok(OwnedManager::boxed(alloc, manager.over(keeper), kept)?)
 }

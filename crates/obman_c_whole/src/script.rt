@@ -8,7 +8,7 @@ use ob_script::Collected;
 use obman_c_base::{CLimits, SUCCESS, TOO_SMALL, limits_of};
 use std::alloc::Global;
 
-/// Answers a script over a new manager, as the program does without lanes, at the front of `answers`: 0, 87 where a
+/// Answers a script over a new manager, as the program does without lanes and without `--more`, at the front of `answers`: 0, 87 where a
 /// limit is out of its range, 8, or 122 where the answers don't fit. `length` says how long they are, with 0 and with
 /// 122. Answers that don't fit are counted, and take no memory.
 #[tactic(auto, using(crate::proofs::Scripted::outside, crate::proofs::Scripted::lacks))]
@@ -26,7 +26,7 @@ pub extern "C" fn om_script(
         return code_of(Fault::Parameter);
     };
     let mut sink = Collected::new(alloc, answers.len());
-    match run_whole(alloc, limits, script, &mut sink) {
+    match run_whole(alloc, false, limits, script, &mut sink) {
         Ok(()) => hand_over(&sink, answers, length),
         Err(_) => code_of(Fault::Memory),
     }

@@ -10,7 +10,7 @@ use Rattle.ob_rights.specs.declared.rights.Rights.{Rights}
 use Rattle.ob_rights.specs.Rights.{within}
 use Rattle.ob_tables.specs.declared.entry.Entry.{Entry}
 use Rattle.ob_body.specs.declared.body.Body.{Body}
-use Rattle.ob_body.specs.declared.body.Body.TheVariants.{Mutex, Semaphore}
+use Rattle.ob_body.specs.declared.body.Body.TheVariants.{Host, Mutex, Semaphore}
 use Rattle.ob_body.specs.Body.{kind_of, post_answer, unlock_answer}
 use Rattle.ob_body.specs.Mutex as mutex
 use Rattle.ob_body.specs.Semaphore as semaphore
@@ -29,8 +29,8 @@ use Rattle.ob_manager.specs.declared.reply.Reply.{Reply}
 use Rattle.ob_manager.specs.declared.reply.Reply.TheVariants as reply
 use Rattle.ob_manager.specs.Outcomes.{Outcome, ◌>>=◌, or_refuse, refuse_if}
 use Rattle.ob_manager.specs.Checks.{caller, found, if_kind, same_kind}
-use Rattle.ob_manager.specs.Signaling.{modified}
-use Rattle.ob_manager.specs.Creating.{create, created, name_in, named_object, new_event, new_handle, new_mutex, new_object, new_semaphore, new_timer, own_name, room_for, semaphore_of}
+use Rattle.ob_manager.specs.Signaling.{host_of, if_host, modified}
+use Rattle.ob_manager.specs.Creating.{create, created, name_in, named_object, new_event, new_handle, new_host, new_mutex, new_object, new_semaphore, new_timer, own_name, room_for, semaphore_of}
 use Rattle.ob_manager.specs.Copying.{admitted, asked_rights, copied_to, copy_rights, is_stuck, is_wrong, keeps_rights, leaves, with_source, without_source}
 use Rattle.ob_manager.specs.Reaping.{if_ended}
 use Rattle.ob_manager.specs.Waiting.{all_found, deadline_in, is_zero, objects_of, pending, satisfied, shown, unsatisfied, wait_on}
@@ -89,6 +89,13 @@ kind_within fs k (Some b) h = by (same_kind (kind_of b) k)
     by true = tt
     by false = h
 
+host_within : (fs : List Fault) (b : Option Body) → IsAmong fs fault.Handle → Within fs (if_host b)
+host_within fs (Some (Host h)) k = tt
+host_within fs b k = k
+
+host_of_within : (fs : List Fault) (s : State) (id : Id) → IsAmong fs fault.Handle → Within fs (host_of s id)
+host_of_within fs s id k = search (then_within, or_within, host_within)
+
 modified_within : (fs : List Fault) (s : State) (t h : ℕ) (k : Kind) → IsAmong fs fault.Parameter
     → IsAmong fs fault.Busy → IsAmong fs fault.Handle → IsAmong fs fault.Access → Within fs (modified s t h k)
 modified_within fs s t h k p b there may = search (then_within, caller_within, found_within, kind_within, refuse_within)
@@ -142,7 +149,7 @@ own_within fs s p (Some text) h l k = then_within fs (name_in s p text) _ (name_
 handle_within : (fs : List Fault) (s : State) (p : ℕ) (id : Id) (k : Kind) (asked : Rights) (inherit : Bool)
     → IsAmong fs fault.Handle → IsAmong fs fault.Access → IsAmong fs fault.Limit
     → Within fs (new_handle s p id k asked inherit)
-handle_within fs s p id k asked inherit h a l = search (then_within, or_within, refuse_within)
+handle_within fs s p id k asked inherit h a l = search (then_within, or_within, kind_within, refuse_within)
 
 room_within : (fs : List Fault) (s : State) (p : ℕ) (m : Making) (k : Kind) → IsAmong fs fault.Access
     → IsAmong fs fault.Limit → Within fs (room_for s p m k)
@@ -282,6 +289,8 @@ outcome_says s (calls.MakeMutex t m owned) r = create_says s t m (Ok (new_mutex 
 outcome_says s (calls.MakeSemaphore t m initial max) r =
     create_says s t m (new_semaphore initial max) (semaphore_within initial max)
 outcome_says s (calls.MakeTimer t m manual) r = create_says s t m (Ok (new_timer manual)) tt
+outcome_says s (calls.MakeHost t m object_type manual signaled) r =
+    create_says s t m (Ok (new_host object_type manual signaled)) tt
 outcome_says s (calls.Duplicate t source h target mask inherit options) r =
     let call : Call = calls.Duplicate t source h target mask inherit options in
     andThen copy_refusals (ClosesSource s call) (caller s t) _ (caller_within copy_refusals s t refl refl)
@@ -309,6 +318,7 @@ outcome_says s call r =
       refuse_within,
       or_within,
       unlock_within,
+      host_of_within,
       name_within,
       handle_within,
       objects_within,

@@ -20,6 +20,8 @@ refusals_of (calls.MakeSemaphore thread making initial max) =
     Parameter ∷ Busy ∷ NameLong ∷ NamePath ∷ Handle ∷ Access ∷ Limit ∷ []
 refusals_of (calls.MakeTimer thread making manual) =
     Parameter ∷ Busy ∷ NameLong ∷ NamePath ∷ Handle ∷ Access ∷ Limit ∷ []
+refusals_of (calls.MakeHost thread making object_type manual signaled) =
+    Parameter ∷ Busy ∷ NameLong ∷ NamePath ∷ Handle ∷ Access ∷ Limit ∷ []
 refusals_of (calls.OpenNamed thread kind mask inherit text) =
     Parameter ∷ Busy ∷ NameLong ∷ NamePath ∷ NotFound ∷ Handle ∷ Access ∷ Limit ∷ []
 refusals_of (calls.Duplicate thread source handle target mask inherit options) =
@@ -31,6 +33,7 @@ refusals_of (calls.SetEvent thread handle) = Parameter ∷ Busy ∷ Handle ∷ A
 refusals_of (calls.ResetEvent thread handle) = Parameter ∷ Busy ∷ Handle ∷ Access ∷ []
 refusals_of (calls.ReleaseSemaphore thread handle count) = Parameter ∷ Busy ∷ Handle ∷ Access ∷ Posts ∷ []
 refusals_of (calls.ReleaseMutex thread handle) = Parameter ∷ Busy ∷ Handle ∷ NotOwner ∷ []
+refusals_of (calls.SignalHost id signaled) = Handle ∷ []
 refusals_of (calls.SetTimer thread handle due) = Parameter ∷ Busy ∷ Handle ∷ Access ∷ []
 refusals_of (calls.CancelTimer thread handle) = Parameter ∷ Busy ∷ Handle ∷ Access ∷ []
 refusals_of (calls.Tick now) = Parameter ∷ []

@@ -1,7 +1,7 @@
 -- What is proved of the object manager, in five statements, and two that follow. Each is a record over the definitions
 -- of the crates below, under its sentences of plain English. src/law.rt has for each its law, of every step, history
 -- or world, and the function of the code that has it.
-use Rattle.std.specs.Prelude.{All, ◌≡◌, ◌⊎◌, ℕ, ◌<◌, ◌≤◌, true, false, List, [], ◌∷◌, ◌++◌, None, Some, Ok, is_ok, map, slice_index_or}
+use Rattle.std.specs.Prelude.{All, ◌≡◌, ◌⊎◌, ℕ, ◌<◌, ◌≤◌, Bool, true, false, List, [], ◌∷◌, ◌++◌, None, Some, Ok, is_ok, map, slice_index_or}
 use Rattle.pin_core.specs.declared.id.Id.{Id}
 use Rattle.pin_core.specs.declared.descr.Descr.{Descr}
 use Rattle.pin_core.specs.declared.holders.Hold.{Hold}
@@ -108,26 +108,27 @@ Enters (Asks call) output entries = (entry : Entry) × (entries ≡ entry ∷ []
     × (output ≡ printed entry.reply)
 Enters act output entries = entries ≡ []
 
--- the entries of all lines, in order
-abbrev pub AreEntered : List (List ℕ) → List (List ℕ) → List Entry → Type 0
-AreEntered [] [] entries = entries ≡ []
-AreEntered (line ∷ lines) (output ∷ outputs) entries = (here rest : List Entry) × (entries ≡ here ++ rest)
-    × Enters (command_of line) output here × AreEntered lines outputs rest
-AreEntered lines outputs entries = ⊥
+-- the entries of all lines, in order, where the lines that `--more` adds are read or aren't
+abbrev pub AreEntered : Bool → List (List ℕ) → List (List ℕ) → List Entry → Type 0
+AreEntered more [] [] entries = entries ≡ []
+AreEntered more (line ∷ lines) (output ∷ outputs) entries = (here rest : List Entry) × (entries ≡ here ++ rest)
+    × Enters (command_of more line) output here × AreEntered more lines outputs rest
+AreEntered more lines outputs entries = ⊥
 
 -- What a run of a script prints is what a run of the model answers, from a new manager with these limits: line by line
 -- the reply of its call's step, or what the reader of the pins is answered (`Prints`). The state at the end is what
 -- the script's calls, with the replies that were printed for them, recount. Three answers are left open: 8 of a call
 -- that takes memory; that a slot which is reaped is held; and that a pin is refused as busy or full. The last two are
 -- told by a word that the slot may have, though nobody but the one reader made its pins. The premise is that the run
--- ended with its input; what a run that was cut short had answered, `IsCut` says.
-pub record IsRun (limits : Limits) (input output : List ℕ) : Type 0 where
+-- ended with its input; what a run that was cut short had answered, `IsCut` says. With or without the lines that
+-- `--more` adds.
+pub record IsRun (more : Bool) (limits : Limits) (input output : List ℕ) : Type 0 where
   pub first : Point
   pub last : Point
-  pub opens : IsOpening limits first
+  pub opens : IsOpening more limits first
   pub answers : AnswersTo first input output last
   pub asked : List Entry
-  pub entered : AreEntered (answers.lines ++ last_line answers.rest) answers.answers.outputs asked
+  pub entered : AreEntered more (answers.lines ++ last_line answers.rest) answers.answers.outputs asked
   pub state : last.whole.state ≡ replay (opening limits) asked
 
 -- 4. PINS
@@ -200,7 +201,8 @@ pub record IsSaved (w : Whole) (bytes : List ℕ) : Type 0 where
 -- order, up to the first that is answered otherwise: since memory was wanting, or another thing became of a slot that
 -- is reaped (`AnswersOtherwise`).
 -- Where there is no such line the run ends in the state of the journal's manager. The premises are that the journal
--- has every call since a state, that the run begins in that state, and that the numbers of its calls fit their types.
+-- has every call since a state, that the run begins in that state and reads the lines that `--more` adds, and that the
+-- numbers of its calls fit their types.
 pub record IsReplayed (journal : List Entry) (w : Whole) (output : List ℕ) (last : Point) : Type 0 where
   pub retells : RetellsTo journal output (last.whole.state ≡ w.state)
 

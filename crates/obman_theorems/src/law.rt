@@ -1,4 +1,4 @@
-ghost use Rattle.std.specs.Prelude.{◌≡◌, ◌++◌, false, true, ℕ, List, [], All, IfNone, IfOk, IfSome, OnOk};
+ghost use Rattle.std.specs.Prelude.{◌≡◌, ◌++◌, Bool, false, true, ℕ, List, [], All, IfNone, IfOk, IfSome, OnOk};
 ghost use Rattle.pin_core.specs.Worlds.{WorldState};
 ghost use Rattle.pin_core.specs.Safety.{AreEvents, IsSafe, reached};
 ghost use Rattle.pin_core.specs.declared.event.Event.{Event};
@@ -96,23 +96,24 @@ pub fn recounted<K: PinKeeper>(book: &Book<K>) -> Stored<'_, K>
 
 /// The third statement, of every run of a script that ended with its input.
 pub fn law_of_runs()
-    ensures { (limits : Limits) (input output : List ℕ) → AnswersAll limits input output
-        → IsRun limits input output }
+    ensures { (more : Bool) (limits : Limits) (input output : List ℕ) → AnswersAll more limits input output
+        → IsRun more limits input output }
 {}
 
 /// The third statement, of the code: of what [`run`] reads and writes, as the program does with a script. How a run
 /// ends that a device or want of memory cuts short is in `IsEnded`.
 pub fn ran<R: Source, W: Sink>(
     alloc: Global,
+    more: bool,
     limits: Limits,
     reader: &mut R,
     writer: &mut W,
 ) -> Result<(), RunFault>
     ensures { (input output : List ℕ) × (R.given reader.new ≡ R.given reader.old ++ input)
-        × (W.taken writer.new ≡ W.taken writer.old ++ output) × OnOk result (IsRun limits input output)
-        × IsEnded result limits input output }
+        × (W.taken writer.new ≡ W.taken writer.old ++ output) × OnOk result (IsRun more limits input output)
+        × IsEnded result more limits input output }
 {
-    run(alloc, limits, reader, writer)
+    run(alloc, more, limits, reader, writer)
 }
 
 /// The fourth statement, of every order of possible events, and of every safe world, as the words of running pins show
@@ -177,11 +178,12 @@ pub fn savestate<K: PinKeeper>(manager: &Manager<K>, alloc: Global) -> Result<Ve
     manager.save(alloc)
 }
 
-/// Of a journal that is run again as a script, over a manager of the state with which it began.
+/// Of a journal that is run again as a script, with the lines that `--more` adds, over a manager of the state with which
+/// it began.
 pub fn law_of_replay()
     ensures { (from : State) (journal : List Entry) (w : Whole) (output : List ℕ) (first last : Point)
         → IsHistoryFrom from journal w → All FitsEntry journal → first.whole.state ≡ from
-        → AnswersTo first (script_of journal) output last → IsReplayed journal w output last }
+        → first.more ≡ true → AnswersTo first (script_of journal) output last → IsReplayed journal w output last }
 {}
 
 /// Of a record that is begun and told of each call with its reply, as C's functions tell it (`Makes` of `obman_c`).

@@ -1,14 +1,16 @@
 -- A slot's descriptor word: the kind in bits 0 and 1, the flag of manual reset in bit 2, the maximum in bits 3 to 33.
 use Rattle.std.specs.Prelude.{ℕ, ◌+◌, ◌*◌, ◌/◌, ◌%◌, ◌==◌, ◌≤◌, ◌&&◌, nat_lt, not, Bool, true, false, if◌then◌else◌, Option, Some, None, IsTrue}
 use Rattle.ob_rights.specs.declared.kind.Kind.{Kind}
-use Rattle.ob_rights.specs.declared.kind.Kind.TheVariants.{Event, Mutex, Semaphore, Timer}
+use Rattle.ob_rights.specs.declared.kind.Kind.TheVariants.{Event, Mutex, Semaphore, Timer, Host}
 use Rattle.pin_core.specs.declared.descr.Descr.{Descr}
 
+-- bits 0 and 1 have no code left for a host's object, which the descriptor of an event stands for
 abbrev pub kind_code : Kind → ℕ
 kind_code Event = 0
 kind_code Mutex = 1
 kind_code Semaphore = 2
 kind_code Timer = 3
+kind_code (Host t) = t + 4
 
 abbrev pub kind_of : ℕ → Option Kind
 kind_of n = if n == 0 then Some Event else (if n == 1 then Some Mutex else
@@ -24,6 +26,7 @@ fits Event manual m = m == 0
 fits Mutex manual m = not manual && (m == 0)
 fits Semaphore manual m = not manual && nat_lt 0 m
 fits Timer manual m = m == 0
+fits (Host t) manual m = false
 
 -- a descriptor that a word can have
 abbrev pub IsGiven : Descr → Type 0

@@ -6,7 +6,7 @@ use ob_rights::Kind;
 /// What an object was made as. It never changes, so it can be read under a pin, without a lock.
 ///
 /// In 64 bits: the kind in bits 0 and 1 (event 0, mutex 1, semaphore 2, timer 3), the flag of manual reset in bit 2,
-/// the maximum in bits 3 to 33, and 0 elsewhere.
+/// the maximum in bits 3 to 33, and 0 elsewhere. A host's object has the descriptor of an event, as which waits take it.
 #[derive(Clone, Copy, Debug, PartialEq, Eq)]
 pub struct Descr {
     /// The kind of the object.
@@ -28,6 +28,7 @@ fn code_of_kind(kind: Kind) -> u64
         Kind::Mutex => 1,
         Kind::Semaphore => 2,
         Kind::Timer => 3,
+        Kind::Host(number) => u64::from(number) + 4,
     }
 }
 
@@ -50,6 +51,7 @@ fn is_fitting(kind: Kind, manual: bool, max: u64) -> bool
         Kind::Event | Kind::Timer => max == 0,
         Kind::Mutex => !manual && max == 0,
         Kind::Semaphore => !manual && 0 < max,
+        Kind::Host(_) => false,
     }
 }
 

@@ -24,7 +24,6 @@ enum {
     REGIONS = 32 + 2 * PLACES,
     IMPORTS = 256,
     SLOTS = 1024, /* objects at a time */
-    STANDINS = SLOTS,
     PERIODS = 64,
     PAGE = 0x1000,
     MEMORY_MOST = 64 << 20, /* of a process */
@@ -90,16 +89,16 @@ typedef struct process {
     region regions[REGIONS];
 } process;
 
-/* What an event of the host's stands for, whose handles guests have. */
-typedef enum stands { NOTHING, INPUT, OUTPUT, ERRORS, A_THREAD, A_PROCESS } stands;
+/* The types of objects of the host's own. */
+typedef enum type { NOTHING, INPUT, OUTPUT, ERRORS, A_THREAD, A_PROCESS } type;
 
-typedef struct standin {
-    om_object object;
-    uint32_t is_for; /* one of `stands` */
-    uint32_t number; /* of the thread or process */
-    uint32_t handle; /* the host's own, until the thread or process has ended; else 0 */
+/* What a handle names that names one. */
+typedef struct named {
+    type is;
+    uint32_t number; /* of a thread or process */
     uint32_t code;   /* with which it has ended */
-} standin;
+    bool has_ended;
+} named;
 
 /* A timer that comes again. */
 typedef struct period {
@@ -118,11 +117,11 @@ typedef struct machine_state {
     uint32_t first;         /* the number of the first process */
     uint32_t status;        /* with which that has ended */
     om_member host;         /* the host's own process */
-    uint32_t never, unused;
+    uint32_t never;       /* its handle to an event that nobody sets */
+    uint32_t standard[3]; /* its handles to the standard files */
     char folder[1024]; /* where programs are */
     thread threads[THREADS];
     process processes[PROCESSES];
-    standin standins[STANDINS];
     period periods[PERIODS];
 } machine_state;
 
@@ -213,9 +212,8 @@ void close_handle(call *c), duplicate_handle(call *c), handle_flags(call *c), se
 #define THIS_THREAD (UINT64_MAX - 1)
 void begin_host(void);
 void begin_first(const char *name, const char *command);
-const standin *standin_of(const process *of, uint32_t handle);
-standin *standin_numbered(stands is_for, uint32_t number);
-void forget(om_object object);
+named named_by(const process *of, uint32_t handle);
+uint32_t own_handle(type is, uint32_t number);
 void end_process(process *of, uint32_t code);
 void end_thread(thread *of, uint32_t code);
 void create_thread(call *c), create_process(call *c), exit_thread(call *c), exit_process(call *c);

@@ -161,14 +161,14 @@ static void standard_handle(call *c) {
 }
 
 static void write_file(call *c) {
-    const standin *to = standin_of(c->of, handle_of(argument(c, 0)));
+    type to = named_by(c->of, handle_of(argument(c, 0))).is;
     uint32_t size = (uint32_t)argument(c, 2);
     put(c, argument(c, 3), 0, 4);
-    if (to == NULL || (to->is_for != OUTPUT && to->is_for != ERRORS)) {
+    if (to != OUTPUT && to != ERRORS) {
         done(c, OM_ERROR_INVALID_HANDLE);
         return;
     }
-    fwrite(pointer(c, argument(c, 1), size, UC_PROT_READ), 1, size, to->is_for == OUTPUT ? stdout : stderr);
+    fwrite(pointer(c, argument(c, 1), size, UC_PROT_READ), 1, size, to == OUTPUT ? stdout : stderr);
     put(c, argument(c, 3), size, 4);
     done(c, OM_SUCCESS);
 }

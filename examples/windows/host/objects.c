@@ -125,17 +125,12 @@ void open_timer(call *c) {
 
 /* ---- Signals ---- */
 
-/* An event that stands for a thread, a process or a file is none to a guest. */
-static bool is_event(const call *c) {
-    return standin_of(c->of, first_handle(c)) == NULL;
-}
-
 void set_event(call *c) {
-    done(c, is_event(c) ? om_set_event(&om, c->by->number, first_handle(c)) : OM_ERROR_INVALID_HANDLE);
+    done(c, om_set_event(&om, c->by->number, first_handle(c)));
 }
 
 void reset_event(call *c) {
-    done(c, is_event(c) ? om_reset_event(&om, c->by->number, first_handle(c)) : OM_ERROR_INVALID_HANDLE);
+    done(c, om_reset_event(&om, c->by->number, first_handle(c)));
 }
 
 void release_mutex(call *c) {
@@ -329,19 +324,18 @@ void set_handle_flags(call *c) {
 
 /* The number of a process that a handle stands for, or 0. */
 static uint32_t process_by(const call *c, uint64_t guest) {
-    const standin *s = standin_of(c->of, handle_of(guest));
-    return guest == THIS_PROCESS ? c->of->number : s != NULL && s->is_for == A_PROCESS ? s->number : 0;
+    named n = named_by(c->of, handle_of(guest));
+    return guest == THIS_PROCESS ? c->of->number : n.is == A_PROCESS ? n.number : 0;
 }
 
-/* What a duplicate may do to what its source names, as the library has it. What stands for another thing can be waited for. */
+/* What a duplicate may do to what its source names, as the library has it. */
 static uint32_t rights_to(uint32_t source, uint32_t handle, uint32_t access) {
     static const uint32_t all[] = {OM_EVENT_ALL_ACCESS, OM_MUTEX_ALL_ACCESS, OM_SEMAPHORE_ALL_ACCESS, OM_TIMER_ALL_ACCESS};
-    om_object object;
-    om_description as = {0};
-    if (om_resolve(&om, source, handle, &object) != OM_SUCCESS || om_card(&om, object.slot, object.generation, &as) != OM_SUCCESS) {
+    om_handle_info info;
+    if (om_query_handle(&om, source, handle, &info) != OM_SUCCESS) {
         return access;
     }
-    return as.grant == OM_SYNCHRONIZE ? OM_SYNCHRONIZE : rights_of(access, all[as.kind]);
+    return rights_of(access, info.kind < OM_HOST(0) ? all[info.kind] : OM_HOST_ALL_ACCESS);
 }
 
 /* Closes the source of a duplicate of which nothing else comes. */
@@ -369,8 +363,7 @@ void duplicate_handle(call *c) {
         return;
     }
     if (is_own) {
-        const standin *s = guest == THIS_PROCESS ? standin_numbered(A_PROCESS, source) : standin_numbered(A_THREAD, c->by->number);
-        handle = s == NULL ? 0 : s->handle;
+        handle = guest == THIS_PROCESS ? own_handle(A_PROCESS, source) : own_handle(A_THREAD, c->by->number);
         source = machine.host.process;
         options = 0;
     }

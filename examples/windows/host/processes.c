@@ -1,6 +1,6 @@
-/* The calls for threads and processes, and the events that stand for them. A guest's handle to a thread, to a process or to one of the
- * standard files is one to an event of the host's, which grants no more than to wait for it: a thread's and a process's is set once
- * that has ended, a file's never. So guests wait for it, close, duplicate and inherit it as any other. */
+/* The calls for threads and processes, which are objects of the host's own, as the standard files are: a thread and a process are
+ * signaled once they have ended, a file never. With each the library keeps its number and the code with which it has ended, and with a
+ * thread and a process the host's handle to it, as long as they live. */
 #include "host.h"
 
 #include <stdio.h>
@@ -8,99 +8,87 @@
 
 enum { STILL_ACTIVE = 259, CREATE_SUSPENDED = 4, USES_HANDLES = 0x100, NOT_ENOUGH_MEMORY = 8 };
 
-/* ---- What events of the host's stand for ---- */
+/* ---- Objects of the host's own ---- */
 
-/* What a handle of a process stands for, or NULL for one to an object as the library has it, and for none. */
-const standin *standin_of(const process *of, uint32_t handle) {
-    om_object object;
-    if (om_resolve(&om, of->number, handle, &object) != OM_SUCCESS) {
-        return NULL;
-    }
-    for (const standin *s = machine.standins; s < machine.standins + STANDINS; s++) {
-        if (s->is_for != NOTHING && s->object.slot == object.slot && s->object.generation == object.generation) {
-            return s;
-        }
-    }
-    return NULL;
+/* What is kept with one: the number of a thread or process, whether it has ended, and with which code. */
+#define HAS_ENDED 0x80000000u
+
+static uint64_t kept(uint32_t number, bool has_ended, uint32_t code) {
+    return (uint64_t)code << 32 | (has_ended ? HAS_ENDED : 0) | number;
 }
 
-/* What stands for a thread or a process, as long as somebody has a handle to it; or NULL. */
-standin *standin_numbered(stands is_for, uint32_t number) {
-    for (standin *s = machine.standins; s < machine.standins + STANDINS; s++) {
-        if (s->is_for == (uint32_t)is_for && s->number == number) {
-            return s;
-        }
+/* What a handle of a process names, if that is of a type of the host's; NOTHING for an event and the like, and for no handle. */
+named named_by(const process *of, uint32_t handle) {
+    om_handle_info info;
+    if (om_query_handle(&om, of->number, handle, &info) != OM_SUCCESS || info.kind < OM_HOST(0)) {
+        return (named){.is = NOTHING};
     }
-    return NULL;
+    uint32_t low = (uint32_t)info.data;
+    return (named){
+        .is = (type)(info.kind - OM_HOST(0)),
+        .number = low & ~HAS_ENDED,
+        .has_ended = (low & HAS_ENDED) != 0,
+        .code = (uint32_t)(info.data >> 32),
+    };
 }
 
-/* An object that has ended stands for nothing. */
-void forget(om_object object) {
-    for (standin *s = machine.standins; s < machine.standins + STANDINS; s++) {
-        if (s->is_for != NOTHING && s->object.slot == object.slot && s->object.generation == object.generation) {
-            memset(s, 0, sizeof *s);
-        }
-    }
+/* The host's handle to a thread or a process that lives, or 0. */
+uint32_t own_handle(type is, uint32_t number) {
+    return (uint32_t)(is == A_THREAD ? om_thread_data(&om, number) : om_process_data(&om, number));
 }
 
-/* An event of the host's, for all that guests may do with it. */
-static uint32_t new_event(om_opening *made) {
-    om_making waited_for = om_with_grant(OM_SYNCHRONIZE);
-    return om_create_event(&om, machine.host.thread, &waited_for, "", 0, true, false, made);
-}
-
-static uint32_t stand_in(stands is_for, uint32_t number) {
-    om_opening event;
-    standin *s = machine.standins;
-    uint32_t status = new_event(&event);
-    while (s < machine.standins + STANDINS && s->is_for != NOTHING) {
-        s++;
-    }
-    if (status == OM_SUCCESS && s == machine.standins + STANDINS) {
-        stop("more objects than slots");
-    }
+/* A new object of the host's, with what is kept there. */
+static uint32_t begin_object(type is, uint32_t number, uint32_t *handle) {
+    om_opening made;
+    om_making none = {0};
+    uint32_t status = om_create_host(&om, machine.host.thread, &none, "", 0, (uint8_t)is, true, false, &made);
     if (status == OM_SUCCESS) {
-        *s = (standin){.object = event.object, .is_for = is_for, .number = number, .handle = event.handle};
+        *handle = made.handle;
+        status = om_set_object_data(&om, made.object.slot, made.object.generation, kept(number, false, 0));
     }
     return status;
 }
 
-/* Gives a process a handle to an event of the host's. */
+/* A thread or process has an object, as long as it lives by a handle of the host's. */
+static uint32_t begin_member(type is, uint32_t number) {
+    uint32_t handle, status = begin_object(is, number, &handle);
+    if (status == OM_SUCCESS) {
+        status = is == A_THREAD ? om_set_thread_data(&om, number, handle) : om_set_process_data(&om, number, handle);
+    }
+    return status;
+}
+
+/* Gives a process a handle to what the host has a handle to. */
 static uint32_t give(const process *to, uint32_t handle, bool inherit, uint32_t *given) {
     om_opening made = {0};
-    uint32_t host = machine.host.process;
-    uint32_t status = om_duplicate(&om, machine.host.thread, host, handle, to->number, OM_SYNCHRONIZE, inherit, 0, &made);
+    uint32_t host = machine.host.process, same = OM_DUPLICATE_SAME_ACCESS;
+    uint32_t status = om_duplicate(&om, machine.host.thread, host, handle, to->number, 0, inherit, same, &made);
     *given = made.handle;
     return status;
 }
 
-/* The same of what stands for a thread, a process or a file. */
-static uint32_t give_standin(const process *to, stands is_for, uint32_t number, bool inherit, uint32_t *given) {
-    const standin *s = standin_numbered(is_for, number);
-    return give(to, s == NULL ? 0 : s->handle, inherit, given);
-}
-
 /* A thread or process has ended: who waits for it is answered, and its code is kept as long as there is a handle to it. */
-static void over(stands is_for, uint32_t number, uint32_t code) {
-    standin *s = standin_numbered(is_for, number);
-    if (s == NULL) {
+static void over(type is, uint32_t number, uint32_t code) {
+    om_object object;
+    uint32_t handle = own_handle(is, number);
+    if (handle == 0) {
         return; /* there was no room for it */
     }
-    uint32_t handle = s->handle;
-    s->code = code;
-    s->handle = 0;
-    must(om_set_event(&om, machine.host.thread, handle), "the end of a thread or process");
+    must(om_resolve(&om, machine.host.process, handle, &object), "the end of a thread or process");
+    must(om_set_object_data(&om, object.slot, object.generation, kept(number, true, code)), "the end of a thread or process");
+    must(om_signal_host(&om, object.slot, object.generation, true), "the end of a thread or process");
     must(om_close(&om, machine.host.thread, handle), "the end of a thread or process");
 }
 
-/* The host is a process of its own, which has the events of the standard files and one that nobody sets. */
+/* The host is a process of its own, which has the standard files, and an event that nobody sets. */
 void begin_host(void) {
     om_opening never;
+    om_making waited_for = om_with_grant(OM_SYNCHRONIZE);
     must(om_spawn(&om, 1, &machine.host), "a process for the host");
-    must(new_event(&never), "an event of the host's");
+    must(om_create_event(&om, machine.host.thread, &waited_for, "", 0, true, false, &never), "an event of the host's");
     machine.never = never.handle;
-    for (uint32_t file = INPUT; file <= ERRORS; file++) {
-        must(stand_in((stands)file, 0), "an event of the host's");
+    for (type file = INPUT; file <= ERRORS; file++) {
+        must(begin_object(file, 0, &machine.standard[file - INPUT]), "a standard file");
     }
 }
 
@@ -110,8 +98,8 @@ void begin_host(void) {
 static uint32_t furnish(process *of, uint32_t thread, const char *command, size_t length) {
     uint8_t *narrow = guest_at(of, COMMAND, PAGE), *wide = guest_at(of, WIDE_COMMAND, 2 * PAGE);
     uint32_t status = OM_SUCCESS, protected = OM_HANDLE_FLAG_PROTECT_FROM_CLOSE;
-    for (uint32_t file = INPUT; file <= ERRORS && status == OM_SUCCESS; file++) {
-        status = give_standin(of, (stands)file, 0, false, &of->standard[file - INPUT]);
+    for (int file = 0; file < 3 && status == OM_SUCCESS; file++) {
+        status = give(of, machine.standard[file], false, &of->standard[file]);
     }
     if (status == OM_SUCCESS) {
         status = give(of, machine.never, false, &of->never);
@@ -138,9 +126,9 @@ static process *free_process(void) {
 static uint32_t begin_process(process *of, om_member member, uint64_t entry, const char *command, size_t length) {
     of->number = member.process;
     bind_served(of);
-    uint32_t status = begin_thread(of, member.thread, entry, ENVIRONMENT) == NULL ? NOT_ENOUGH_MEMORY : stand_in(A_PROCESS, member.process);
+    uint32_t status = begin_thread(of, member.thread, entry, ENVIRONMENT) == NULL ? NOT_ENOUGH_MEMORY : begin_member(A_PROCESS, member.process);
     if (status == OM_SUCCESS) {
-        status = stand_in(A_THREAD, member.thread);
+        status = begin_member(A_THREAD, member.thread);
     }
     if (status == OM_SUCCESS) {
         status = furnish(of, member.thread, command, length);
@@ -180,8 +168,8 @@ void create_thread(call *c) {
         must(om_end_thread(&om, number), "the end of a thread");
         status = NOT_ENOUGH_MEMORY;
     } else if (status == OM_SUCCESS) {
-        status = stand_in(A_THREAD, number);
-        status = status == OM_SUCCESS ? give_standin(c->of, A_THREAD, number, is_inherited, &handle) : status;
+        status = begin_member(A_THREAD, number);
+        status = status == OM_SUCCESS ? give(c->of, own_handle(A_THREAD, number), is_inherited, &handle) : status;
         if (status != OM_SUCCESS) {
             end_thread(made, 0);
         }
@@ -242,8 +230,8 @@ void create_process(call *c) {
         status = begin_process(made, member, entry, length == 0 ? made->name : command, length == 0 ? strlen(made->name) : length);
     }
     if (status == OM_SUCCESS) {
-        status = give_standin(c->of, A_PROCESS, member.process, is_process, &handles[0]);
-        status = status == OM_SUCCESS ? give_standin(c->of, A_THREAD, member.thread, is_thread, &handles[1]) : status;
+        status = give(c->of, own_handle(A_PROCESS, member.process), is_process, &handles[0]);
+        status = status == OM_SUCCESS ? give(c->of, own_handle(A_THREAD, member.thread), is_thread, &handles[1]) : status;
         if (status != OM_SUCCESS) {
             om_close(&om, c->by->number, handles[0]);
             end_process(made, 0);
@@ -299,14 +287,14 @@ void exit_process(call *c) {
     end_process(c->of, (uint32_t)argument(c, 0));
 }
 
-static void exit_code(call *c, stands is_for, uint64_t self) {
-    const standin *s = standin_of(c->of, handle_of(argument(c, 0)));
+static void exit_code(call *c, type is, uint64_t self) {
+    named n = named_by(c->of, handle_of(argument(c, 0)));
     bool is_self = argument(c, 0) == self;
-    if (!is_self && (s == NULL || s->is_for != (uint32_t)is_for)) {
+    if (!is_self && n.is != is) {
         done(c, OM_ERROR_INVALID_HANDLE);
         return;
     }
-    put(c, argument(c, 1), is_self || s->handle != 0 ? STILL_ACTIVE : s->code, 4);
+    put(c, argument(c, 1), is_self || !n.has_ended ? STILL_ACTIVE : n.code, 4);
     done(c, OM_SUCCESS);
 }
 

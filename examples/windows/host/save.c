@@ -15,7 +15,7 @@ static struct {
     long size; /* of one that is read */
 } file;
 
-static const char mark[24] = "host of guests, state 2";
+static const char mark[24] = "host of guests, state 3";
 
 static void part(void *bytes, size_t size) {
     size_t moved = file.is_written ? fwrite(bytes, 1, size, file.at) : fread(bytes, 1, size, file.at);

@@ -99,9 +99,6 @@ void look_round(void) {
     } while (count == 16);
     end_periods();
     om_take_ended(&om, ended, SLOTS, &count);
-    for (size_t i = 0; i < count; i++) {
-        forget(ended[i].object);
-    }
     write_trace();
 }
 
@@ -111,7 +108,7 @@ void begin_trace(const char *path) {
     if (trace == NULL) {
         stop("%s can't be written", path);
     }
-    fprintf(trace, "# obman --slots=%u --processes=%u --threads=%u", limits.slots, limits.processes, limits.threads);
+    fprintf(trace, "# obman --more --slots=%u --processes=%u --threads=%u", limits.slots, limits.processes, limits.threads);
     fprintf(trace, " --handles=%u --waits=%u\n", limits.handles, limits.waits);
     must(om_record(&om, true), "a record");
 }
@@ -289,7 +286,8 @@ static void tell_wait(const thread *t) {
     }
     fprintf(stderr, "host: thread %u of process %u waits for %s of:", t->number, process, pending.all ? "all" : "any");
     for (size_t i = 0; i < count && om_state(&om, objects[i].slot, objects[i].generation, &state) == OM_SUCCESS; i++) {
-        fprintf(stderr, " %s s%u.%u", kinds[state.kind], objects[i].slot, objects[i].generation);
+        const char *kind = state.kind < OM_HOST(0) ? kinds[state.kind] : state.kind == OM_HOST(A_THREAD) ? "thread" : "process";
+        fprintf(stderr, " %s s%u.%u", kind, objects[i].slot, objects[i].generation);
         if (state.owner != 0) {
             fprintf(stderr, " of thread %u", state.owner);
         }

@@ -8,9 +8,9 @@ use super::{FIRST, NAMED_A, NAMED_E, NAMED_S, SECOND, THIRD, holds, same, same_a
 use call_tables::{Line, PLAIN};
 use ob_codec::{ReadFault, TextFault, seal, unseal};
 use ob_manager::CallOf::{
-    Child, CloseHandle, Counts, EndThread, Exit, Expire, GetFlags, MakeEvent, MakeMutex,
-    MakeSemaphore, MakeTimer, OpenNamed, Reap, ReleaseMutex, SetEvent, SetFlags, SetTimer, Spawn,
-    StartThread, Tick, WaitFor, WaitResult,
+    Child, CloseHandle, Counts, EndThread, Exit, Expire, GetFlags, MakeEvent, MakeHost, MakeMutex,
+    MakeSemaphore, MakeTimer, OpenNamed, Reap, ReleaseMutex, SetEvent, SetFlags, SetTimer,
+    SignalHost, Spawn, StartThread, Tick, WaitFor, WaitResult,
 };
 use ob_manager::Reply::{
     Closed, Code, CountsAre, Done, Ended, Exited, Expired, Flags, Made, Opened, Pending, Reaped,
@@ -454,6 +454,42 @@ const EDITS_OF_KINDS: &[Edit<'static>] = &[
     (238, &[18], &[2], Some(TextFault::Value)),
 ];
 
+/// An object of the host's own, by a name.
+#[rattlefmt::skip]
+const HOSTED: &[Line<'static>] = &[
+    (Spawn { session: 1 }, Spawned { process: 1, thread: 1 }),
+    (MakeHost { thread: 1, make: NAMED_A, object_type: 7, manual: false, signaled: true }, Made { handle: 4, id: FIRST }),
+];
+
+/// Calls whose replies depend on each of its parts.
+#[rattlefmt::skip]
+const BEHIND_HOSTED: &[Line<'static>] = &[
+    (OpenNamed { thread: 1, kind: Kind::Host(8), mask: Rights::SYNCHRONIZE, inherit: false, text: b"A" },
+        Refused(Fault::Handle)),
+    (OpenNamed { thread: 1, kind: Kind::Host(7), mask: Rights::SYNCHRONIZE, inherit: false, text: b"A" },
+        Opened { handle: 8, id: FIRST }),
+    (SetEvent { thread: 1, handle: 4 }, Refused(Fault::Handle)),
+    (WaitFor { thread: 1, mode: ANY, timeout: Zero, handles: &[8] }, Code { code: 0 }),
+    (WaitFor { thread: 1, mode: ANY, timeout: Zero, handles: &[4] }, Code { code: 258 }),
+    (SignalHost { id: FIRST, signaled: true }, Done),
+    (WaitFor { thread: 1, mode: ANY, timeout: Zero, handles: &[4] }, Code { code: 0 }),
+];
+
+/// Edits of what was saved before these.
+#[rattlefmt::skip]
+const EDITS_OF_HOSTED: &[Edit<'static>] = &[
+    // the last type, and one past it
+    (133, &[7, 0, 0, 0], &[255, 0, 0, 0], None),
+    (133, &[7, 0, 0, 0], &[0, 1, 0, 0], Some(TextFault::Value)),
+    // an event in its place, and a kind that is none
+    (132, &[4, 7, 0, 0, 0, 0, 1], &[0, 0, 1], None),
+    (132, &[4], &[5], Some(TextFault::Tag)),
+    // reset by hand in its descriptor alone, and in both
+    (119, &[0], &[4], Some(TextFault::Value)),
+    (119, &[0, 0, 0, 0, 0, 0, 0, 0, 255, 255, 31, 0, 1, 4, 7, 0, 0, 0, 0],
+        &[4, 0, 0, 0, 0, 0, 0, 0, 255, 255, 31, 0, 1, 4, 7, 0, 0, 0, 1], None),
+];
+
 /// A text with other bytes at a place, and behind it its digest.
 fn edited(
     rt: &impl Abort,
@@ -582,6 +618,15 @@ fn what_is_no_savestate_is_refused(rt: HostRuntime) -> Result<(), Fail> {
 fn kinds_that_no_calls_make_are_refused(rt: HostRuntime) -> Result<(), Fail> {
     let limits = Limits::checked(5, 4, 4, 4, 4, 4, 4, 4)?;
     let scene = Scene::Edits(KINDS, 273, EDITS_OF_KINDS);
+    over_locked(&rt, rt.alloc(), limits, scene)?;
+    Ok(())
+}
+
+#[test]
+fn an_object_of_the_host_s_own_is_saved_and_loaded(rt: HostRuntime) -> Result<(), Fail> {
+    let limits = Limits::checked(1, 4, 4, 4, 4, 4, 4, 4)?;
+    over_locked(&rt, rt.alloc(), limits, Scene::Saves(HOSTED, BEHIND_HOSTED))?;
+    let scene = Scene::Edits(HOSTED, 149, EDITS_OF_HOSTED);
     over_locked(&rt, rt.alloc(), limits, scene)?;
     Ok(())
 }

@@ -37,31 +37,32 @@ pub enum LaneLine<'a> {
 }
 
 /// What a line is, without its line feed, in a script with so many lanes beside the prologue. Without a prefix it
-/// belongs to the prologue, as long as that goes on. The handles of a wait are read into `handles`, as by
+/// belongs to the prologue, as long as that goes on. `more` and `handles` are those of
 /// [`command_of`](ob_script::command_of).
 pub fn line_of<'a>(
+    more: bool,
     lanes: u32,
     is_prologue: bool,
     line: &'a [u8],
     handles: &mut Handles,
 ) -> LaneLine<'a>
-    ensures value { line_in handles.new.items result ≡ line_of lanes is_prologue line.now }
+    ensures value { line_in handles.new.items result ≡ line_of more lanes is_prologue line.now }
     ensures lane { IsOfLane lanes result }
 {
     if is_too_long(text_of(line)) {
         return LaneLine::Bad;
     }
     if is_marked(line) {
-        return with_prefix(lanes, line, handles);
+        return with_prefix(more, lanes, line, handles);
     }
-    without_prefix(is_prologue, read(line, handles))
+    without_prefix(is_prologue, read(more, line, handles))
 }
 
 /// What a line is behind its prefix, or where it has none.
-fn read<'a>(line: &'a [u8], handles: &mut Handles) -> Command<'a>
-    ensures { command_in handles.new.items result ≡ shortened (command_of line.now) }
+fn read<'a>(more: bool, line: &'a [u8], handles: &mut Handles) -> Command<'a>
+    ensures { command_in handles.new.items result ≡ shortened (command_of more line.now) }
 {
-    command_of(&ScriptLine::of(line), handles)
+    command_of(more, &ScriptLine::of(line), handles)
 }
 
 /// Whether a line begins with an @.
@@ -103,15 +104,15 @@ fn without_prefix(is_prologue: bool, act: Command<'_>) -> LaneLine<'_>
 
 /// What a line is that begins with an @.
 #[tactic(auto, using(crate::proofs::Prefixes::nothing_behind))]
-fn with_prefix<'a>(lanes: u32, line: &'a [u8], handles: &mut Handles) -> LaneLine<'a>
-    ensures value { line_in handles.new.items result ≡ with_prefix lanes line.now }
+fn with_prefix<'a>(more: bool, lanes: u32, line: &'a [u8], handles: &mut Handles) -> LaneLine<'a>
+    ensures value { line_in handles.new.items result ≡ with_prefix more lanes line.now }
     ensures lane { IsOfLane lanes result }
 {
     let Some((word, rest)) = cut_far(b' ', line) else {
         return LaneLine::Bad;
     };
     match lane_of(lanes, word) {
-        Some(number) => behind_prefix(number, rest, handles),
+        Some(number) => behind_prefix(more, number, rest, handles),
         None => LaneLine::Bad,
     }
 }
@@ -129,14 +130,14 @@ fn lane_of(lanes: u32, word: &[u8]) -> Option<u32>
 }
 
 /// What a line behind its prefix is.
-fn behind_prefix<'a>(number: u32, line: &'a [u8], handles: &mut Handles) -> LaneLine<'a>
-    ensures value { line_in handles.new.items result ≡ behind_prefix number line.now }
+fn behind_prefix<'a>(more: bool, number: u32, line: &'a [u8], handles: &mut Handles) -> LaneLine<'a>
+    ensures value { line_in handles.new.items result ≡ behind_prefix more number line.now }
     ensures lane { IsOfLane number result }
 {
     if text_of(line) == b"block".as_slice() {
         return LaneLine::Acts(number, LaneCommand::Block);
     }
-    match read(line, handles) {
+    match read(more, line, handles) {
         Command::Nothing => LaneLine::Bad,
         act => in_lane(number, act),
     }

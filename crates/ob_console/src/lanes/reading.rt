@@ -96,15 +96,16 @@ pub struct LaneReader {
 }
 
 impl LaneReader {
-    /// A script with so many lanes beside the prologue, of which nothing has been read.
-    pub fn new(alloc: Global, lanes: u32, writes: u64) -> Result<LaneReader, AllocError>
+    /// A script with so many lanes beside the prologue, of which nothing has been read. With `more` it may have lines
+    /// that the option `--more` adds.
+    pub fn new(alloc: Global, more: bool, lanes: u32, writes: u64) -> Result<LaneReader, AllocError>
         ensures lanes { IfOk result (λ reading. reading.intake.scripts.lanes ≡ lanes) }
         ensures lines { IfOk result (λ reading. reading.intake.lines ≡ 0) }
         ensures writes { IfOk result (λ reading. reading.intake.output.writes_left ≡ writes) }
     {
         Ok(LaneReader {
             intake: Intake {
-                scripts: LaneScripts::new(alloc, lanes)?,
+                scripts: LaneScripts::new(alloc, more, lanes)?,
                 output: Output::new(alloc, writes)?,
                 lines: 0,
             },

@@ -20,11 +20,12 @@ use std::thread::Threads;
 /// meanwhile which lines are bad; makes the calls of the prologue, which is lane 0, and then those of the other lanes
 /// at once; prints the answers lane by lane; and closes the lanes. It never returns where a lane waits forever.
 ///
-/// At most 1,000,000,000 reads and as many writes are made. The answers are those of members:
-/// [`drive`](ob_shared::drive).
+/// With `more` it reads the lines that the option `--more` adds, too; without it these are bad. At most 1,000,000,000
+/// reads and as many writes are made. The answers are those of members: [`drive`](ob_shared::drive).
 pub fn run_lanes<R: Threads + Wait + Sync, I: Source, O: Sink>(
     rt: &R,
     alloc: Global,
+    more: bool,
     limits: Limits,
     lanes: u32,
     reader: &mut I,
@@ -38,7 +39,7 @@ pub fn run_lanes<R: Threads + Wait + Sync, I: Source, O: Sink>(
     ensures reads { I.calls reader.new ≤ I.calls reader.old + calls_most }
     ensures writes { O.calls writer.new ≤ O.calls writer.old + calls_most }
 {
-    let mut reading = LaneReader::new(alloc, lanes, CALLS_MOST)?;
+    let mut reading = LaneReader::new(alloc, more, lanes, CALLS_MOST)?;
     let mut block = zeros(alloc, READ_MOST)?;
     reading.read_all(&mut block, CALLS_MOST, reader, writer)?;
     drop(block);

@@ -52,6 +52,7 @@ impl LaneScript {
 /// by the number of their lane, and whether the prologue goes on.
 #[derive(Drop)]
 pub struct LaneScripts {
+    more: bool,
     scripts: Vec<LaneScript>,
     lanes: u32,
     is_prologue: bool,
@@ -66,6 +67,7 @@ impl Model for LaneScripts {
     ghost Value = { ScriptsState };
 
     ghost view = { λ scripts. record {
+      more = scripts.more;
       scripts = scripts.scripts.items;
       lanes = scripts.lanes;
       is_prologue = scripts.is_prologue;
@@ -75,9 +77,10 @@ impl Model for LaneScripts {
 }
 
 impl LaneScripts {
-    /// Empty scripts, for the prologue and so many lanes beside it.
-    pub fn new(alloc: Global, lanes: u32) -> Result<LaneScripts, AllocError>
-        ensures { IfOk result (λ scripts. scripts ≡ opening_scripts lanes) }
+    /// Empty scripts, for the prologue and so many lanes beside it. With `more` they may have lines that the option
+    /// `--more` adds.
+    pub fn new(alloc: Global, more: bool, lanes: u32) -> Result<LaneScripts, AllocError>
+        ensures { IfOk result (λ scripts. scripts ≡ opening_scripts more lanes) }
     {
         let mut scripts = Vec::new(alloc);
         scripts.push(LaneScript::new(alloc))?;
@@ -86,6 +89,7 @@ impl LaneScripts {
             scripts.push(LaneScript::new(alloc))?;
         }
         Ok(LaneScripts {
+            more,
             scripts,
             lanes,
             is_prologue: true,
@@ -101,7 +105,13 @@ impl LaneScripts {
         ensures taken { OnOk result (self.new ≡ with_line self.old line.now) }
         ensures memory { OnErr result (self.new ≡ self.old) }
     {
-        let is_good = match line_of(self.lanes, self.is_prologue, line, &mut self.handles) {
+        let is_good = match line_of(
+            self.more,
+            self.lanes,
+            self.is_prologue,
+            line,
+            &mut self.handles,
+        ) {
             LaneLine::Nothing => true,
             LaneLine::Bad => false,
             LaneLine::Acts(number, request) => {

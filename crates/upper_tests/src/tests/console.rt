@@ -27,6 +27,7 @@ fn ends_within<R: Abort, I: Source>(
     let mut written = Vec::new(alloc);
     let found = run_bounded(
         alloc,
+        false,
         Limits::default(),
         bounds.0,
         bounds.1,
@@ -96,6 +97,7 @@ fn fills<R: Abort>(
 ) {
     let found = run(
         alloc,
+        false,
         Limits::default(),
         &mut Wired::new(SCRIPT),
         &mut Wired::new(Page::new(page, is_failing)),

@@ -9,7 +9,7 @@ use std::sync::Wait;
 use std::test::Fail;
 use std::thread::Threads;
 
-/// Runs what a source gives with so many lanes, 1 to 64.
+/// Runs what a source gives with so many lanes, 1 to 64, and with the lines that `--more` adds.
 fn run_with<R: Abort + Wait + Threads + Sync, I: Source, O: Sink>(
     rt: &R,
     alloc: Global,
@@ -18,7 +18,7 @@ fn run_with<R: Abort + Wait + Threads + Sync, I: Source, O: Sink>(
     sink: &mut O,
 ) -> Result<(), LanesFault> {
     assert!(rt; lanes >= 1 && lanes <= 64);
-    run_lanes(rt, alloc, Limits::default(), lanes, source, sink)
+    run_lanes(rt, alloc, true, Limits::default(), lanes, source, sink)
 }
 
 /// Runs what a source gives with so many lanes: the run ends so, and writes this.
@@ -77,6 +77,12 @@ const ROWS: &[Row] = &[
           @2 open t2 mutex 0x100001 name M\n",
         b"lane 0\np1 t1\nh4 new s0.1\nt2\nh8 new s1.1\nh12 new s2.1\nlane 1\nh16 opened s0.1\n\
           lane 2\nerror 5\nclosed 7\n",
+    ),
+    // a lane makes objects of the host's own, and signals them
+    (
+        1,
+        b"spawn 1\nhost t1 k7 auto clear\n@1 signal s0.1 set\n@1 wait t1 any 0 h4\n",
+        b"lane 0\np1 t1\nh4 new s0.1\nlane 1\ndone\ncode 0\nclosed 4\n",
     ),
 ];
 

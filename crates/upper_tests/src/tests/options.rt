@@ -12,6 +12,8 @@ enum Due {
     Numbers([u32; 8], u32),
     /// The usual limits, of numbers that come back, and how many lanes.
     Reused(u32),
+    /// The usual limits with the lines that `--more` adds, and how many lanes.
+    More(u32),
     /// The path of what is loaded, and that of what is saved.
     Paths(Option<&'static str>, Option<&'static str>),
     /// A bad command line: which option lacks its number, with the least and the greatest that it takes.
@@ -108,6 +110,13 @@ const ROWS: &[(&[&str], Due)] = &[
     (&["--reuse=1"], Due::Bad(None)),
     (&["--reuse", "1"], Due::Bad(None)),
     (&["--reuse", "--load=a"], Due::Bad(None)),
+    // more lines
+    (&["--more"], Due::More(0)),
+    (&["--lanes=2", "--more"], Due::More(2)),
+    (&["--more", "--load=a"], Due::Paths(Some("a"), None)),
+    (&["--more", "--more"], Due::Bad(None)),
+    (&["--more=1"], Due::Bad(None)),
+    (&["--more", "1"], Due::Bad(None)),
     // no numbers
     (&["--slots"], NO_SLOTS),
     (&["--slots="], NO_SLOTS),
@@ -162,15 +171,20 @@ fn numbers_of(limits: &Limits) -> [u32; 8] {
     ]
 }
 
+/// Whether these options have these limits and lanes, and these switches are on.
+fn have(options: &Options, limits: [u32; 8], reuse: bool, more: bool, lanes: u32) -> bool {
+    numbers_of(&options.limits) == limits
+        && options.limits.reuse == reuse
+        && options.more == more
+        && options.lanes == lanes
+}
+
 /// Whether these options are due.
 fn are_read(options: &Options, due: Due) -> bool {
     match due {
-        Due::Numbers(limits, lanes) => {
-            numbers_of(&options.limits) == limits && !options.limits.reuse && options.lanes == lanes
-        }
-        Due::Reused(lanes) => {
-            numbers_of(&options.limits) == USUAL && options.limits.reuse && options.lanes == lanes
-        }
+        Due::Numbers(limits, lanes) => have(options, limits, false, false, lanes),
+        Due::Reused(lanes) => have(options, USUAL, true, false, lanes),
+        Due::More(lanes) => have(options, USUAL, false, true, lanes),
         Due::Paths(load, save) => options.load.as_deref() == load
             && options.save.as_deref() == save,
         Due::Bad(_) => false,
@@ -218,6 +232,7 @@ const IN_HELP: &[&str] = &[
     "--max-recursion <NUMBER>", "1 to 2147483647, the default.",
     "--lanes <NUMBER>", "0 to 64, default 0.",
     "--reuse",
+    "--more",
 ];
 
 /// Whether a fault is the help, and a text is in it.

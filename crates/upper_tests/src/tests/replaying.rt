@@ -46,7 +46,7 @@ fn is_replayed(alloc: Global, limits: Limits, journal: &[Entry]) -> bool {
         return false;
     };
     let mut sink = Collected::new(alloc, usize::MAX);
-    let is_run = run_whole(alloc, limits, script.as_slice(), &mut sink).is_ok();
+    let is_run = run_whole(alloc, true, limits, script.as_slice(), &mut sink).is_ok();
     is_run
         && sink.whole().is_some_and(|printed| are_told(script.as_slice(), printed, journal.len()))
 }

@@ -2,9 +2,9 @@
 use crate::tests::holds_at;
 use ob_manager::CallOf::{
     CancelTimer, Child, CloseHandle, Counts, Duplicate, EndThread, Exit, Expire, GetFlags,
-    MakeEvent, MakeMutex, MakeSemaphore, MakeTimer, OpenNamed, Reap, ReleaseMutex,
-    ReleaseSemaphore, ResetEvent, SetEvent, SetFlags, SetTimer, Spawn, StartThread, Tick, WaitFor,
-    WaitResult,
+    MakeEvent, MakeHost, MakeMutex, MakeSemaphore, MakeTimer, OpenNamed, Reap, ReleaseMutex,
+    ReleaseSemaphore, ResetEvent, SetEvent, SetFlags, SetTimer, SignalHost, Spawn, StartThread,
+    Tick, WaitFor, WaitResult,
 };
 use ob_manager::{CallOf, Make, Mode, Timeout};
 use ob_rights::{Kind, Rights};
@@ -71,10 +71,16 @@ const ROWS: &[Row] = &[
     (MakeSemaphore { thread: 1, make: PLAIN, initial: -2_147_483_648, max: 2_147_483_647 },
         Some(b"semaphore t1 -2147483648 2147483647")),
     (MakeTimer { thread: 1, make: PLAIN, manual: true }, Some(b"timer t1 manual")),
+    (MakeHost { thread: 1, make: PLAIN, object_type: 0, manual: false, signaled: true }, Some(b"host t1 k0 auto set")),
+    (MakeHost { thread: 1, make: WHOLE, object_type: 255, manual: true, signaled: false },
+        Some(b"host t1 k255 manual clear inherit access 0x100000 grant 0x1f0003 name A b")),
+    (MakeHost { thread: 1, make: TWO_LINES, object_type: 7, manual: true, signaled: true }, None),
     (OpenNamed { thread: 1, kind: Kind::Semaphore, mask: Rights(0), inherit: true, text: b"name" },
         Some(b"open t1 semaphore 0x0 inherit name name")),
     (OpenNamed { thread: 1, kind: Kind::Timer, mask: Rights(LAST), inherit: false, text: b"\xff" },
         Some(b"open t1 timer 0xffffffff name \xff")),
+    (OpenNamed { thread: 1, kind: Kind::Host(10), mask: Rights::SYNCHRONIZE, inherit: false, text: b"A" },
+        Some(b"open t1 k10 0x100000 name A")),
     (Duplicate { thread: 1, source: 2, handle: 4, target: Some(3), mask: Rights(2), inherit: true, options: 1 },
         Some(b"dup t1 p2 h4 p3 0x2 inherit close")),
     (Duplicate { thread: 1, source: 2, handle: 4, target: None, mask: Rights(9), inherit: false, options: 3 },
@@ -87,6 +93,8 @@ const ROWS: &[Row] = &[
     (ResetEvent { thread: 1, handle: 4 }, Some(b"reset t1 h4")),
     (ReleaseSemaphore { thread: 1, handle: 4, count: -1 }, Some(b"release t1 h4 -1")),
     (ReleaseMutex { thread: 1, handle: 4 }, Some(b"unlock t1 h4")),
+    (SignalHost { id: FAR, signaled: true }, Some(b"signal s65535.4294967295 set")),
+    (SignalHost { id: FAR, signaled: false }, Some(b"signal s65535.4294967295 clear")),
     (SetTimer { thread: 1, handle: 4, due: -9_223_372_036_854_775_808 }, Some(b"settimer t1 h4 -9223372036854775808")),
     (CancelTimer { thread: 1, handle: 4 }, Some(b"cancel t1 h4")),
     (Tick { now: 9_223_372_036_854_775_807 }, Some(b"tick 9223372036854775807")),

@@ -9,7 +9,7 @@ returns-clause-answers g c =
       run.1,
       run.2,
       run.3,
-      run_ended c.answer_all-answered.result c.args.limits c.in-Some.console.point
+      run_ended c.answer_all-answered.result c.args.more c.args.limits c.in-Some.console.point
           c.answer_all-answered.new.console.point run.0 run.1 c.in-Some.ensures.opens run.4,
     )
 

@@ -9,6 +9,6 @@ returns-clause-err g c =
       run.1,
       run.2,
       run.3,
-      cut_from c.in-Err.fault (Reopens c.args.manager) c.in-Some.console.point c.answer_all.new.console.point
+      cut_from c.in-Err.fault (Reopens c.args.more c.args.manager) c.in-Some.console.point c.answer_all.new.console.point
           run.0 run.1 c.in-Some.ensures.reopens run.4,
     )

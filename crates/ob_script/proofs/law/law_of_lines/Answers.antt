@@ -1,3 +1,4 @@
+use Rattle.ob_script.proofs.Added.{line_is_added}
 use Rattle.ob_script.proofs.Alike.{answered_alike}
 use Rattle.ob_script.proofs.Lineless.{lineless_is_refused}
 use Rattle.ob_script.proofs.ReadBack.{line_is_read}
@@ -11,3 +12,6 @@ returns-clause-alike c = answered_alike
 
 pub returns-clause-lineless : goal.returns-clause-lineless
 returns-clause-lineless c = lineless_is_refused
+
+pub returns-clause-added : goal.returns-clause-added
+returns-clause-added c = line_is_added

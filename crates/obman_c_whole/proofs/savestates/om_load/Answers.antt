@@ -4,7 +4,7 @@ use Rattle.ob_codec.specs.declared.fault.TextFault.{TextFault}
 use Rattle.ob_codec.specs.Reading.{Fails}
 use Rattle.ob_codec.specs.Sealing.{unsealed}
 use Rattle.ob_rights.specs.Fault.{code_of}
-use Rattle.ob_manager.specs.Savestates.{load}
+use Rattle.ob_manager.specs.Savestates.{load_with}
 use Rattle.obman_c_base.specs.declared.owned.OwnedManager.{OwnedManager}
 use Rattle.obman_c_whole.specs.Savestates.{lacks, loads, wrong}
 use Rattle.obman_c_whole.proofs.Loading.{known, of_loaded}
@@ -14,18 +14,18 @@ use Rattle.obman_c_whole.proofs.savestates.om_load.Goals as goal
 pub returns-in-Ok-held : goal.returns-in-Ok-held
 returns-in-Ok-held c =
     let new = c.in-Ok-held.ensures.loaded in
-    loads c.in-Ok.manager new.0 c.in-Ok.ensures.gives refl
+    loads c.in-Ok.manager c.in-Ok.kept new.0 c.in-Ok.ensures.gives refl
     (c.of.ensures ∙ ap (λ (held : OwnedManager). Some held) new.1)
 
 pub returns-in-Err-Text : goal.returns-in-Err-Text
 returns-in-Err-Text c =
     wrong c.in-Err-Text.field-0-0
-    (subst (λ (fault : ReadFault). Fails fault (load c.args.bytes.now)) c.in-Err-Text.field-0-is
+    (subst (λ (fault : ReadFault). Fails fault (load_with c.args.bytes.now)) c.in-Err-Text.field-0-is
     c.in-Err-Text.ensures.gives) refl refl
 
 pub returns-in-Err : goal.returns-in-Err
 returns-in-Err c =
-    lacks (of_loaded c.args.bytes.now c.in-Ok.manager c.in-Ok.ensures.gives)
+    lacks (of_loaded c.args.bytes.now c.in-Ok.manager c.in-Ok.kept c.in-Ok.ensures.gives)
     (c.code_of.ensures ∙ ap code_of c.in-Err.ensures.memory) refl
 
 pub returns-in-Err-Memory : goal.returns-in-Err-Memory

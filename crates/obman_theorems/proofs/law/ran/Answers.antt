@@ -7,6 +7,6 @@ returns g c = let told = c.run.ensures.answers in (
   told.1,
   told.2,
   told.3,
-  ended_runs c.run.result c.args.limits told.0 told.1 told.4,
+  ended_runs c.run.result c.args.more c.args.limits told.0 told.1 told.4,
   told.4,
 )

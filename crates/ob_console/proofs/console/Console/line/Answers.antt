@@ -29,7 +29,7 @@ returns-then-is_empty-clause-advances g c =
     ++ printed) c.answer.new.self.pending.bytes)
     c.self.view_is (
       prints.0,
-      line_advances old new (command_of c.args.end.now) c.args.end.now prints.0 c.requires.within
+      line_advances old new (command_of old.point.more c.args.end.now) c.args.end.now prints.0 c.requires.within
           (search (arith, command_of_capped))
           prints.1 c.answer.ensures.lines empty,
       prints.2,
@@ -56,7 +56,7 @@ returns-clause-advances g c =
     ++ printed) c.answer_held-answered.new.self.pending.bytes)
     c.self.view_is (
       prints.0,
-      line_advances old new (command_of_partial_line c.extend.new.self) c.args.end.now prints.0 c.requires.within
+      line_advances old new (command_of_partial_line old.point.more c.extend.new.self) c.args.end.now prints.0 c.requires.within
           (search arith)
           prints.1 c.answer_held-answered.ensures.lines c.clear.ensures,
       prints.2,

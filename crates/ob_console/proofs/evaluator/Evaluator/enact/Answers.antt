@@ -9,8 +9,8 @@ use Rattle.ob_console.proofs.evaluator.Evaluator.enact.Goals as goal
 
 pub returns-in-Ask-clause-prints : goal.returns-in-Ask-clause-prints
 returns-in-Ask-clause-prints g c =
-    let p : Point = point c.self.inside.manager c.self.inside.reader.view in
-    let q : Point = point c.reply_to.new.manager c.reply_to.new.reader.view in
+    let p : Point = point c.self.inside.more c.self.inside.manager c.self.inside.reader.view in
+    let q : Point = point c.self.inside.more c.reply_to.new.manager c.reply_to.new.reader.view in
     let new : Evaluation = record { point = q; pending = c.put_reply.new.self; lines = c.self.inside.lines } in
     let printed : List ℕ = answered c.reply_to.result in
     subst (λ (old : Evaluation). Enacts old old.lines (command_in c.args.handles.now c.args.act.now) c.put_reply.result
@@ -25,7 +25,7 @@ returns-in-Ask-clause-prints g c =
 pub returns-in-ListNames-clause-prints : goal.returns-in-ListNames-clause-prints
 returns-in-ListNames-clause-prints g c =
     let inside = c.self-in-ListNames.inside in
-    let p : Point = point inside.manager inside.reader.view in
+    let p : Point = point inside.more inside.manager inside.reader.view in
     let new : Evaluation = record { point = p; pending = c.list.new.output; lines = inside.lines } in
     let names : List ℕ = printed_names (directory_of inside.manager.state) in
     subst (λ (old : Evaluation). Enacts old old.lines (command_in c.args.handles.now c.args.act.now) c.list.result

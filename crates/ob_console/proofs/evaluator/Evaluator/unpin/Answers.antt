@@ -9,7 +9,7 @@ use Rattle.ob_console.proofs.evaluator.Evaluator.unpin.Goals as goal
 pub returns-clause-prints : goal.returns-clause-prints
 returns-clause-prints g c =
     let new : Evaluation = record {
-      point = point c.self.inside.manager c.unpin-done.new.reader.view;
+      point = point c.self.inside.more c.self.inside.manager c.unpin-done.new.reader.view;
       pending = c.put.new.self;
       lines = c.self.inside.lines;
     } in
@@ -17,7 +17,7 @@ returns-clause-prints g c =
     subst (λ (old : Evaluation). Enacts old old.lines (Unpin c.args.id) c.put.result (g.W.Sink.taken c.args.sink.now)
     (g.W.Sink.taken c.put.new.sink) new) c.self.view_is (
       printed,
-      (c.unpin-done.result, c.unpin-done.ensures.unpins, refl, refl),
+      (c.unpin-done.result, c.unpin-done.ensures.unpins, refl, refl, refl),
       put_written c.put.result (g.W.Sink.taken c.args.sink.now) (g.W.Sink.taken c.put.new.sink)
           (c.self.inside.output.bytes ++ printed) c.put.new.self.bytes c.put.ensures.ok c.put.ensures.err,
     )

@@ -68,6 +68,11 @@ same (calls.MakeSemaphore thread make initial max) (calls.MakeSemaphore thread' 
 same (calls.MakeTimer thread make manual) (calls.MakeTimer thread' make' manual') e =
     let parts = apart (thread == thread') (beq manual manual') make make' e in
     grind (arith, nat_tests, parts.0, parts.1, parts.2)
+same (calls.MakeHost thread make object_type manual signaled)
+    (calls.MakeHost thread' make' object_type' manual' signaled') e =
+    let parts = apart (thread == thread') ((object_type == object_type')
+    && (beq manual manual' && beq signaled signaled')) make make' e in
+    grind (arith, nat_tests, parts.0, parts.1, parts.2)
 same (calls.OpenNamed thread kind mask inherit text) (calls.OpenNamed thread' kind' mask' inherit' text') e =
     let same_text : text ≡ text' = text_is text text' (grind (arith, nat_tests, e)) in
     grind (arith, nat_tests, e, same_text)
@@ -82,6 +87,7 @@ same (calls.ResetEvent thread handle) (calls.ResetEvent thread' handle') e = gri
 same (calls.ReleaseSemaphore thread handle count) (calls.ReleaseSemaphore thread' handle' count') e =
     grind (arith, nat_tests, e)
 same (calls.ReleaseMutex thread handle) (calls.ReleaseMutex thread' handle') e = grind (arith, nat_tests, e)
+same (calls.SignalHost id signaled) (calls.SignalHost id' signaled') e = grind (arith, nat_tests, e)
 same (calls.SetTimer thread handle due) (calls.SetTimer thread' handle' due') e = grind (arith, nat_tests, e)
 same (calls.CancelTimer thread handle) (calls.CancelTimer thread' handle') e = grind (arith, nat_tests, e)
 same (calls.Tick now) (calls.Tick now') e = grind (arith, nat_tests, e)
