@@ -1,19 +1,8 @@
 /* Numbers that come back, as a host has them: threads that begin and end far more often than there are numbers, waits that are called by
  * their threads, and both again behind a savestate. It prints `all held`, or the line of the first thing that doesn't. */
-#include <obman.h>
-#include <stdio.h>
-#include <stdlib.h>
-
-#define MUST(holds) must(holds, __LINE__)
+#include "holding.h"
 
 enum { THREADS = 70000, WAITS = 1000 };
-
-static void must(bool holds, int line) {
-    if (!holds) {
-        printf("reusing.c:%d doesn't hold\n", line);
-        exit(1);
-    }
-}
 
 /* One thread more begins and ends, of the three that may live, again and again: it has always the least number that is free. */
 static void threads(om_manager *m, uint32_t process, uint32_t due) {
@@ -65,20 +54,6 @@ static void order(om_manager *m, uint32_t first, uint32_t second, uint32_t host,
     MUST(om_release_semaphore(m, host, semaphore, 1, &previous) == OM_SUCCESS);
     MUST(om_take_answered(m, answers, 3, &count) == OM_SUCCESS && count == 2);
     MUST(answers[0].thread == first && answers[1].thread == second);
-}
-
-/* The manager of a savestate of this one, which ends. */
-static om_manager reloaded(om_manager m) {
-    om_manager again;
-    unsigned char *bytes;
-    size_t size, written;
-    MUST(om_save(&m, "", 0, &size) == OM_ERROR_INSUFFICIENT_BUFFER);
-    bytes = malloc(size);
-    MUST(bytes != NULL && om_save(&m, bytes, size, &written) == OM_SUCCESS && written == size);
-    om_free(m);
-    MUST(om_load(bytes, size, &again) == OM_SUCCESS);
-    free(bytes);
-    return again;
 }
 
 int main(void) {

@@ -1,40 +1,16 @@
 /* What can still come, as om_room_of tells it: as much as comes then, up to the last, and again what comes back; by om_new and by
  * om_new_reusing, and the same behind a savestate. It prints `all held`, or the line of the first thing that doesn't. */
-#include <obman.h>
-#include <stdio.h>
-#include <stdlib.h>
+#include "holding.h"
 
-#define MUST(holds) must(holds, __LINE__)
 #define ROOM(process, slots, processes, threads, handles) \
-    must(is_left(&m, process, (om_room){slots, processes, threads, handles, 0}), __LINE__)
+    must(is_left(&m, process, (om_room){slots, processes, threads, handles, 0}), __FILE__, __LINE__)
 
 enum { SLOTS = 3, PROCESSES = 4, THREADS = 70, HANDLES = 4 };
-
-static void must(bool holds, int line) {
-    if (!holds) {
-        printf("room.c:%d doesn't hold\n", line);
-        exit(1);
-    }
-}
 
 static bool is_left(om_manager *m, uint32_t process, om_room due) {
     om_room room = {77, 77, 77, 77, 77};
     return om_room_of(m, process, &room) == OM_SUCCESS && room.slots == due.slots && room.processes == due.processes
            && room.threads == due.threads && room.handles == due.handles;
-}
-
-/* The manager of a savestate of this one, which ends. */
-static om_manager reloaded(om_manager m) {
-    om_manager again;
-    unsigned char *bytes;
-    size_t size, written;
-    MUST(om_save(&m, "", 0, &size) == OM_ERROR_INSUFFICIENT_BUFFER);
-    bytes = malloc(size);
-    MUST(bytes != NULL && om_save(&m, bytes, size, &written) == OM_SUCCESS && written == size);
-    om_free(m);
-    MUST(om_load(bytes, size, &again) == OM_SUCCESS);
-    free(bytes);
-    return again;
 }
 
 /* Processes and threads come up to the last, and end, whose numbers come back or don't. */

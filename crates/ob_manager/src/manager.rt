@@ -73,8 +73,8 @@ impl<K: PinKeeper> Manager<K> {
         self.store.limits()
     }
 
-    /// What can still come before a call is refused with 1450 for want of it: objects, processes and threads, and handles
-    /// of one process. It takes constant time.
+    /// What can still come before a call is refused with 1450 for want of it: objects, processes, threads, waits, and
+    /// handles of one process. It takes constant time.
     pub fn room(&self, process: u32) -> Room
         ensures { result ≡ room_of self.now.state process }
     {
@@ -232,12 +232,13 @@ impl<K: PinKeeper> Manager<K> {
 
     /// A new object of the host's own, such as a thread, a process or a file, or a handle to the one of this type that
     /// has the name already, as [`create_event`](Manager::create_event) makes an event. One that is `manual` stays
-    /// signaled until the host resets it, another until it satisfies a wait. It is refused in the same way; all rights of
-    /// such an object are each standard right and each specific one (0x1F_FFFF), of which `make` says those of its type.
+    /// signaled until the host resets it, another until it satisfies a wait. It is refused in the same way; all rights
+    /// of such an object are each standard right and each specific one (0x1F_FFFF), of which `make` says those of its
+    /// type.
     ///
     /// Waits take it as they take an event, [`open_named`](Manager::open_named) opens it as
-    /// [`Kind::Host`](ob_rights::Kind), and each call for another kind of object is refused with 6. A descriptor tells it
-    /// as an event.
+    /// [`Kind::Host`](ob_rights::Kind), and each call for another kind of object is refused with 6. A descriptor tells
+    /// it as an event.
     pub fn create_host(
         &mut self,
         thread: u32,
@@ -419,10 +420,10 @@ impl<K: PinKeeper> Manager<K> {
         self.call(&Ask::ReleaseMutex { thread, handle })
     }
 
-    /// Signals an object of the host's own, or resets it: `Done`. It is the host's call, which needs no handle, no thread
-    /// and no right.
+    /// Signals an object of the host's own, or resets it: `Done`. It is the host's call, which needs no handle, no
+    /// thread and no right.
     ///
-    /// Refused with 6 where no such object has the Id.
+    /// Refused with 6 where no object has the Id, or it has ended, or is of one of the other kinds.
     pub fn signal_host(&mut self, id: Id, signaled: bool) -> Reply
         ensures { Step self.old (calls.SignalHost id signaled) result self.new }
     {

@@ -37,8 +37,8 @@ pub fn is_too_long(text: &[u8]) -> bool
     text.len() > TEXT_MOST
 }
 
-/// What a line is; with `more` it may be one of those that the option `--more` adds. The handles of a wait are read into
-/// `handles`, in place of those that stood there.
+/// What a line is; with `more` it may be one of those that the option `--more` adds. The handles of a wait are read
+/// into `handles`, in place of those that stood there.
 //
 // What a line of each verb is stands in this one function when it runs: a function of its own would have a copy of the
 // words that are left, and each of these would be cleared for every line. Each verb makes its command in one step, with

@@ -32,7 +32,7 @@ use pin_words::Keeper;
 pub struct CObjectState {
     /// The moment at which a timer is due, in units of 100 ns.
     pub due: u64,
-    /// Its kind: an event 0, a mutex 1, a semaphore 2, a timer 3, a host's object 256 and its type; 4 once it has ended.
+    /// Its kind: an event 0, a mutex 1, a semaphore 2, a timer 3, a host's object 256 + its type; 4 once it has ended.
     pub kind: u32,
     /// The count of a semaphore; how often a mutex is owned.
     pub count: u32,
@@ -40,8 +40,8 @@ pub struct CObjectState {
     pub max: u32,
     /// The thread that owns a mutex, or 0.
     pub owner: u32,
-    /// Whether it is signaled: an event or a host's object is set, a mutex isn't owned, a semaphore has a count, a timer's
-    /// moment has come.
+    /// Whether it is signaled: an event or a host's object is set, a mutex isn't owned, a semaphore has a count, a
+    /// timer's moment has come.
     pub signaled: bool,
     /// Whether the last owner of a mutex ended.
     pub abandoned: bool,
