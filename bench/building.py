@@ -18,13 +18,14 @@ def proved(name):
     return ROOT / "crates" / name / "out" / name
 
 
-def through_header(name):
-    """The program of bench/NAME.c, through include/obman.h."""
-    subprocess.run(["make", "-C", ROOT], check=True, stdout=sys.stderr)
+def through_header(name, is_unproved=False):
+    """The program of bench/NAME.c, through include/obman.h; also over a library that isn't proved."""
+    build, library = (["tools/unproved", "--bare"], "libobman_unproved.a") if is_unproved else (["make"], "libobman.a")
+    subprocess.run(build, check=True, cwd=ROOT, stdout=sys.stderr)
     OUT.mkdir(exist_ok=True)
     made = OUT / f"{name}_c"
     words = ["-std=c11", "-D_GNU_SOURCE", "-O2", "-march=x86-64-v2", "-pthread", "-I", ROOT / "include", "-o", made, BENCH / f"{name}.c"]
-    subprocess.run([*os.environ.get("CC", "cc").split(), *words, ROOT / "build" / "libobman.a"], check=True)
+    subprocess.run([*os.environ.get("CC", "cc").split(), *words, ROOT / "build" / library], check=True)
     return made
 
 
@@ -63,7 +64,7 @@ def compare(name, turns, *runs):
     ours, rust = best
     if rust.keys() - ours.keys():
         sys.exit(f"{name}: in plain Rust alone {sorted(rust.keys() - ours.keys())}")
-    print(f"{name:52} {'ours ns':>12} {'Rust ns':>12} {'ratio':>6}")
+    print(f"{name:56} {'ours ns':>12} {'Rust ns':>12} {'ratio':>6}")
     for case, time in ours.items():
         columns = f"{rust[case]:12.1f} {time / rust[case]:6.2f}" if case in rust else ""
-        print(f"{case:52} {time:12.1f} {columns}".rstrip(), flush=True)
+        print(f"{case:56} {time:12.1f} {columns}".rstrip(), flush=True)

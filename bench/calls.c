@@ -1,5 +1,6 @@
-/* The rounds of bench/calls.rs through the header, and those of time, which that hasn't. Of each case it prints the
- * line `CASE, AMONG: ROUNDS in NANOSECONDS, SUM`: what the rounds gave adds up to the same in both. */
+/* The rounds of bench/calls.rs through the header, and those that it hasn't: of time, where numbers come back
+ * (`reusing`), and where the host keeps numbers at threads. Of each case it prints the line
+ * `CASE, AMONG: ROUNDS in NANOSECONDS, SUM`: what the rounds gave adds up to the same in both. */
 #include "timed.h"
 #include <string.h>
 
@@ -37,6 +38,8 @@ typedef struct spent {
 /* The manager of a case, and among how many objects, handles, threads or waits it is. */
 static om_manager m;
 static uint32_t count;
+/* Whether the numbers of the managers that begin come back. */
+static bool reuses;
 /* The last process, whose first thread makes the calls; who waits; and for what. */
 static uint32_t process, thread, waiter, handle;
 static event events[MOST];
@@ -84,7 +87,7 @@ static void spawn(void) {
 static void begin(uint32_t among) {
     om_limits limits = OM_LIMITS_MOST;
     om_free(m);
-    done(om_new(&limits, &m));
+    done((reuses ? om_new_reusing : om_new)(&limits, &m));
     spawn();
     count = among;
 }
@@ -196,6 +199,19 @@ static uint32_t open_and_close(uint32_t at) {
     return o.handle;
 }
 
+static uint32_t find(uint32_t at) {
+    om_handle_info info;
+    done(om_find(&m, 1, events[at].name, NAME_LENGTH, &info));
+    return info.object.slot;
+}
+
+static uint32_t name_of(uint32_t at) {
+    char name[OM_NAME_MOST];
+    om_row row;
+    done(om_name_of(&m, events[at].object.slot, events[at].object.generation, name, sizeof name, &row));
+    return row.length;
+}
+
 static uint32_t set_and_reset(uint32_t at) {
     event *e = &events[at];
     done(om_set_event(&m, e->thread, e->handle));
@@ -240,6 +256,8 @@ static void run_events(uint32_t among) {
     run_batches("create and close, unnamed", "reap, unnamed", come_and_go_unnamed);
     run_batches("create and close, named", "reap, named", come_and_go_named);
     measure("open and close", ROUNDS, open_and_close);
+    measure("find", ROUNDS, find);
+    measure("name of an object", ROUNDS, name_of);
     measure("set and reset", ROUNDS, set_and_reset);
     measure("counts", ROUNDS, counts);
     measure("resolve", ROUNDS, resolve);
@@ -279,7 +297,7 @@ static uint32_t wait_and_set(uint32_t at) {
 }
 
 /* So many threads wait, each for an event of its own, and one more doesn't yet. */
-static void run_beside(uint32_t among) {
+static void run_beside(const char *what, uint32_t among) {
     begin(among);
     for (uint32_t i = 0; i <= among; i++) {
         handle = new_unnamed(false, false);
@@ -288,7 +306,7 @@ static void run_beside(uint32_t among) {
             wait_long(waiter, false, &handle, 1);
         }
     }
-    measure("wait, set and result, waits beside", ROUNDS, wait_and_set);
+    measure(what, ROUNDS, wait_and_set);
 }
 
 static void run_waits(void) {
@@ -298,8 +316,12 @@ static void run_waits(void) {
     measure("wait for all", ROUNDS, wait_for_all);
     begin_list(64, false, 64);
     measure("wait for any, set and result", ROUNDS, wait_for_some);
-    run_beside(0);
-    run_beside(10000);
+    for (uint32_t among = 0; among <= 10000; among += 10000) {
+        run_beside("wait, set and result, waits beside", among);
+        reuses = true;
+        run_beside("wait, set and result, waits beside, reusing", among);
+        reuses = false;
+    }
 }
 
 /* ---- Herds: threads that all wait for one object, and are released one by one, or together ---- */
@@ -423,18 +445,34 @@ INLINED void run_lives(const char *what, uint32_t among, void (*fill)(uint32_t a
 static uint32_t places[65537];
 
 /* A guest's event is set, its answer is taken, and it waits again. */
-static uint32_t take_turns(uint32_t at) {
+INLINED uint32_t take_turns(uint32_t at, uint32_t (*place_of)(uint32_t of)) {
     om_answer answers[4];
     size_t length;
     uint32_t sum = 0;
     done(om_set_event(&m, events[at].thread, events[at].handle));
     done(om_take_answered(&m, answers, 4, &length));
     for (size_t i = 0; i < length; i++) {
-        uint32_t place = places[answers[i].thread];
+        uint32_t place = place_of(answers[i].thread);
         wait_long(threads[place], false, &events[place].handle, 1);
         sum += answers[i].code + 1;
     }
     return sum;
+}
+
+static uint32_t place_in_table(uint32_t of) {
+    return places[of];
+}
+
+static uint32_t place_at_thread(uint32_t of) {
+    return (uint32_t)om_thread_data(&m, of);
+}
+
+static uint32_t take_turns_by_table(uint32_t at) {
+    return take_turns(at, place_in_table);
+}
+
+static uint32_t take_turns_by_thread(uint32_t at) {
+    return take_turns(at, place_at_thread);
 }
 
 static void run_guests(uint32_t among) {
@@ -446,7 +484,11 @@ static void run_guests(uint32_t among) {
         places[threads[i]] = i;
         wait_long(threads[i], false, &events[i].handle, 1);
     }
-    measure("set, answer, wait again", ROUNDS, take_turns);
+    measure("set, answer, wait again", ROUNDS, take_turns_by_table);
+    for (uint32_t i = 0; i < among; i++) {
+        done(om_set_thread_data(&m, threads[i], i));
+    }
+    measure("set, answer, wait again with the thread's number", ROUNDS, take_turns_by_thread);
 }
 
 /* ---- Time, among as many timers that are set for later and threads that wait with a deadline ---- */
@@ -521,6 +563,9 @@ int main(void) {
     }
     for (int i = 0; i < 3; i += 2) {
         run_lives("thread and end", each[i], begin_owner, thread_and_end);
+        reuses = true;
+        run_lives("thread and end, reusing", each[i], begin_owner, thread_and_end);
+        reuses = false;
         run_lives("thread, mutex and end", each[i], begin_owner, owner_and_end);
     }
     for (int i = 0; i < 3; i++) {

@@ -1,4 +1,4 @@
-//! The rounds of bench/calls.c but those of time, over a manager by hand in plain Rust.
+//! The rounds of bench/calls.c but those that it says are its own, over a manager by hand in plain Rust.
 
 mod parts;
 

@@ -1,5 +1,6 @@
 /* om_save and om_load of 60,000 named events, 16 processes with 1,000 handles each besides, and 10,000 pending waits;
- * and a copy of the bytes. Of each it prints the line `CASE, LENGTH bytes: 1 in NANOSECONDS, DIGEST`. */
+ * and a copy of the bytes; then the same of a small guest. Of each it prints the line
+ * `CASE, LENGTH bytes: 1 in NANOSECONDS, DIGEST`. */
 #include "timed.h"
 #include <string.h>
 
@@ -12,13 +13,11 @@ static size_t text(char *name, int number) {
 }
 
 /* The first four processes make the events, and the others open some and wait. */
-static void begin(void) {
-    om_limits limits = OM_LIMITS_MOST;
+static void fill(void) {
     om_making making = om_named();
     om_member hosts[PROCESSES];
     om_opening o;
     char name[32];
-    done(om_new(&limits, &m));
     for (int i = 0; i < PROCESSES; i++) {
         done(om_spawn(&m, 1, &hosts[i]));
     }
@@ -36,11 +35,10 @@ static void begin(void) {
     }
 }
 
-int main(void) {
+static void measure(const char *of) {
     static const char *const cases[] = {"save", "load", "copy"};
     uint64_t best[] = {UINT64_MAX, UINT64_MAX, UINT64_MAX};
     size_t length, written;
-    begin();
     must(om_save(&m, NULL, 0, &length), OM_ERROR_INSUFFICIENT_BUFFER);
     unsigned char *bytes = malloc(length), *other = malloc(length);
     for (int i = 0; i < ROUNDS; i++) {
@@ -61,11 +59,24 @@ int main(void) {
         }
     }
     for (int at = 0; at < 3; at++) {
-        printf("%s, %zu bytes: 1 in %" PRIu64 ", ", cases[at], length, best[at]);
+        printf("%s%s, %zu bytes: 1 in %" PRIu64 ", ", cases[at], of, length, best[at]);
         for (size_t i = length - 32; i < length; i++) {
             printf("%02x", bytes[i]);
         }
         printf("\n");
     }
+    free(bytes);
+    free(other);
+    om_free(m);
+}
+
+int main(void) {
+    om_limits limits = OM_LIMITS_MOST;
+    done(om_new(&limits, &m));
+    fill();
+    measure("");
+    done(om_new(&limits, &m));
+    small_guest(&m);
+    measure(" of a small guest");
     return 0;
 }

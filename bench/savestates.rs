@@ -3,12 +3,12 @@
 mod parts;
 
 use parts::answers::{Kind, Limits, Make, Mode, Reply, Timeout};
+use parts::cases::small_guest;
 use parts::manager::Manager;
 use parts::saving;
 use std::time::Instant;
 
-fn begun() -> Manager {
-    let mut m = Manager::new(Limits::MOST);
+fn fill(m: &mut Manager) {
     let hosts: Vec<(u32, u32)> = (0..20)
         .map(|_| match m.spawn(1) {
             Reply::Spawned { process, thread } => (process, thread),
@@ -33,11 +33,9 @@ fn begun() -> Manager {
         let waited = m.wait(thread, Mode::Any, Timeout::Infinite, &[4 + 4 * (i as u32 % 1_000)]);
         assert!(matches!(waited, Reply::Pending { .. }), "{waited:?}");
     }
-    m
 }
 
-fn main() {
-    let m = begun();
+fn measure(of: &str, m: Manager) {
     let (mut save, mut load) = (u128::MAX, u128::MAX);
     let mut bytes = Vec::new();
     for _ in 0..5 {
@@ -51,6 +49,15 @@ fn main() {
     }
     let digest: String = bytes[bytes.len() - 32..].iter().map(|byte| format!("{byte:02x}")).collect();
     for (case, taken) in [("save", save), ("load", load)] {
-        println!("{case}, {} bytes: 1 in {taken}, {digest}", bytes.len());
+        println!("{case}{of}, {} bytes: 1 in {taken}, {digest}", bytes.len());
     }
+}
+
+fn main() {
+    let mut m = Manager::new(Limits::MOST);
+    fill(&mut m);
+    measure("", m);
+    let mut m = Manager::new(Limits::MOST);
+    small_guest(&mut m).expect("a small guest");
+    measure(" of a small guest", m);
 }

@@ -1,4 +1,4 @@
-/* What the programs through the header share: the clock, and the number that a call has to answer. */
+/* What the programs through the header share: the clock, the number that a call has to answer, and a small guest. */
 #include <inttypes.h>
 #include <obman.h>
 #include <stdio.h>
@@ -24,4 +24,19 @@ static inline void must(uint32_t answer, uint32_t due) {
 
 static inline void done(uint32_t answer) {
     must(answer, OM_SUCCESS);
+}
+
+/* A process with two threads and ten unnamed events. The sum of its handles. */
+static inline uint32_t small_guest(om_manager *m) {
+    om_making making = {0};
+    om_member member;
+    om_opening o;
+    uint32_t other, sum = 0;
+    done(om_spawn(m, 1, &member));
+    done(om_thread(m, member.process, &other));
+    for (int i = 0; i < 10; i++) {
+        done(om_create_event(m, member.thread, &making, "", 0, false, false, &o));
+        sum += o.handle;
+    }
+    return sum;
 }

@@ -33,7 +33,7 @@
  *   each slot is taken a create is refused with OM_ERROR_NO_SYSTEM_RESOURCES.
  * - It makes the manager by om_new_reusing, whose numbers come back; or it sets the limits to what it needs in the manager's whole
  *   life, since om_new's gives numbers of processes, threads and waits once.
- * - It tells the time (om_tick, at om_next_due), or no timer fires and no wait with a timeout ends.
+ * - It tells the time (om_advance, at om_next_due), or no timer fires and no wait with a timeout ends.
  *
  * docs/EMBEDDING.md says how a host does that, and what it does for what isn't here.
  *
@@ -104,6 +104,12 @@ extern "C" {
 #define OM_TIMER_ALL_ACCESS 0x001F0003u
 #define OM_HOST_ALL_ACCESS 0x001FFFFFu
 
+/* Generic rights, which each call refuses with 5: om_map_access has what they stand for. */
+#define OM_GENERIC_ALL 0x10000000u
+#define OM_GENERIC_EXECUTE 0x20000000u
+#define OM_GENERIC_WRITE 0x40000000u
+#define OM_GENERIC_READ 0x80000000u
+
 /* Handle flags, and options of om_duplicate. */
 #define OM_HANDLE_FLAG_INHERIT 1u
 #define OM_HANDLE_FLAG_PROTECT_FROM_CLOSE 2u
@@ -140,7 +146,7 @@ extern "C" {
 
 /* The greatest limits, for a host that runs for long over om_new: numbers of processes, threads and pending waits are given once there, and
  * two guests that wake each other in turn use up a million waits in less than a second. A manager reserves 14 MiB from the start, nearly
- * all for its slots, which come back, and uses some 2.3 of them while it is new. */
+ * all for its slots, which come back, and uses some 3 of them while it is new. */
 #define OM_LIMITS_MOST {65536u, 65536u, 65536u, 16384u, 4294967295u, 1073741823u, 4294967295u, 2147483647u}
 
 /* The Win32 name of a number that a call answers, or of WAIT_TIMEOUT, for logs; "unknown" for another. */
@@ -167,6 +173,42 @@ static inline const char *om_error_name(uint32_t number) {
     case OM_ERROR_NO_SYSTEM_RESOURCES: return "ERROR_NO_SYSTEM_RESOURCES";
     case OM_ERROR_NOT_ENOUGH_QUOTA: return "ERROR_NOT_ENOUGH_QUOTA";
     default: return "unknown";
+    }
+}
+
+/* An access mask with the rights of a kind (OM_EVENT, or OM_HOST(type)) in the place of generic ones, as NT maps them: each has READ_CONTROL;
+ * to read is to query the state too, which is bit 0; to write, but for a mutex, MODIFY_STATE; to execute, SYNCHRONIZE; and all are all rights of
+ * the kind. Of a host's object no right to read or write is known but READ_CONTROL: the host adds its type's own. */
+static inline uint32_t om_map_access(uint32_t kind, uint32_t mask) {
+    bool is_host = kind > OM_ENDED, has_state = !is_host && kind != OM_MUTEX;
+    uint32_t rights = mask & 0x0FFFFFFFu;
+    if (mask & (OM_GENERIC_READ | OM_GENERIC_WRITE | OM_GENERIC_EXECUTE)) rights |= OM_READ_CONTROL;
+    if (mask & OM_GENERIC_READ && !is_host) rights |= 1u;
+    if (mask & OM_GENERIC_WRITE && has_state) rights |= OM_MODIFY_STATE;
+    if (mask & OM_GENERIC_EXECUTE) rights |= OM_SYNCHRONIZE;
+    if (mask & OM_GENERIC_ALL) rights |= is_host ? OM_HOST_ALL_ACCESS : has_state ? OM_EVENT_ALL_ACCESS : OM_MUTEX_ALL_ACCESS;
+    return rights;
+}
+
+/* The NTSTATUS of a number that a call answers, or of WAIT_TIMEOUT, for a host of native calls; where a number stands for several, the first of
+ * the table in docs/EMBEDDING.md. STATUS_UNSUCCESSFUL (C0000001) for a number that no call of a guest is answered with. */
+static inline uint32_t om_nt_status(uint32_t number) {
+    switch (number) {
+    case OM_SUCCESS: return 0x00000000u;
+    case OM_ERROR_FILE_NOT_FOUND: return 0xC0000034u;
+    case OM_ERROR_PATH_NOT_FOUND: return 0xC000003Au;
+    case OM_ERROR_ACCESS_DENIED: return 0xC0000022u;
+    case OM_ERROR_INVALID_HANDLE: return 0xC0000008u;
+    case OM_ERROR_NOT_ENOUGH_MEMORY: return 0xC0000017u;
+    case OM_ERROR_INVALID_PARAMETER: return 0xC000000Du;
+    case OM_ERROR_ALREADY_EXISTS: return 0x40000000u;
+    case OM_ERROR_FILENAME_EXCED_RANGE: return 0xC0000106u;
+    case OM_WAIT_TIMEOUT: return 0x00000102u;
+    case OM_ERROR_NOT_OWNER: return 0xC0000046u;
+    case OM_ERROR_TOO_MANY_POSTS: return 0xC0000047u;
+    case OM_ERROR_IO_PENDING: return 0x00000103u;
+    case OM_ERROR_NO_SYSTEM_RESOURCES: return 0xC000009Au;
+    default: return 0xC0000001u;
     }
 }
 
@@ -531,6 +573,13 @@ uint32_t om_cancel_timer(om_manager *m, uint32_t thread, uint32_t handle);
  * OM_ERROR_INVALID_PARAMETER for a moment before that of the last tick, or above 9,223,372,036,854,775,807. */
 uint32_t om_tick(om_manager *m, uint64_t now);
 
+/* It is this moment now, and time has passed without a jump: as many om_tick as there are moments before it at which something is due, in
+ * their order, and one to it. So a wait whose time was up before a timer fired is answered with OM_WAIT_TIMEOUT, where one om_tick
+ * would have let the timer satisfy it. Who is answered makes no call before all of these are done: a guest that shall run between two
+ * such moments needs an om_tick to each. A record has each of them as a line.
+ * It is refused as om_tick to that moment is, and then nothing has changed. */
+uint32_t om_advance(om_manager *m, uint64_t now);
+
 /* The next moment at which something is due: the least of those of all set timers and of the deadlines of all pending waits that a tick
  * can reach, which is after now; however many there are, it is known at once. A tick to an earlier moment wakes nobody. What is due
  * behind the last moment (a timer that was set for so many units from now, a deadline) never comes.
@@ -578,6 +627,11 @@ uint32_t om_card(om_manager *m, uint32_t slot, uint32_t generation, om_descripti
  * NtQueryTimer).
  * OM_ERROR_INVALID_HANDLE where there is no such object. */
 uint32_t om_state(om_manager *m, uint32_t slot, uint32_t generation, om_object_state *state);
+
+/* The same of what a handle of a process names: in front of a call also what NtSetEvent, NtResetEvent, NtReleaseMutant, NtSetTimer and
+ * NtCancelTimer tell of the state before, for a mutex 1 less its count.
+ * OM_ERROR_INVALID_PARAMETER where no such process lives; OM_ERROR_INVALID_HANDLE where there is no such handle. */
+uint32_t om_handle_state(om_manager *m, uint32_t process, uint32_t handle, om_object_state *state);
 
 /* What a handle of a process names, and what it grants.
  * OM_ERROR_INVALID_PARAMETER where no such process lives; OM_ERROR_INVALID_HANDLE where there is no such handle. */
@@ -637,6 +691,17 @@ uint32_t om_take_ended(om_manager *m, om_reaping *reapings, size_t capacity, siz
  * OM_ERROR_NO_MORE_ITEMS behind the last row; OM_ERROR_INSUFFICIENT_BUFFER where the name doesn't fit, and the row is written. Constant
  * time, but for the first call behind the removal of a name, which takes a time that grows with the number of names. */
 uint32_t om_directory_at(om_manager *m, size_t at, char *name, size_t capacity, om_row *row);
+
+/* What has a name in a session, without an open: what om_query_handle tells of a handle with all rights that an open can get (those that
+ * MAXIMUM_ALLOWED asks for) and no flags. It takes constant time, however many names there are.
+ * For the name OM_ERROR_FILENAME_EXCED_RANGE, OM_ERROR_INVALID_PARAMETER or OM_ERROR_PATH_NOT_FOUND; OM_ERROR_FILE_NOT_FOUND
+ * where no object has it. */
+uint32_t om_find(om_manager *m, uint32_t session, const char *name, size_t length, om_handle_info *info);
+
+/* The name of an object, written as om_directory_at writes it (NtQueryObject). An object loses its name with its last handle: the row of
+ * one that has none says the session 0 and the length 0. Constant time.
+ * OM_ERROR_INVALID_HANDLE where there is no such object; OM_ERROR_INSUFFICIENT_BUFFER where the name doesn't fit, and the row is written. */
+uint32_t om_name_of(om_manager *m, uint32_t slot, uint32_t generation, char *name, size_t capacity, om_row *row);
 
 /* Records each call from now on that a line of a script can make (docs/FORMATS.md), or no more: all that changes something, om_counts
  * and om_handle_flags, and each wait and slot that om_take_answered and om_take_ended take. A manager begins with it off. Where memory is wanting for a line the recording stops behind

@@ -45,6 +45,8 @@ inline std::uint32_t version() noexcept { return om_version(); }
 
 // The Win32 name of a status or of a wait's code WAIT_TIMEOUT, for logs; "unknown" for another number.
 inline const char *error_name(std::uint32_t status) noexcept { return om_error_name(status); }
+inline std::uint32_t nt_status(std::uint32_t status) noexcept { return om_nt_status(status); }
+inline std::uint32_t map_access(std::uint32_t kind, std::uint32_t mask) noexcept { return om_map_access(kind, mask); }
 
 // Thrown where there is no manager, no reader, or no value, with the Win32 error number.
 class error : public std::runtime_error {
@@ -414,6 +416,7 @@ public:
     }
     status_only cancel_timer(std::uint32_t thread, std::uint32_t handle) noexcept { return status_only(om_cancel_timer(&m_, thread, handle)); }
     status_only tick(std::uint64_t now) noexcept { return status_only(om_tick(&m_, now)); }
+    status_only advance(std::uint64_t now) noexcept { return status_only(om_advance(&m_, now)); }
 
     // Waits. A wait that is pending gives its number (that of its thread, where numbers come back), one that is satisfied its code.
     result<std::uint32_t> wait(std::uint32_t thread, bool all, std::uint32_t milliseconds, span<const std::uint32_t> handles) noexcept {
@@ -456,6 +459,9 @@ public:
     walk<om_object, steps::object> objects() const noexcept { return walk<om_object, steps::object>(m_); }
     walk<named, steps::name> names() const noexcept { return walk<named, steps::name>(m_); }
     result<om_object_state> state(om_object o) const noexcept { return with<om_object_state>(om_state, o.slot, o.generation); }
+    result<om_object_state> handle_state(std::uint32_t process, std::uint32_t handle) const noexcept {
+        return with<om_object_state>(om_handle_state, process, handle);
+    }
     result<om_entry> handle(std::uint32_t process, std::uint32_t handle) const noexcept { return with<om_entry>(om_handle, process, handle); }
     result<om_handle_info> query_handle(std::uint32_t process, std::uint32_t handle) const noexcept {
         return with<om_handle_info>(om_query_handle, process, handle);
@@ -503,6 +509,15 @@ public:
         om_row row{};
         std::uint32_t status = om_directory_at(&m_, at, name.data(), name.size(), &row);
         return {status, row};
+    }
+    result<om_handle_info> find(std::uint32_t session, text name) const noexcept {
+        return with<om_handle_info>(om_find, session, name.data(), name.size());
+    }
+    // (with no byte where it has none)
+    result<named> name_of(om_object o) const noexcept {
+        named found{};
+        std::uint32_t status = om_name_of(&m_, o.slot, o.generation, found.bytes, OM_NAME_MOST, &found);
+        return {status, found};
     }
 
     // Readers.

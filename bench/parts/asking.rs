@@ -126,7 +126,11 @@ fn dup(manager: &mut Manager, mut words: Words<'_>) -> Option<Reply> {
 fn wait(manager: &mut Manager, mut words: Words<'_>) -> Option<Reply> {
     let thread = words.labelled(b't')?;
     let mode = if either(b"any", b"all", words.next()?)? { Mode::All } else { Mode::Any };
-    let timeout = if either(b"0", b"inf", words.next()?)? { Timeout::Infinite } else { Timeout::Zero };
+    let timeout = match words.next()? {
+        b"0" => Timeout::Zero,
+        b"inf" | b"4294967295" => Timeout::Infinite,
+        _ => return None,
+    };
     let mut handles = [0; 65];
     let mut count = 0;
     while let Some(word) = words.next() {

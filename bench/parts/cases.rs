@@ -99,6 +99,13 @@ pub fn pending(reply: Reply) -> Result<u32, Fault> {
     }
 }
 
+/// A process with two threads and ten unnamed events. The sum of its handles.
+pub fn small_guest(manager: &mut Manager) -> Result<u32, Fault> {
+    let (process, thread) = spawned(manager.spawn(1))?;
+    started(manager.thread(process))?;
+    (0..10).try_fold(0, |sum, _| Ok(sum + given(manager.create_event(thread, &plain(None), false, false))?.0))
+}
+
 impl Home {
     pub fn empty() -> Result<Home, Fault> {
         let mut manager = Manager::new(Limits::MOST);

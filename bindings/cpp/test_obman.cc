@@ -106,6 +106,8 @@ static void looks() {
         names += n.str();
     }
     MUST(names == "onetwo" && c.directory_len() == 2);
+    MUST(c.find(3, "one")->access == c.card(c.find(3, "one")->object)->grant && c.find(4, "one").status() == OM_ERROR_FILE_NOT_FOUND);
+    MUST(c.name_of(c.find(3, "two")->object)->str() == "two" && c.name_of(om_object{9, 1}).status() == OM_ERROR_INVALID_HANDLE);
     std::uint32_t slots = 0, before = 0;
     for (om_object o : c.objects()) {
         MUST(o.slot == slots++ && c.counts(o)->handles == 1);
@@ -119,6 +121,7 @@ static void looks() {
     MUST(c.handle(a.process, event.handle)->access == OM_SYNCHRONIZE && c.handle_flags(a.thread, event.handle).value() == OM_HANDLE_FLAG_INHERIT);
     MUST(c.card(mutex.object)->grant == OM_SYNCHRONIZE && c.inspect(pins, mutex.object)->kind == OM_MUTEX);
     MUST(pins.holds(mutex.object) && pins.describe(mutex.object)->kind == OM_MUTEX && !pins.holds(event.object));
+    MUST(c.handle_state(a.process, mutex.handle)->owner == a.thread && c.handle_state(9, mutex.handle).status() == OM_ERROR_INVALID_PARAMETER);
     MUST(c.state(mutex.object)->owner == a.thread && c.resolve(a.process, none.handle)->slot == none.object.slot);
     MUST(c.limits().slots == 64 && c.limits().max_recursion == 2147483647);
     MUST(c.now() == 0 && c.next_due().value() == 50000 && c.is_pending(wait) && c.wait_of(second) == wait);
@@ -128,7 +131,7 @@ static void looks() {
     const obman::manager again = obman::manager::load(bytes);
     MUST(again.wait_of(second) == wait && again.next_process(a.process) == b.process);
 
-    m.tick(50000).value();
+    m.advance(50000).value();
     for (const om_answer &answer : m.answers()) {
         MUST(answer.wait == wait && answer.code == OM_WAIT_TIMEOUT);
         wait = 0;

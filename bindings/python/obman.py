@@ -35,6 +35,8 @@ SYNCHRONIZE = 0x100000
 EVENT_ALL_ACCESS = SEMAPHORE_ALL_ACCESS = TIMER_ALL_ACCESS = 0x1F0003
 MUTEX_ALL_ACCESS = 0x1F0001
 HOST_ALL_ACCESS = 0x1FFFFF
+# Each call refuses these with 5: map_access has what they stand for.
+GENERIC_ALL, GENERIC_EXECUTE, GENERIC_WRITE, GENERIC_READ = 0x10000000, 0x20000000, 0x40000000, 0x80000000
 HANDLE_FLAG_INHERIT, HANDLE_FLAG_PROTECT_FROM_CLOSE = 1, 2
 DUPLICATE_CLOSE_SOURCE, DUPLICATE_SAME_ACCESS = 1, 2
 INFINITE = 0xFFFFFFFF
@@ -71,6 +73,32 @@ NAMES = {0: "ERROR_SUCCESS", 183: "ERROR_ALREADY_EXISTS", 258: "WAIT_TIMEOUT", 9
 def error_name(number):
     """The Win32 name of a number that a call answers, or of WAIT_TIMEOUT, for logs; "unknown" for another."""
     return NAMES.get(number, "unknown")
+
+
+def map_access(kind, mask):
+    """An access mask with the rights of a kind in the place of generic ones, as NT maps them (`om_map_access`)."""
+    is_host, has_state = kind > ENDED, kind <= ENDED and kind != MUTEX
+    rights = {
+        GENERIC_READ: READ_CONTROL | (not is_host),
+        GENERIC_WRITE: READ_CONTROL | MODIFY_STATE * has_state,
+        GENERIC_EXECUTE: READ_CONTROL | SYNCHRONIZE,
+        GENERIC_ALL: HOST_ALL_ACCESS if is_host else EVENT_ALL_ACCESS if has_state else MUTEX_ALL_ACCESS,
+    }
+    mapped = mask & 0xFFFFFFF
+    for bit, of_kind in rights.items():
+        mapped |= of_kind if mask & bit else 0
+    return mapped
+
+
+STATUSES = {
+    0: 0, 2: 0xC0000034, 3: 0xC000003A, 5: 0xC0000022, 6: 0xC0000008, 8: 0xC0000017, 87: 0xC000000D, 183: 0x40000000, 206: 0xC0000106,
+    258: 0x102, 288: 0xC0000046, 298: 0xC0000047, 997: 0x103, 1450: 0xC000009A,
+}  # fmt: skip
+
+
+def nt_status(number):
+    """The NTSTATUS of a number that a call answers, or of WAIT_TIMEOUT (`om_nt_status`)."""
+    return STATUSES.get(number, 0xC0000001)
 
 
 class Error(Exception):
@@ -181,6 +209,7 @@ FUNCTIONS = {
     "om_set_timer": (_U, [_M, _U, _U, c_int64]),
     "om_cancel_timer": (_U, [_M, _U, _U]),
     "om_tick": (_U, [_M, c_uint64]),
+    "om_advance": (_U, [_M, c_uint64]),
     "om_next_due": (_U, [_M, POINTER(c_uint64)]),
     "om_wait": (_U, [_M, _U, _B, _U, POINTER(_U), _Z, POINTER(_U)]),
     "om_wait_result": (_U, [_M, _U, POINTER(_U)]),
@@ -188,6 +217,7 @@ FUNCTIONS = {
     "om_expire": (_U, [_M, _U]),
     "om_card": (_U, [_M, _U, _U, POINTER(Description)]),
     "om_state": (_U, [_M, _U, _U, POINTER(State)]),
+    "om_handle_state": (_U, [_M, _U, _U, POINTER(State)]),
     "om_handle": (_U, [_M, _U, _U, POINTER(Entry)]),
     "om_query_handle": (_U, [_M, _U, _U, POINTER(HandleInfo)]),
     "om_set_object_data": (_U, [_M, _U, _U, c_uint64]),
@@ -204,6 +234,8 @@ FUNCTIONS = {
     "om_reap": (_U, [_M, _U, POINTER(Reaping)]),
     "om_take_ended": (_U, [_M, POINTER(Reaping), _Z, POINTER(_Z)]),
     "om_directory_at": (_U, [_M, _Z, POINTER(c_char), _Z, POINTER(_Row)]),
+    "om_find": (_U, [_M, _U, ctypes.c_char_p, _Z, POINTER(HandleInfo)]),
+    "om_name_of": (_U, [_M, _U, _U, POINTER(c_char), _Z, POINTER(_Row)]),
     "om_record": (_U, [_M, _B]),
     "om_take_record": (_U, [_M, POINTER(c_char), _Z, POINTER(_Z)]),
     "om_script": (_U, [POINTER(Limits), ctypes.c_char_p, _Z, POINTER(c_char), _Z, POINTER(_Z)]),
@@ -479,6 +511,10 @@ class Manager(_Owner):
         """It is this moment now, in units of 100 ns."""
         _done(_c.om_tick(self._at, now))
 
+    def advance(self, now):
+        """It is this moment now, by a tick to each moment before it at which something is due, in their order, and one to it."""
+        _done(_c.om_advance(self._at, now))
+
     def now(self):
         """The moment of the last tick."""
         return _c.om_now(self._at)
@@ -542,6 +578,10 @@ class Manager(_Owner):
     def state(self, o):
         """What state an object is in."""
         return _told(State, _c.om_state, self._at, o.slot, o.generation)
+
+    def handle_state(self, process, handle):
+        """What state the object is in that a handle of a process names: in front of a call, what was before."""
+        return _told(State, _c.om_handle_state, self._at, process, handle)
 
     def query_handle(self, process, handle):
         """What a handle of a process names, with what the host keeps there."""
@@ -626,6 +666,17 @@ class Manager(_Owner):
         for at in range(_c.om_directory_len(self._at)):
             _done(_c.om_directory_at(self._at, at, base, NAME_MOST, row))
             yield Name(Object.from_buffer_copy(row.object), row.session, base.raw[: row.length])
+
+    def find(self, session, name):
+        """What has a name in a session, without an open: as a handle with all rights that an open can get."""
+        text = _bytes(name)
+        return _told(HandleInfo, _c.om_find, self._at, session, text, len(text))
+
+    def name_of(self, o):
+        """The name of an object, as long as it has handles, or None where it has none."""
+        base, row = ctypes.create_string_buffer(NAME_MOST), _Row()
+        _done(_c.om_name_of(self._at, o.slot, o.generation, base, NAME_MOST, row))
+        return Name(o, row.session, base.raw[: row.length]) if row.length else None
 
     def record(self, on=True):
         """Records each call that changes something or may be refused from now on, or no more."""

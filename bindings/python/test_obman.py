@@ -29,6 +29,12 @@ class Calls(unittest.TestCase):
             m.exit(first.process)
             self.assertTrue(m.state(mutex.object).abandoned)
             self.assertEqual(m.wait(second.thread, [again.handle]), obman.Over(obman.WAIT_ABANDONED_0))
+            owned = m.handle_state(second.process, again.handle)
+            self.assertEqual((owned.kind, owned.owner, owned.count, owned.signaled), (obman.MUTEX, second.thread, 1, False))
+            for process, handle, number in [(second.process, again.handle + 4, 6), (first.process, mutex.handle, 87)]:
+                with self.assertRaises(obman.Error) as refused:
+                    m.handle_state(process, handle)
+                self.assertEqual(refused.exception.number, number)
 
     def test_time(self):
         with obman.Manager() as m:
@@ -39,6 +45,15 @@ class Calls(unittest.TestCase):
             m.wait(member.thread, [event.handle], milliseconds=2)
             m.tick(m.next_due())
             self.assertEqual((m.now(), [answer.code for answer in m.answers()]), (20_000, [obman.WAIT_TIMEOUT]))
+            # the wait's time is up before the timer comes
+            timer = m.create_timer(member.thread)
+            m.set_timer(member.thread, timer.handle, 40_000)
+            m.wait(member.thread, [timer.handle], milliseconds=1)
+            m.advance(50_000)
+            self.assertEqual((m.now(), [answer.code for answer in m.answers()]), (50_000, [obman.WAIT_TIMEOUT]))
+            with self.assertRaises(obman.Error) as refused:
+                m.advance(49_999)
+            self.assertEqual((refused.exception.number, m.now()), (87, 50_000))
 
     def test_who_waits_for_whom(self):
         with obman.Manager() as m:
@@ -90,6 +105,23 @@ class Calls(unittest.TestCase):
             self.assertEqual([end.outcome for end in m.ended()], [obman.FREED])
             self.assertEqual(list(m.objects()), [])
 
+    def test_names(self):
+        with obman.Manager() as m:
+            first = m.spawn(7)
+            event, other = m.create_event(first.thread, name="a"), m.thread(first.process)
+            found = m.find(7, "Local\\a")
+            self.assertEqual((found.object, found.kind, found.access), (event.object, obman.EVENT, obman.EVENT_ALL_ACCESS))
+            self.assertEqual(m.name_of(event.object), obman.Name(event.object, 7, b"a"))
+            m.wait(first.thread, [event.handle])
+            m.close(other, event.handle)
+            # a wait keeps the object, but its name went with its last handle
+            self.assertEqual((m.state(event.object).kind, m.name_of(event.object)), (obman.EVENT, None))
+            gone = obman.Object(9, 1)
+            for number, call in [(2, lambda: m.find(7, "a")), (3, lambda: m.find(7, "a\\b")), (6, lambda: m.name_of(gone))]:
+                with self.assertRaises(obman.Error) as refused:
+                    call()
+                self.assertEqual(refused.exception.number, number)
+
     def test_what_ended_is_told_once_however_many_are_pinned(self):
         with obman.Manager(obman.default_limits(slots=200)) as m:
             thread, readers = m.spawn(1).thread, [m.reader() for _ in range(7)]
@@ -136,6 +168,13 @@ class Calls(unittest.TestCase):
         self.assertEqual([obman.error_name(number) for number in (0, 183, 258, 87, 4)], ["ERROR_SUCCESS", "ERROR_ALREADY_EXISTS", "WAIT_TIMEOUT", "ERROR_INVALID_PARAMETER", "unknown"])
         with obman.Manager(obman.most_limits(slots=1)) as m:
             self.assertEqual(m.spawn(1).thread, 1)
+
+    def test_native_numbers(self):
+        self.assertEqual([obman.nt_status(number) for number in (0, 6, 183, 997, 13)], [0, 0xC0000008, 0x40000000, 0x103, 0xC0000001])
+        generic = lambda kind: [obman.map_access(kind, 1 << bit) for bit in (31, 30, 29, 28)]
+        self.assertEqual(generic(obman.EVENT), [0x20001, 0x20002, 0x120000, 0x1F0003])
+        self.assertEqual(generic(obman.MUTEX), [0x20001, 0x20000, 0x120000, 0x1F0001])
+        self.assertEqual(generic(obman.HOST), [0x20000, 0x20000, 0x120000, 0x1FFFFF])
 
 
 if __name__ == "__main__":

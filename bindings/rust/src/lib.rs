@@ -47,6 +47,8 @@ pub use sys::om_references as References;
 
 /// The right to set, reset, release, or set for a moment.
 pub const MODIFY_STATE: u32 = 0x2;
+/// The right to read who may do what, which each generic right has.
+pub const READ_CONTROL: u32 = 0x0002_0000;
 /// The right to wait.
 pub const SYNCHRONIZE: u32 = 0x0010_0000;
 /// All rights of an event.
@@ -59,6 +61,14 @@ pub const SEMAPHORE_ALL_ACCESS: u32 = 0x001F_0003;
 pub const TIMER_ALL_ACCESS: u32 = 0x001F_0003;
 /// All rights of an object of the host's own.
 pub const HOST_ALL_ACCESS: u32 = 0x001F_FFFF;
+/// All rights of the kind, which each call refuses with 5 in this generic form, as the three that follow: [`map_access`].
+pub const GENERIC_ALL: u32 = 0x1000_0000;
+/// To wait for it.
+pub const GENERIC_EXECUTE: u32 = 0x2000_0000;
+/// To change its state.
+pub const GENERIC_WRITE: u32 = 0x4000_0000;
+/// To query its state.
+pub const GENERIC_READ: u32 = 0x8000_0000;
 /// Children inherit the handle.
 pub const HANDLE_FLAG_INHERIT: u32 = 1;
 /// The handle is closed with its process alone.
@@ -151,6 +161,41 @@ pub fn error_name(number: u32) -> &'static str {
         258 => "WAIT_TIMEOUT",
         997 => "ERROR_IO_PENDING",
         _ => Error::ALL.iter().find(|error| error.number() == number).map_or("unknown", |error| error.name()),
+    }
+}
+
+/// An access mask with the rights of a kind (`om_card`'s number: an event 0, a mutex 1, a semaphore 2, a timer 3, a host's object 256 and its type)
+/// in the place of generic ones, as NT maps them (`om_map_access`).
+pub fn map_access(kind: u32, mask: u32) -> u32 {
+    let (is_host, has_state) = (kind > 4, kind != 1 && kind <= 4);
+    let all = if is_host { HOST_ALL_ACCESS } else if has_state { EVENT_ALL_ACCESS } else { MUTEX_ALL_ACCESS };
+    let generic = [
+        (GENERIC_READ, READ_CONTROL | u32::from(!is_host)),
+        (GENERIC_WRITE, READ_CONTROL | if has_state { MODIFY_STATE } else { 0 }),
+        (GENERIC_EXECUTE, READ_CONTROL | SYNCHRONIZE),
+        (GENERIC_ALL, all),
+    ];
+    generic.iter().filter(|(bit, _)| mask & bit != 0).fold(mask & 0x0FFF_FFFF, |rights, (_, of_kind)| rights | of_kind)
+}
+
+/// The NTSTATUS of a number that a call answers, or of `WAIT_TIMEOUT` (`om_nt_status`).
+pub fn nt_status(number: u32) -> u32 {
+    match number {
+        0 => 0x0000_0000,
+        2 => 0xC000_0034,
+        3 => 0xC000_003A,
+        5 => 0xC000_0022,
+        6 => 0xC000_0008,
+        8 => 0xC000_0017,
+        87 => 0xC000_000D,
+        183 => 0x4000_0000,
+        206 => 0xC000_0106,
+        258 => 0x0000_0102,
+        288 => 0xC000_0046,
+        298 => 0xC000_0047,
+        997 => 0x0000_0103,
+        1450 => 0xC000_009A,
+        _ => 0xC000_0001,
     }
 }
 
@@ -723,6 +768,11 @@ impl Manager {
         done(unsafe { sys::om_tick(&mut self.m, now) })
     }
 
+    /// It is this moment now, by a tick to each moment before it at which something is due, in their order, and one to it.
+    pub fn advance(&mut self, now: u64) -> Result<(), Error> {
+        done(unsafe { sys::om_advance(&mut self.m, now) })
+    }
+
     /// The moment of the last tick.
     pub fn now(&mut self) -> u64 {
         unsafe { sys::om_now(&mut self.m) }
@@ -808,6 +858,11 @@ impl Manager {
     /// What state an object is in.
     pub fn state(&mut self, o: Object) -> Result<State, Error> {
         told(|s| unsafe { sys::om_state(&mut self.m, o.slot, o.generation, s) }).map(state_of)
+    }
+
+    /// What state the object is in that a handle of a process names: in front of a call, what was before.
+    pub fn handle_state(&mut self, process: u32, handle: u32) -> Result<State, Error> {
+        told(|s| unsafe { sys::om_handle_state(&mut self.m, process, handle, s) }).map(state_of)
     }
 
     /// What refers to an object.
@@ -930,6 +985,21 @@ impl Manager {
             base.truncate(row.length as usize);
             Some(Name { object: row.object, session: row.session, base })
         })
+    }
+
+    /// What has a name in a session, without an open: as a handle with all rights that an open can get.
+    pub fn find(&mut self, session: u32, name: impl AsRef<[u8]>) -> Result<HandleInfo, Error> {
+        let name = name.as_ref();
+        told(|info| unsafe { sys::om_find(&mut self.m, session, name.as_ptr(), name.len(), info) })
+    }
+
+    /// The name of an object, as long as it has handles; none where it has no name.
+    pub fn name_of(&mut self, o: Object) -> Result<Option<Name>, Error> {
+        let mut base = vec![0; 260];
+        let row: sys::om_row =
+            told(|row| unsafe { sys::om_name_of(&mut self.m, o.slot, o.generation, base.as_mut_ptr(), base.len(), row) })?;
+        base.truncate(row.length as usize);
+        Ok((row.length > 0).then_some(Name { object: row.object, session: row.session, base }))
     }
 
     /// How many names objects have.

@@ -185,6 +185,7 @@ extern "C" {
     pub fn om_set_timer(m: *mut om_manager, thread: u32, handle: u32, due: i64) -> u32;
     pub fn om_cancel_timer(m: *mut om_manager, thread: u32, handle: u32) -> u32;
     pub fn om_tick(m: *mut om_manager, now: u64) -> u32;
+    pub fn om_advance(m: *mut om_manager, now: u64) -> u32;
     pub fn om_next_due(m: *mut om_manager, moment: *mut u64) -> u32;
     pub fn om_wait(
         m: *mut om_manager,
@@ -205,6 +206,7 @@ extern "C" {
     pub fn om_expire(m: *mut om_manager, wait: u32) -> u32;
     pub fn om_card(m: *mut om_manager, slot: u32, generation: u32, description: *mut om_description) -> u32;
     pub fn om_state(m: *mut om_manager, slot: u32, generation: u32, state: *mut om_object_state) -> u32;
+    pub fn om_handle_state(m: *mut om_manager, process: u32, handle: u32, state: *mut om_object_state) -> u32;
     pub fn om_handle(m: *mut om_manager, process: u32, handle: u32, entry: *mut om_entry) -> u32;
     pub fn om_query_handle(m: *mut om_manager, process: u32, handle: u32, info: *mut om_handle_info) -> u32;
     pub fn om_set_object_data(m: *mut om_manager, slot: u32, generation: u32, data: u64) -> u32;
@@ -235,6 +237,15 @@ extern "C" {
     pub fn om_directory_at(
         m: *mut om_manager,
         at: usize,
+        name: *mut u8,
+        capacity: usize,
+        row: *mut om_row,
+    ) -> u32;
+    pub fn om_find(m: *mut om_manager, session: u32, name: *const u8, length: usize, info: *mut om_handle_info) -> u32;
+    pub fn om_name_of(
+        m: *mut om_manager,
+        slot: u32,
+        generation: u32,
         name: *mut u8,
         capacity: usize,
         row: *mut om_row,

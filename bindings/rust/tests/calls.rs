@@ -82,6 +82,10 @@ fn a_mutex_is_abandoned() -> Result<(), Error> {
     m.exit(first.process)?;
     assert_eq!(m.state(mutex.object)?, State::Mutex { owner: None, recursion: 0, abandoned: true });
     assert_eq!(m.wait(second.thread, false, 0, &[again.handle])?, Waited::Over(Outcome::Abandoned(0)));
+    let owned = State::Mutex { owner: Some(second.thread), recursion: 1, abandoned: false };
+    assert_eq!(m.handle_state(second.process, again.handle)?, owned);
+    assert_eq!(m.handle_state(second.process, again.handle + 4), Err(Error::InvalidHandle));
+    assert_eq!(m.handle_state(first.process, mutex.handle), Err(Error::InvalidParameter));
     m.release_mutex(second.thread, again.handle)
 }
 
@@ -101,7 +105,13 @@ fn a_timer_fires_and_a_wait_runs_out_of_time() -> Result<(), Error> {
         assert_eq!(m.answers().map(|answer| answer.outcome).collect::<Vec<_>>(), [outcome]);
     }
     assert_eq!((m.next_due(), m.now()), (None, 20_000));
-    assert_eq!(m.tick(19_999), Err(Error::InvalidParameter));
+    assert_eq!((m.tick(19_999), m.advance(19_999)), (Err(Error::InvalidParameter), Err(Error::InvalidParameter)));
+    // the wait's time is up before the timer comes
+    m.set_timer(first.thread, timer.handle, 40_000)?;
+    pending(m.wait(first.thread, false, 1, &[timer.handle])?);
+    m.advance(50_000)?;
+    assert_eq!(m.answers().map(|answer| answer.outcome).collect::<Vec<_>>(), [Outcome::TimedOut]);
+    assert_eq!((m.next_due(), m.now()), (None, 50_000));
     Ok(())
 }
 
@@ -117,6 +127,10 @@ fn walks_come_to_all_that_there_is() -> Result<(), Error> {
     assert_eq!(m.handles(first.process).map(|entry| entry.handle).collect::<Vec<_>>(), [event.handle, semaphore.handle]);
     assert_eq!(m.objects().collect::<Vec<_>>(), [event.object, semaphore.object]);
     assert_eq!(m.names().map(|name| name.base).collect::<Vec<_>>(), [b"a".to_vec()]);
+    assert_eq!(m.name_of(event.object)?.map(|name| name.base), Some(b"a".to_vec()));
+    assert_eq!((m.name_of(semaphore.object)?, m.find(1, "b"), m.find(2, "a")), (None, Err(Error::FileNotFound), Err(Error::FileNotFound)));
+    let found = m.find(1, "Local\\a")?;
+    assert_eq!((found.object, found.kind, found.access), (event.object, 0, obman::EVENT_ALL_ACCESS));
     assert_eq!(m.state(semaphore.object)?, State::Semaphore { count: 1, max: 3 });
     assert_eq!(m.handle(first.process, event.handle)?.access, obman::EVENT_ALL_ACCESS);
     assert_eq!((m.session_of(second.process)?, m.process_of(thread)), (2, Some(first.process)));
@@ -238,5 +252,12 @@ fn threads_share_a_manager_behind_a_lock() -> Result<(), Error> {
 fn a_library_of_this_release() {
     assert_eq!(obman::version(), obman::VERSION);
     assert_eq!([0, 183, 258, 87, 4].map(obman::error_name), ["ERROR_SUCCESS", "ERROR_ALREADY_EXISTS", "WAIT_TIMEOUT", "ERROR_INVALID_PARAMETER", "unknown"]);
+    assert_eq!([0, 2, 6, 183, 258, 997, 1450, 13].map(obman::nt_status), [0, 0xC000_0034, 0xC000_0008, 0x4000_0000, 0x102, 0x103, 0xC000_009A, 0xC000_0001]);
+    let generic = |kind| [obman::GENERIC_READ, obman::GENERIC_WRITE, obman::GENERIC_EXECUTE, obman::GENERIC_ALL].map(|mask| obman::map_access(kind, mask));
+    assert_eq!(generic(0), [0x2_0001, 0x2_0002, 0x12_0000, 0x1F_0003]);
+    assert_eq!(generic(1), [0x2_0001, 0x2_0000, 0x12_0000, 0x1F_0001]);
+    assert_eq!([2, 3].map(generic), [generic(0); 2]);
+    assert_eq!(generic(256), [0x2_0000, 0x2_0000, 0x12_0000, 0x1F_FFFF]);
+    assert_eq!(obman::map_access(0, obman::SYNCHRONIZE | obman::GENERIC_READ | obman::GENERIC_WRITE), 0x12_0003);
     assert!(Manager::new(&Limits::MOST).is_ok());
 }

@@ -1,12 +1,12 @@
 -- How many numbers are taken, and what a change of one does to that.
-use Rattle.std.proofs.Common.{◌≡◌, ◌≢◌, ℕ, zero, suc, ◌+◌, ◌-◌, ◌<◌, ◌≤◌, List, [], ◌∷◌, ◌++◌, length, map, replicate, set, Bool, true, false, cond, Some, refl, ap, sym, ◌∙◌, arith}
+use Rattle.std.proofs.Common.{◌≡◌, ◌≢◌, ℕ, zero, suc, ◌+◌, ◌-◌, ◌<◌, ◌≤◌, List, [], ◌∷◌, length, map, replicate, set, Bool, true, false, cond, Some, refl, ap, sym, ◌∙◌, arith}
 use Rattle.std.specs.Prelude.{count_by, fold, slice_get}
 use Rattle.std.proofs.lemmas.List.Sums.{sum_by-cons, sum_by_push, count_by-le-length}
 use Rattle.std.proofs.lemmas.Option.{slice_get_within}
 use Rattle.least.specs.Bits.{bit}
 use Rattle.least.specs.Levels.{taken_in}
 use Rattle.least.specs.Taken.{taken_count}
-use Rattle.least.proofs.LevelLemmas.{all_taken, free_bit, length_taken_in, taken_cleared, taken_freed, taken_more, taken_same}
+use Rattle.least.proofs.LevelLemmas.{all_free, all_taken, free_bit, length_taken_in, taken_cleared, taken_freed, taken_more, taken_same}
 
 pub one_first : (taken : List Bool) → taken_count (true ∷ taken) ≡ suc (taken_count taken)
 one_first taken = search (arith, sum_by-cons)
@@ -65,6 +65,13 @@ some_in ws n k taken shown is = omega (arith, one_fewer (taken_in ws n) k (ap (�
 
 pub all_in : (ws : List ℕ) (n : ℕ) → ((k : ℕ) → bit ws k ≡ 0) → n ≡ taken_count (taken_in ws n)
 all_in ws n none = sym (ap taken_count (all_taken ws n none) ∙ all_counted n)
+
+pub none_counted : (n : ℕ) → taken_count (replicate n false) ≡ 0
+none_counted zero = refl
+none_counted (suc n) = omega (arith, none_first (replicate n false), none_counted n)
+
+pub none_in : (ws : List ℕ) (n : ℕ) → ((k : ℕ) → k < n → bit ws k ≡ 1) → 0 ≡ taken_count (taken_in ws n)
+none_in ws n set_below = sym (ap taken_count (all_free ws n set_below) ∙ none_counted n)
 
 pub counted_cleared : (ws ws' : List ℕ) (n k count : ℕ) (taken : List Bool) → taken_in ws n ≡ taken
     → slice_get taken k ≡ Some false → bit ws' k ≡ 0 → ((j : ℕ) → j ≢ k → bit ws' j ≡ bit ws j)

@@ -5,6 +5,8 @@ use Rattle.std.specs.Prelude.{not, ◌==◌, slice_get, Some}
 use Rattle.std.proofs.lemmas.List.{get_or_past, length-set, length-replicate, get_or-replicate, ext_get_or, get_or-set_same, get_or-set_other}
 use Rattle.std.proofs.lemmas.List.FromFn.{get_or-map-range_with_len, length-map-range_with_len, map-range_with_len_more}
 use Rattle.std.proofs.lemmas.List.Sums.{position_or_len_is}
+use Rattle.std.proofs.lemmas.Nat.Bits.{bit_at_ones, bit_at_ones_above}
+use Rattle.std.specs.Int.{bit_at}
 use Rattle.least.specs.Bits.{bit}
 use Rattle.least.specs.Levels.{taken_in, SumsUp}
 use Rattle.least.specs.Taken.{least_free}
@@ -98,11 +100,6 @@ pushed_bit ws k = search (arith, pushed_none)
 pub word_of_bit : (ws : List ℕ) (n : ℕ) → bit ws n ≡ 1 → n / 64 < length ws
 word_of_bit ws n here = search (arith, inside)
 
--- one more number, free
-pub one_more_free : (n : ℕ) → set (replicate n false ++ true ∷ []) n false ≡ replicate (suc n) false
-one_more_free zero = refl
-one_more_free (suc n) = ap (λ s. false ∷ s) (one_more_free n)
-
 -- words without a bit
 pub no_word : (w k : ℕ) → slice_index (replicate w 0) k ≡ 0
 no_word zero k = refl
@@ -118,7 +115,26 @@ all_taken ws n none = ext_get_or true (taken_in ws n) (replicate n true) (length
     ∙ sym (length-replicate n true))
     (search (arith, length_taken_in, get_or-taken_in, get_or-replicate))
 
--- the number at the end of free ones is taken
-pub last_taken : (n : ℕ) → slice_get (replicate n false ++ true ∷ []) n ≡ Some true
-last_taken zero = refl
-last_taken (suc n) = last_taken n
+-- where each number below the length has a bit, every number is free
+pub all_free : (ws : List ℕ) (n : ℕ) → ((k : ℕ) → k < n → bit ws k ≡ 1) → taken_in ws n ≡ replicate n false
+all_free ws n set_below = ext_get_or true (taken_in ws n) (replicate n false) (length_taken_in ws n
+    ∙ sym (length-replicate n false))
+    (search (arith, length_taken_in, get_or-taken_in, get_or-replicate))
+
+-- each bit of a full word is set, and a word with a bit isn't 0
+pub full_word : (i : ℕ) → i < 64 → bit_at 18446744073709551615 i ≡ 1
+full_word i lt = bit_at_ones 64 i lt
+
+pub full_word_past : (i : ℕ) → 64 ≤ i → bit_at 18446744073709551615 i ≡ 0
+full_word_past i le = bit_at_ones_above 64 i le
+
+pub some_bit : (word i : ℕ) → bit_at word i ≡ 1 → 0 < word
+some_bit word i here = search arith
+
+pub full_words : (n k : ℕ) → k < 64 * n → bit (replicate n 18446744073709551615) k ≡ 1
+full_words n k lt = search (arith, full_word, get_or-replicate)
+
+-- words that each have a bit are summed up by as many bits
+pub summed_full : (bits : ℕ → ℕ) (lo : List ℕ) → ((w : ℕ) → w < length lo → bits w ≡ 1)
+    → ((w : ℕ) → length lo ≤ w → bits w ≡ 0) → ((w : ℕ) → w < length lo → 0 < slice_index lo w) → SumsUp bits lo
+summed_full bits lo there past not_zero w = search (arith, get_or_past)

@@ -73,7 +73,7 @@ impl LeastFree {
     }
 
     /// The least free number: one that was given back, or the length.
-    #[inline]
+    #[inline(always)]
     pub fn least(&self) -> usize
         ensures value { result ≡ least_free self.now }
         ensures bound { result ≤ length self.now }

@@ -8,8 +8,8 @@ ghost use Rattle.least.specs.Taken.{is_free_within, is_taken, least_free, taken_
 
 use crate::NUMBERS_MAX;
 use crate::words::{
-    add_word, clear, lowest, lowest_from, lowest_in, next_clear, rest_of_word, set, with_bit,
-    without_bit,
+    add_word, clear, filled, low_bits, lowest, lowest_from, lowest_in, next_clear, rest_of_word,
+    set, with_bit, without_bit,
 };
 use std::alloc::{AllocError, Global};
 use std::marker::Model;
@@ -135,22 +135,25 @@ impl Levels {
         })
     }
 
-    /// A set of length `n` in which every number is free. Taking these takes no memory. It takes a time that grows with
-    /// `n`.
-    #[tactic(auto, using(crate::proofs::LevelLemmas::one_more_free, crate::proofs::LevelLemmas::last_taken))]
+    /// A set of length `n` in which every number is free. Taking these takes no memory.
+    #[tactic(auto, using(crate::proofs::LevelLemmas::all_free))]
     pub fn with_free(alloc: Global, n: usize) -> Result<Levels, AllocError>
         requires { n ≤ NUMBERS_MAX }
         ensures { IfOk result (λ s. s ≡ replicate n false) }
     {
-        let mut levels = Levels::new(alloc);
-        for k in 0..n {
-            levels.grow()?;
-            levels.give_back(k);
-        }
-        Ok(levels)
+        let leaves = filled(alloc, n)?;
+        let middle = filled(alloc, leaves.len())?;
+        Ok(Levels {
+            top: low_bits(middle.len()),
+            middle,
+            leaves,
+            len: n,
+            count: 0,
+        })
     }
 
     /// The least free number: one that was given back, or the length.
+    #[inline(always)]
     #[tactic(auto, using(crate::proofs::LevelLemmas::least_none, crate::proofs::LevelLemmas::length_taken_in))]
     pub fn least(&self) -> usize
         ensures value { result ≡ least_free self.now }

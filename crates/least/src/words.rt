@@ -1,11 +1,11 @@
 // Bits of one word, and of a level.
 ghost use Rattle.std.specs.Prelude.{◌≡◌, ◌≢◌, ℕ, ◌+◌, ◌*◌, ◌/◌, ◌%◌, ◌<◌, ◌≤◌, ◌==◌, ◌&&◌, nat_lt, length, slice_index};
-ghost use Rattle.std.specs.Prelude.{true, false, [], ◌∷◌, ◌++◌, OnOk, OnErr, IfSome};
+ghost use Rattle.std.specs.Prelude.{true, false, [], ◌∷◌, ◌++◌, OnOk, OnErr, IfOk, IfSome};
 ghost use Rattle.std.specs.Int.{bit_at};
 ghost use Rattle.least.specs.Bits.{bit};
 ghost use Rattle.least.specs.From.{IsAtMost, IsLeastFrom};
 
-use std::alloc::AllocError;
+use std::alloc::{AllocError, Global};
 
 pub(crate) fn lowest(word: u64) -> usize
     requires { 0 < word }
@@ -45,6 +45,33 @@ pub(crate) fn without_bit(word: u64, k: usize) -> u64
     ensures others { (i : ℕ) → i ≢ k → bit_at result i ≡ bit_at word i }
 {
     word & !(1 << k)
+}
+
+/// A word of which the lowest `k` bits are set.
+#[tactic(auto, using(crate::proofs::LevelLemmas::some_bit))]
+pub(crate) fn low_bits(k: usize) -> u64
+    requires { k ≤ 64 }
+    ensures set { (i : ℕ) → i < k → bit_at result i ≡ 1 }
+    ensures clear { (i : ℕ) → k ≤ i → bit_at result i ≡ 0 }
+    ensures not_zero { 0 < k → 0 < result }
+{
+    if k == 0 { 0 } else { u64::MAX >> (64 - k) }
+}
+
+/// A level whose first `n` bits are set, in no more words than these have.
+#[tactic(auto, using(crate::proofs::LevelLemmas::full_word, crate::proofs::LevelLemmas::full_words))]
+pub(crate) fn filled(alloc: Global, n: usize) -> Result<Vec<u64>, AllocError>
+    requires { n ≤ 65536 }
+    ensures set { IfOk result (λ words. (k : ℕ) → k < n → bit words.items k ≡ 1) }
+    ensures clear { IfOk result (λ words. (k : ℕ) → n ≤ k → bit words.items k ≡ 0) }
+    ensures len { IfOk result (λ words. length words.items ≡ (n + 63) / 64) }
+    ensures not_zero { IfOk result (λ words. (w : ℕ) → w < length words.items → 0 < slice_index words.items w) }
+{
+    let mut words = Vec::from_elem(alloc, u64::MAX, n / 64)?;
+    if !n.is_multiple_of(64) {
+        words.push(low_bits(n % 64))?;
+    }
+    Ok(words)
 }
 
 /// The lowest bit of word `w`, by its place in the level.

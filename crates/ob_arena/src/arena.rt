@@ -83,6 +83,7 @@ impl<B> Arena<B> {
     }
 
     /// Puts a body into a vacant slot.
+    #[inline(always)]
     pub fn put(&mut self, slot: u32, body: B)
         requires { is_vacant_at self.old slot ≡ true }
         ensures { self.new ≡ with_body self.old slot body }
@@ -103,6 +104,7 @@ impl<B> Arena<B> {
 
     /// Whether a slot has a body, as [`get`](Arena::get), [`get_mut`](Arena::get_mut) and [`take`](Arena::take) want
     /// it. A number past the slots names none.
+    #[inline]
     #[tactic(auto, using(crate::proofs::Phasing::occupied_within))]
     pub fn is_occupied(&self, slot: u32) -> bool
         ensures { result ≡ is_some (body_at self.now slot) }
@@ -120,6 +122,7 @@ impl<B> Arena<B> {
     }
 
     /// The body of a slot that has one.
+    #[inline]
     pub fn get(&self, slot: u32) -> &B
         requires { IsSome (body_at self.now slot) }
         ensures { body_at self.now slot ≡ Some result.now }
@@ -172,6 +175,7 @@ impl<B> Arena<B> {
     }
 
     /// The least vacant slot.
+    #[inline(always)]
     #[tactic(auto, using(crate::proofs::Phasing::least_found, crate::proofs::Phasing::length_phases, crate::proofs::Phasing::none_found))]
     pub fn least_vacant(&self) -> Option<u32>
         ensures { result ≡ least_vacant self.now }

@@ -1,10 +1,11 @@
 -- What a wait's tests say of its objects.
-use Rattle.std.proofs.Common.{◌≡◌, ℕ, zero, suc, ◌<◌, ◌≤◌, List, [], ◌∷◌, ◌++◌, length, drop, Option, Some, None, Result, Ok, Err, refl, ap, ◌∙◌, sym, subst, arith, get_or, map, Bool, true, false, cond}
+use Rattle.std.proofs.Common.{◌≡◌, ℕ, zero, suc, ◌<◌, ◌≤◌, List, [], ◌∷◌, ◌++◌, length, Option, Some, None, Result, Ok, Err, refl, ap, ◌∙◌, sym, subst, arith, eqb, get_or, map, Bool, true, false, cond}
 use Rattle.std.proofs.lemmas.Bool.{or_parts}
+use Rattle.std.proofs.lemmas.Bool.Decides.{nat_tests}
 use Rattle.std.specs.Prelude.{◌||◌, not, nat_lt}
 use Rattle.std.specs.Cmp.Derive.{both_true}
 use Rattle.std.specs.List.{list_any}
-use Rattle.std.proofs.lemmas.List.{append_assoc, append-nil, drop_all}
+use Rattle.std.proofs.lemmas.List.{append_assoc, append-nil}
 use Rattle.std.proofs.lemmas.List.Folds.{list_any_at}
 use Rattle.pin_core.specs.Holds.{same_id}
 use Rattle.pin_core.specs.declared.id.Id.{Id}
@@ -27,9 +28,11 @@ use Rattle.ob_store.specs.Kept.{IsNamed}
 use Rattle.ob_store.specs.Owners.{owns_at}
 use Rattle.ob_store.specs.State.{State, handles_of}
 use Rattle.ob_store.proofs.NamedLaws.{one_there}
-use Rattle.ob_manager.specs.Checks.{found}
+use Rattle.ob_manager.specs.declared.waiting.Timeout.{Timeout}
+use Rattle.ob_manager.specs.Checks.{caller, found}
+use Rattle.ob_manager.specs.Rising.{listed}
 use Rattle.ob_manager.specs.Outcomes.{◌>>=◌, or_refuse, refuse_if}
-use Rattle.ob_manager.specs.Waiting.{all_found, has_twice, have_room, id_of, is_for_one_twice, lacks_synchronize, objects_of}
+use Rattle.ob_manager.specs.Waiting.{all_found, has_twice, have_room, id_of, is_for_one_twice, is_misshapen, lacks_synchronize, objects_of, same_handle, wait, wait_on}
 
 -- the objects of handles one by one, after those that were collected
 abbrev pub objects_from : State → ℕ → List Id → Bool → List ℕ → Result (List Id) Fault
@@ -141,12 +144,41 @@ module _ (s : State) (p : ℕ) where
       by (Ok es) one is = subst (AreEntered hs) (tested (list_any lacks_synchronize es) (map id_of es) is)
           (all_entered hs es one)
 
-  -- as once all handles have been gone over
-  pub all_collected : (hs : List ℕ) (ids : List Id) (lacks : Bool) (i : ℕ) → length hs ≤ i → lacks ≡ false
-      → objects_from s p ids lacks (drop i hs) ≡ objects_of s p hs → AreEntered hs ids
-  all_collected hs ids lacks i all none is =
-      entered hs ids (ap (λ (b : Bool). objects_from s p ids b []) (sym none)
-      ∙ ap (objects_from s p ids lacks) (sym (drop_all i hs all)) ∙ is)
+  -- the objects of a list that is to be waited for
+  pub record AreAsked (ids : List Id) : Type 0 where
+    pub not_empty : 0 < length ids
+    pub at_most : length ids ≤ 64
+    pub is_there : (i : ℕ) → i < length ids → 0 < handles_of s (get_or ids i nowhere)
+
+  pub asked : (hs : List ℕ) (ids : List Id) → Ok ids ≡ listed s p hs → AreAsked ids
+  asked hs ids is = by (is_misshapen hs) refl is
+    where
+      by : (b : Bool) → is_misshapen hs ≡ b → Ok ids ≡ (refuse_if b fault.Parameter >>= λ _. objects_of s p hs)
+          → AreAsked ids
+      by true shape is = absurd (cc)
+      by false shape is =
+          let e = entered hs ids is in
+          let many = e.many in
+          let some = (or_parts (eqb (length hs) 0) (nat_lt 64 (length hs) || has_twice same_handle hs) shape) in
+          let few = (or_parts (nat_lt 64 (length hs)) (has_twice same_handle hs) some.1).0 in
+          let none = some.0 in
+          record {
+            not_empty = grind (arith, nat_tests, many, none);
+            at_most = grind (arith, nat_tests, many, few);
+            is_there = e.is_there;
+          }
+
+  -- a wait of a caller is a wait for what is listed
+  pub waits_listed : (t : ℕ) (mode : Mode) (timeout : Timeout) (hs : List ℕ) → caller s t ≡ Ok p
+      → wait s t mode timeout hs ≡ (listed s p hs >>= wait_on s t mode timeout)
+  waits_listed t mode timeout hs own =
+      ap (λ (r : Result ℕ Fault). r >>= λ process. refuse_if (is_misshapen hs) fault.Parameter >>= λ _.
+      objects_of s process hs >>= wait_on s t mode timeout) own ∙ by (is_misshapen hs)
+    where
+      by : (b : Bool) → (refuse_if b fault.Parameter >>= λ _. objects_of s p hs >>= wait_on s t mode timeout)
+          ≡ ((refuse_if b fault.Parameter >>= λ _. objects_of s p hs) >>= wait_on s t mode timeout)
+      by true = refl
+      by false = refl
 
 -- the object of one handle
 pub single_there : (s : State) (p h : ℕ) (e : Entry) → entry_at (table_of s.tables p) h ≡ Some e → (i : ℕ)

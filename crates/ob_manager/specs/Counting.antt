@@ -1,5 +1,6 @@
 -- What refers to an object, and what an object was created as.
-use Rattle.std.specs.Prelude.{nat_le, Option, Some, None, Result, Ok, if◌then◌else◌, slice_index_or}
+use Rattle.std.specs.Prelude.{nat_le, nat_lt, Option, Some, None, Result, Ok, if◌then◌else◌, slice_index_or}
+use Rattle.ob_name.specs.Names.{ObjectName}
 use Rattle.pin_core.specs.Holds.{same_id}
 use Rattle.pin_core.specs.declared.id.Id.{Id}
 use Rattle.ob_rights.specs.declared.fault.Fault.{Fault}
@@ -30,3 +31,11 @@ carded (Some o) = Some (record { id = o.id; descr = o.descr; grant = o.grant })
 
 abbrev pub card : State → Id → Option Card
 card s id = carded (object_of s id)
+
+-- its name, which it has as long as it has handles
+abbrev pub named : State → Option Object → Option ObjectName
+named s None = None
+named s (Some o) = if nat_lt 0 (handles_of s o.id) then o.name else None
+
+abbrev pub name_held : State → Id → Option ObjectName
+name_held s id = named s (object_of s id)

@@ -56,6 +56,12 @@ name_in s process text = do
   session ← or_refuse (slice_index_or s.processes process None) fault.Parameter
   name_of text session
 
+-- the object that has a name
+abbrev pub find_named : State → ℕ → List ℕ → Result Id Fault
+find_named s session text = do
+  name ← name_of text session
+  or_refuse (find_name name (directory_of s)) fault.NotFound
+
 abbrev pub own_name : State → ℕ → Option (List ℕ) → Result (Option ObjectName) Fault
 own_name s process None = Ok None
 own_name s process (Some text) = do

@@ -6,6 +6,8 @@ use Rattle.ob_codec.specs.Spelling.{BothFit, FewFit, both, list}
 use Rattle.least.specs.Padded.{padded}
 use Rattle.pin_core.specs.declared.id.Id.{Id}
 use Rattle.ob_manager.specs.declared.host_data.ObjectData.{ObjectData}
+use Rattle.ob_manager.specs.Calls.{Call}
+use Rattle.ob_manager.specs.declared.call.CallOf.TheVariants as calls
 use Rattle.ob_manager.specs.declared.reply.Reply.{Reply}
 use Rattle.ob_manager.specs.declared.reply.Reply.TheVariants.{Spawned, Started}
 
@@ -46,14 +48,21 @@ with_thread_data d thread value = record d { threads = slice_set (padded 0 (thre
 abbrev pub with_process_data : HostData → ℕ → ℕ → HostData
 with_process_data d process value = record d { processes = slice_set (padded 0 (process + 1) d.processes) process value }
 
--- what begins by a call has 0
-abbrev pub data_after : Reply → HostData → HostData
-data_after (Spawned process thread) d = record d {
+-- what begins has 0
+abbrev pub data_begun : Reply → HostData → HostData
+data_begun (Spawned process thread) d = record d {
   threads = slice_set d.threads thread 0;
   processes = slice_set d.processes process 0;
 }
-data_after (Started thread) d = record d { threads = slice_set d.threads thread 0 }
-data_after reply d = d
+data_begun (Started thread) d = record d { threads = slice_set d.threads thread 0 }
+data_begun reply d = d
+
+-- by three calls something begins
+abbrev pub data_after : Call → Reply → HostData → HostData
+data_after (calls.Spawn session) reply d = data_begun reply d
+data_after (calls.Child thread inherit) reply d = data_begun reply d
+data_after (calls.StartThread process) reply d = data_begun reply d
+data_after call reply d = d
 
 -- as bytes: the three lists, each with its length in four bytes
 abbrev pub kept_parts : ObjectData → ℕ × ℕ

@@ -1,5 +1,5 @@
 -- A savestate: a mark with the format's version, the state, and the SHA-256 digest of both.
-use Rattle.std.specs.Prelude.{◌==◌, ℕ, Bool, not, List, ◌++◌, Result, Ok, Err, if◌then◌else◌}
+use Rattle.std.specs.Prelude.{◌==◌, ℕ, Bool, List, ◌++◌, Result, Ok, Err, if◌then◌else◌}
 use Rattle.std.specs.Int.{w64, to_le_bytes}
 use Rattle.ob_codec.specs.declared.fault.TextFault.{TextFault}
 use Rattle.ob_codec.specs.declared.fault.TextFault.TheVariants.{Value}

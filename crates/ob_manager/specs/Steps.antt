@@ -6,7 +6,7 @@ use Rattle.pin_words.specs.declared.pin_keeper.Reclaim.TheVariants as reclaim
 use Rattle.ob_rights.specs.declared.fault.Fault.{Fault}
 use Rattle.ob_rights.specs.declared.fault.Fault.TheVariants as fault
 use Rattle.ob_manager.specs.declared.reply.Reply.{Reply}
-use Rattle.ob_manager.specs.declared.reply.Reply.TheVariants.{Spawned, Started, Made, Exists, Opened, Duplicated, Closed, Done, Flags, Previous, Code, Pending, Expired, Ticked, Ended, Exited, Reaped, CountsAre, Refused}
+use Rattle.ob_manager.specs.declared.reply.Reply.TheVariants.{Spawned, Started, Made, Exists, Opened, Flags, Pending, Reaped, CountsAre, Refused}
 use Rattle.ob_manager.specs.Calls.{Call}
 use Rattle.ob_manager.specs.declared.call.CallOf.TheVariants as calls
 use Rattle.ob_store.specs.Objects.{Object}

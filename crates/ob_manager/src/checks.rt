@@ -39,6 +39,7 @@ pub fn found<K: PinKeeper>(store: &Store<K>, process: u32, handle: u32) -> Resul
 }
 
 /// Whether two kinds are the same, and the types of two of a host's objects.
+#[inline]
 pub fn same_kind(a: Kind, b: Kind) -> bool
     ensures { result ≡ same_kind a b }
 {
@@ -66,6 +67,7 @@ pub fn if_kind(kind: Kind, body: Option<Body>) -> Result<Body, Fault>
 }
 
 /// The body of an object; refused with 6 where it isn't of the kind.
+#[inline(always)]
 pub fn body_of<K: PinKeeper>(store: &Store<K>, id: Id, kind: Kind) -> Result<Body, Fault>
     ensures value { result ≡ body_of store.now.state id kind }
     ensures is_there { IfOk result (λ body. slice_index_or store.now.state.bodies id.slot None ≡ Some body) }

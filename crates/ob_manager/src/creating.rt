@@ -40,6 +40,7 @@ pub struct New {
 }
 
 /// The rights that are asked for, or all of the kind where none are named.
+#[inline(always)]
 fn or_all(kind: Kind, rights: Option<Rights>) -> Rights
     ensures { result ≡ or_all kind rights }
 {
@@ -158,6 +159,7 @@ fn name_in<'a, K: PinKeeper>(
 
 /// The slot of a new object: refused with 5 for a right outside all rights of its kind, and with 1450 where the process
 /// has all its handles or no slot is vacant.
+#[inline(always)]
 fn room_for<K: PinKeeper>(
     store: &Store<K>,
     process: u32,
@@ -182,6 +184,7 @@ fn room_for<K: PinKeeper>(
 }
 
 /// What a new object and its first handle are, but for the object's name.
+#[inline(always)]
 fn creation_of(make: &Make<'_>, new: New) -> Creation
     ensures descr { result.descr ≡ new.descr }
     ensures body { result.body ≡ new.body }
@@ -199,6 +202,7 @@ fn creation_of(make: &Make<'_>, new: New) -> Creation
 }
 
 /// Makes a new object without a name, and a handle to it.
+#[inline(always)]
 fn new_nameless<K: PinKeeper>(
     store: &mut Store<K>,
     process: u32,
@@ -220,6 +224,7 @@ fn new_nameless<K: PinKeeper>(
 }
 
 /// Makes a new object with a name that no object has, and a handle to it.
+#[inline(always)]
 fn new_named<K: PinKeeper>(
     store: &mut Store<K>,
     process: u32,
@@ -278,6 +283,7 @@ fn new_handle<K: PinKeeper>(
 }
 
 /// Makes a handle to the object that has the name already, or a new object of that name.
+#[inline(always)]
 fn named_object<K: PinKeeper>(
     store: &mut Store<K>,
     process: u32,
@@ -303,6 +309,7 @@ fn named_object<K: PinKeeper>(
 }
 
 /// Makes a new object, or a handle to the one that has the name already.
+// It is inlined with all that follows from the kind, so that rights, descriptor and body are known in each create.
 #[inline(always)]
 #[tactic(auto, using(crate::proofs::Refusing::refuses_err))]
 fn create<K: PinKeeper>(

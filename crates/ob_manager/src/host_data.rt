@@ -1,17 +1,21 @@
 ghost use Rattle.std.specs.Prelude.{◌≡◌, ◌+◌, ◌≤◌, OnErr, OnOk, length, slice_index_or, slice_set};
 ghost use Rattle.least.specs.Padded.{padded};
-ghost use Rattle.ob_manager.specs.HostData.{DataFits, KeptFits, data_after, data_at, data_text, is_empty, kept_at};
-ghost use Rattle.ob_manager.specs.HostData.{kept_text, most, no_data, object_data, process_data, thread_data};
+ghost use Rattle.ob_manager.specs.Calls.{with_parts};
+ghost use Rattle.ob_manager.specs.HostData.{DataFits, KeptFits, data_after, data_at, data_begun, data_text, is_empty};
+ghost use Rattle.ob_manager.specs.HostData.{kept_at, kept_text, most, no_data, object_data, process_data, thread_data};
 ghost use Rattle.ob_manager.specs.HostData.{with_object_data, with_process_data, with_thread_data};
 ghost use Rattle.ob_manager.specs.HostDataLaws.{data_codec, kept_codec};
 ghost use Rattle.ob_manager.specs.Steps.{reply_of};
 
+use crate::call::CallOf;
+use crate::making::AsMake;
 use crate::reply::Reply;
 use least::reach;
 use ob_codec::{Cursor, ReadFault, Spelled, read_list, write_list};
 use ob_rights::Fault;
 use pin_core::Id;
 use std::alloc::{AllocError, Global};
+use std::convert::AsSlice;
 use std::marker::Model;
 
 /// What a host keeps at the object of a slot.
@@ -219,10 +223,9 @@ impl HostData {
         self.objects.is_empty() && self.threads.is_empty() && self.processes.is_empty()
     }
 
-    /// A call was answered: what begins by it, perhaps with a number that came back, has 0.
-    #[inline(always)]
-    pub fn follow(&mut self, answer: &Result<Reply, Fault>)
-        ensures { self.new ≡ data_after (reply_of answer.now) self.old }
+    /// A process or a thread began, perhaps with a number that came back: it has 0.
+    fn begin(&mut self, answer: &Result<Reply, Fault>)
+        ensures { self.new ≡ data_begun (reply_of answer.now) self.old }
     {
         match answer {
             Ok(Reply::Spawned { process, thread }) => {
@@ -230,6 +233,23 @@ impl HostData {
                 clear(&mut self.threads, *thread);
             }
             Ok(Reply::Started { thread }) => clear(&mut self.threads, *thread),
+            _ => {}
+        }
+    }
+
+    /// A call was answered: what begins by it has 0. Of a call that nothing begins by no answer is looked at.
+    #[inline(always)]
+    pub fn follow<M: AsMake, T: AsSlice<u8>, H: AsSlice<u32>>(
+        &mut self,
+        call: &CallOf<M, T, H>,
+        answer: &Result<Reply, Fault>,
+    )
+        ensures { self.new ≡ data_after (with_parts M.making T.items H.items call.now) (reply_of answer.now) self.old }
+    {
+        match call {
+            CallOf::Spawn { .. } | CallOf::Child { .. } | CallOf::StartThread { .. } => {
+                self.begin(answer);
+            }
             _ => {}
         }
     }

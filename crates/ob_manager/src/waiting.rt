@@ -1,5 +1,5 @@
 ghost use Rattle.std.specs.Prelude.{[], ◌∷◌, ℕ, ◌≡◌, ◌≢◌, ◌==◌, ◌<◌, ◌≤◌, Err, IfErr, IfOk, IsSome, None};
-ghost use Rattle.std.specs.Prelude.{Ok, OnOk, Some, length, slice_index_or, true};
+ghost use Rattle.std.specs.Prelude.{Ok, OnOk, Some, false, length, slice_index_or, true};
 ghost use Rattle.std.specs.Cmp.Lexicographic.{pointwise};
 ghost use Rattle.std.specs.Cmp.Rules.{comparing};
 ghost use Rattle.std.specs.List.{list_any};
@@ -14,7 +14,7 @@ ghost use Rattle.ob_manager.specs.Waiting.{same_handle, wait, wait_on, wait_resu
 ghost use Rattle.ob_manager.specs.Checks.{caller};
 ghost use Rattle.ob_manager.specs.Steps.{Gives, GivesOrLacks};
 ghost use Rattle.pin_core.specs.Holds.{same_id};
-ghost use Rattle.ob_manager.specs.Rising.{place_of_handle, place_of_object, rise};
+ghost use Rattle.ob_manager.specs.Rising.{listed, place_of_handle, place_of_object, rise};
 
 use crate::checks::{caller, found};
 use crate::reply::Reply;
@@ -155,9 +155,6 @@ fn objects_of<K: PinKeeper>(
     requires empty { ids.old.items ≡ [] }
     ensures value { collected result ids.new ≡ objects_of store.now.state process handles.now }
     ensures refusal { IfErr result (λ fault. fault ≢ Fault.Memory) }
-    ensures many { OnOk result (length ids.new.items ≡ length handles.now) }
-    ensures is_there { OnOk result ((i : ℕ) → i < length ids.new.items
-        → 0 < handles_of store.now.state (slice_index_or ids.new.items i nowhere)) }
 {
     let mut lacks = false;
     for handle in handles {
@@ -169,6 +166,78 @@ fn objects_of<K: PinKeeper>(
         return Err(Fault::Access);
     }
     Ok(())
+}
+
+/// Writes the objects of handles into an empty list, as far as the handles rise and each may be waited for; whether all
+/// are there.
+fn objects_rise<K: PinKeeper>(
+    store: &Store<K>,
+    process: u32,
+    handles: &[u32],
+    ids: &mut ArrayVec<Id, 64>,
+) -> bool
+    requires table { process < length store.now.state.tables }
+    requires at_most { length handles.now ≤ 64 }
+    requires empty { ids.old.items ≡ [] }
+    ensures apart { result ≡ true → has_twice same_handle handles.now ≡ false }
+    ensures value { result ≡ true → Ok ids.new.items ≡ objects_of store.now.state process handles.now }
+{
+    let mut last = 0;
+    for handle in handles {
+        if *handle / 4 <= last {
+            return false;
+        }
+        last = *handle / 4;
+        let Ok(entry) = found(store, process, *handle) else {
+            return false;
+        };
+        if lacks_synchronize(entry) {
+            return false;
+        }
+        ids.push(entry.id);
+    }
+    true
+}
+
+/// Writes the objects of handles into a list, whose order or rights may be any.
+#[inline(never)]
+fn collect_any<K: PinKeeper>(
+    store: &Store<K>,
+    process: u32,
+    handles: &[u32],
+    ids: &mut ArrayVec<Id, 64>,
+) -> Result<(), Fault>
+    requires table { process < length store.now.state.tables }
+    ensures value { collected result ids.new ≡ listed store.now.state process handles.now }
+    ensures refusal { IfErr result (λ fault. fault ≢ Fault.Memory) }
+{
+    if is_misshapen(handles) {
+        return Err(Fault::Parameter);
+    }
+    ids.clear();
+    objects_of(store, process, handles, ids)
+}
+
+/// Writes the objects of a list of handles into an empty list: at once where the handles rise, as they mostly do.
+#[inline(always)]
+fn collect<K: PinKeeper>(
+    store: &Store<K>,
+    process: u32,
+    handles: &[u32],
+    ids: &mut ArrayVec<Id, 64>,
+) -> Result<(), Fault>
+    requires table { process < length store.now.state.tables }
+    requires empty { ids.old.items ≡ [] }
+    ensures value { collected result ids.new ≡ listed store.now.state process handles.now }
+    ensures refusal { IfErr result (λ fault. fault ≢ Fault.Memory) }
+{
+    if handles.is_empty() || handles.len() > MAXIMUM_WAIT_OBJECTS {
+        return Err(Fault::Parameter);
+    }
+    if objects_rise(store, process, handles, ids) {
+        return Ok(());
+    }
+    collect_any(store, process, handles, ids)
 }
 
 /// Whether an object stands in a list.
@@ -333,6 +402,7 @@ fn wait_for_one<K: PinKeeper>(
 
 /// Has a thread wait for the objects of some handles, of which it makes a list.
 #[inline(never)]
+#[tactic(auto, using(crate::proofs::Waited::waits_listed))]
 fn wait_for_some<K: PinKeeper>(
     store: &mut Store<K>,
     process: u32,
@@ -349,11 +419,8 @@ fn wait_for_some<K: PinKeeper>(
     ensures memory { result ≡ Err Fault.Memory → becomes_pending (wait store.old.state thread mode timeout handles.now)
         ≡ true }
 {
-    if is_misshapen(handles) {
-        return Err(Fault::Parameter);
-    }
     let mut ids = ArrayVec::new();
-    objects_of(store, process, handles, &mut ids)?;
+    collect(store, process, handles, &mut ids)?;
     wait_on(store, thread, mode, timeout, ids.as_slice())
 }
 

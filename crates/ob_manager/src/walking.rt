@@ -8,12 +8,16 @@ ghost use Rattle.ob_store.specs.Closing.{is_closing_at};
 ghost use Rattle.ob_store.specs.Kept.{IsThere};
 ghost use Rattle.ob_store.specs.Waiting.{wait_name, wait_number};
 ghost use Rattle.ob_store.specs.Walking.{is_object_at, is_process, is_thread_of, is_value_of};
+ghost use Rattle.ob_name.specs.Refs.{name_at};
+ghost use Rattle.ob_manager.specs.Counting.{name_held};
+ghost use Rattle.ob_manager.specs.Creating.{find_named};
 ghost use Rattle.ob_manager.specs.Handles.{entry_of};
 ghost use Rattle.ob_manager.specs.States.{state_of};
 
 use crate::handles;
 use crate::manager::Manager;
 use crate::object_state::{self, ObjectState};
+use ob_name::{Name, NameRef, parse};
 use ob_rights::Fault;
 use ob_tables::Entry;
 use ob_waits::Pending;
@@ -40,6 +44,29 @@ impl<K: PinKeeper> Manager<K> {
         ensures { result ≡ state_of self.now.state id }
     {
         object_state::state_of(&self.store, id)
+    }
+
+    /// The object that has a name in a session, which no handle to it is made for. Whatever the names are, it takes a
+    /// time that grows with the length of the name alone.
+    ///
+    /// Refused for the name as an open is, with 206, 87 or 3, and with 2 where no object has it.
+    pub fn find(&self, session: u32, text: &[u8]) -> Result<Id, Fault>
+        ensures { result ≡ find_named self.now.state session text.now }
+    {
+        let name = parse(text, session)?;
+        self.store.find(&name).ok_or(Fault::NotFound)
+    }
+
+    /// The name of an object, with its namespace, as long as it has handles: with the last one it loses its name. It
+    /// takes constant time.
+    pub fn name_of(&self, id: Id) -> Option<NameRef<'_>>
+        ensures { option_map name_at result ≡ name_held self.now.state id }
+    {
+        let found = self.store.object(id.slot)?;
+        if found.header.id == id && found.header.handles > 0 && found.label.is_named {
+            return found.name.as_ref().map(Name::borrowed);
+        }
+        None
     }
 
     /// The object in the least slot with one, from slot `from` on, whether it ended or not. It passes 64 slots at

@@ -41,6 +41,7 @@ impl<K: PinKeeper> Store<K> {
     /// and answers the value.
     ///
     /// Refused with 8 for want of memory.
+    #[inline(always)]
     #[tactic(auto, using(crate::proofs::PlacedLaws::live_tabled))]
     pub fn add_nameless(&mut self, process: u32, slot: u32, new: Creation) -> Result<u32, Fault>
         requires live { IsLive self.old.state.processes process }
@@ -77,6 +78,7 @@ impl<K: PinKeeper> Store<K> {
     }
 
     /// Makes a new object with a name that no object has, as [`add_nameless`](Store::add_nameless) makes one without.
+    #[inline(always)]
     #[tactic(auto, using(crate::proofs::PlacedLaws::live_tabled))]
     pub fn add_named(
         &mut self,

@@ -63,6 +63,7 @@ impl ObjectHeader {
     }
 
     /// A thread acquires the object, which has to be signaled for the thread.
+    #[inline]
     pub(crate) fn acquire(&mut self, thread: u32) -> Acquired
         requires signaled { slot_signaled thread self.old.body ≡ true }
         requires room { slot_room RECURSION_MAX thread self.old.body ≡ true }
@@ -99,7 +100,11 @@ impl ObjectHeader {
         ensures value { self.new ≡ header_block_left self.old }
         ensures gone { result ≡ if self.old.handles + (self.old.blocks - 1) == 0 then self.old.body else None }
     {
-        self.blocks = self.blocks.saturating_sub(1);
+        if self.blocks > 1 {
+            self.blocks -= 1;
+            return None;
+        }
+        self.blocks = 0;
         self.end_if_free()
     }
 

@@ -98,7 +98,7 @@ fn due_left(timers: &mut Dues, slot: u32, due: Option<u64>)
 }
 
 /// Adds the slot of an object, if that has ended.
-#[inline]
+#[inline(always)]
 fn close(closing: &mut Levels, slot: u32, ended: bool)
     requires { ended ≡ true → slice_get closing.old slot ≡ Some true }
     ensures { closing.new ≡ if ended then slice_set closing.old slot false else closing.old }
@@ -226,6 +226,7 @@ impl ObjectHeaders {
     }
 
     /// The least vacant slot.
+    #[inline(always)]
     pub(crate) fn least_vacant(&self) -> Option<u32>
         ensures value { result ≡ least_vacant (vacancy self.now) }
         ensures vacant { IfSome result (λ slot. is_vacant_at (vacancy self.now) slot ≡ true) }
@@ -445,6 +446,7 @@ impl ObjectHeaders {
     }
 
     /// The body of an object.
+    #[inline]
     pub(crate) fn body(&self, slot: u32) -> Option<Body>
         ensures { result ≡ slice_index_or self.now.seen.bodies slot None }
     {
@@ -472,6 +474,7 @@ impl ObjectHeaders {
     }
 
     /// Has a thread acquire an object that is signaled for it, and answers whether that was an abandoned mutex.
+    #[inline(always)]
     pub(crate) fn acquire(&mut self, id: Id, thread: u32) -> bool
         requires bodied { IsSome (body_of self.old.seen.bodies id) }
         requires signaled { is_signaled thread self.old.seen.bodies id ≡ true }
@@ -487,6 +490,7 @@ impl ObjectHeaders {
     }
 
     /// Counts one block fewer, where there is one, and answers whether the object ended.
+    #[inline(always)]
     pub(crate) fn block_left(&mut self, id: Id) -> bool
         ensures objects { self.new.seen ≡ without_block self.old.seen id }
         ensures rest { rest_of self.new ≡ rest_of self.old }

@@ -87,6 +87,7 @@ impl<K: PinKeeper> Objects<K> {
     }
 
     /// The least vacant slot.
+    #[inline(always)]
     pub fn least_vacant(&self) -> Option<u32>
         ensures value { result ≡ least_vacant (vacancy (places_in self.now)) }
         ensures vacant { IfSome result (λ slot. is_vacant_at (vacancy (places_in self.now)) slot ≡ true) }
@@ -326,6 +327,7 @@ impl<K: PinKeeper> Bodies for Objects<K> {
 
     ghost rest = { kept_rest };
 
+    #[inline]
     fn body(&self, id: Id) -> Option<Body> {
         self.headers.body(id.slot)
     }
@@ -335,11 +337,13 @@ impl<K: PinKeeper> Bodies for Objects<K> {
         self.headers.put(id.slot, body);
     }
 
+    #[inline]
     #[tactic(auto, using(crate::proofs::BodyLaws::signaled_some))]
     fn acquire(&mut self, id: Id, thread: u32) -> bool {
         self.headers.acquire(id, thread)
     }
 
+    #[inline(always)]
     fn block_left(&mut self, id: Id) {
         if self.headers.block_left(id) {
             self.keeper.close_slot(id.slot);

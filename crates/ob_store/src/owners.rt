@@ -76,7 +76,7 @@ impl Owners {
     }
 
     /// Takes the mutex of a slot from the thread that owned it, if any did.
-    #[inline]
+    #[inline(always)]
     pub(crate) fn left(&mut self, slot: u32, owner: Option<u32>)
         ensures { self.new ≡ owned_left self.old owner }
     {
@@ -86,7 +86,7 @@ impl Owners {
     }
 
     /// Gives the mutex of a slot to the thread that owns it now, if any does.
-    #[inline]
+    #[inline(always)]
     pub(crate) fn came(&mut self, slot: u32, owner: Option<u32>)
         requires { (t : ℕ) → slice_index_or self.old t 0 ≤ 65536 }
         ensures { self.new ≡ owned_came self.old owner }
@@ -97,7 +97,7 @@ impl Owners {
     }
 
     /// The mutex of a slot passes from one owner to another.
-    #[inline]
+    #[inline(always)]
     #[tactic(auto, using(crate::proofs::OwnerLaws::few_left))]
     pub(crate) fn moved(&mut self, slot: u32, before: Option<u32>, after: Option<u32>)
         requires { (t : ℕ) → slice_index_or self.old t 0 ≤ 65536 }

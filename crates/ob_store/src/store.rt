@@ -152,6 +152,7 @@ impl<K: PinKeeper> Store<K> {
     }
 
     /// Whether a process has as many handles as it may.
+    #[inline(always)]
     pub fn is_full(&self, process: u32) -> bool
         requires { process < length self.now.state.tables }
         ensures { result ≡ is_full self.now.state process }
@@ -160,6 +161,7 @@ impl<K: PinKeeper> Store<K> {
     }
 
     /// The least slot that has no object and may have one.
+    #[inline(always)]
     pub fn vacant(&self) -> Option<u32>
         ensures value { result ≡ least_vacant (vacancy self.now.state) }
         ensures vacant { IfSome result (λ slot. is_vacant_at (vacancy self.now.state) slot ≡ true) }
@@ -193,6 +195,7 @@ impl<K: PinKeeper> Store<K> {
     }
 
     /// The body of an object, or none where it has ended.
+    #[inline]
     pub fn body(&self, id: Id) -> Option<Body>
         ensures { result ≡ slice_index_or self.now.state.bodies id.slot None }
     {

@@ -19,6 +19,7 @@ use pin_core::Id;
 use pin_words::PinKeeper;
 
 /// Adds a pending wait, for which the numbers begin anew where they come back and each is given.
+#[inline(always)]
 fn add_open(
     waits: &mut Waits,
     reuse: bool,
@@ -68,6 +69,7 @@ impl<K: PinKeeper> Store<K> {
 
     /// Has a thread take at once what satisfies its wait for these objects, and answers the wait's code. Where the wait
     /// isn't satisfied now, nothing changes.
+    #[inline(always)]
     pub fn take_now(&mut self, thread: u32, mode: Mode, ids: &[Id]) -> Option<u32>
         requires waitable { IsWaitable mode ids.now }
         requires room { HasRoom self.old.state.limits.max_recursion thread self.old.state.bodies ids.now }
@@ -90,6 +92,7 @@ impl<K: PinKeeper> Store<K> {
     /// Refused with 1450 where each wait number was given and they don't come back, and else with 8 for want of memory.
     /// One wait in 4,294,967,295 begins the numbers anew where they come back, which takes a time that grows with the
     /// waits that aren't over.
+    #[inline(always)]
     pub fn add_wait(
         &mut self,
         thread: u32,

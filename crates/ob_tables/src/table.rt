@@ -115,7 +115,7 @@ impl Table {
     }
 
     /// Whether there are as many entries as the limit lets.
-    #[inline]
+    #[inline(always)]
     #[tactic(auto, using(crate::proofs::Places::least_place))]
     pub(crate) fn is_full(&self, limit: u32) -> bool
         ensures { result ≡ nat_le limit (free_place self.now) }

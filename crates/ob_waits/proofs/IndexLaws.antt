@@ -5,16 +5,20 @@ use Rattle.std.proofs.Common.{arith, ◌≡◌, ℕ, ◌<◌, List, length, Opti
 use Rattle.std.proofs.lemmas.List.{get_or_read}
 use Rattle.ob_waits.specs.declared.wait.Wait.{Wait}
 use Rattle.ob_waits.specs.Rules.{Within}
-use Rattle.ob_waits.specs.RisingNumbers.{IsOrdered, numbers_of, AreOrdered, LosesNone, Thins, ThinsEach}
+use Rattle.ob_waits.specs.RisingNumbers.{IsOrdered, numbers_of, AreOrdered, KeepsPending, KeepsEach, Thins, ThinsEach}
 use Rattle.ob_waits.proofs.NumberLaws.{thins_both}
 
 thins_changed : (waits : List (Option Wait)) (lists : List (List ℕ)) (k : ℕ) (new : List ℕ)
     → Thins waits (numbers_of lists k) new → ThinsEach waits lists (set lists k new)
 thins_changed waits lists k new t = grind (arith, at_place)
 
-pub keeps_changed : (lists : List (List ℕ)) (k : ℕ) (new : List ℕ)
-    → ((j : ℕ) → Within j (numbers_of lists k) → Within j new) → LosesNone lists (set lists k new)
-keeps_changed lists k new h = grind (arith, at_place)
+pub keeps_changed : (waits : List (Option Wait)) (lists : List (List ℕ)) (k : ℕ) (new : List ℕ)
+    → KeepsPending waits (numbers_of lists k) new → KeepsEach waits lists (set lists k new)
+keeps_changed waits lists k new h = grind (arith, at_place)
+
+pub stays_changed : (n : ℕ) (lists : List (List ℕ)) (k : ℕ) (new : List ℕ) → Within n new
+    → (s : ℕ) → Within n (numbers_of lists s) → Within n (numbers_of (set lists k new) s)
+stays_changed n lists k new h s was = grind (arith, at_place)
 
 pub lists_changed : (n : ℕ) (lists : List (List ℕ)) (k : ℕ) (new : List ℕ) → IsOrdered n new
     → AreOrdered n lists → AreOrdered n (set lists k new)

@@ -2,11 +2,11 @@
 use Rattle.std.proofs.Common.{◌≡◌, ℕ, zero, suc, ◌+◌, ◌-◌, ◌<◌, ◌≤◌, List, [], ◌∷◌, ◌++◌, length, Option, None, refl, ap, ◌∙◌, sym, subst, arith, get_or, set, Bool, true, false, inl, inr, cond, take, drop}
 use Rattle.std.specs.Prelude.{◌⊎◌, filter}
 use Rattle.std.proofs.Math.Seq.{take-length}
-use Rattle.std.proofs.lemmas.List.{drop-set, drop-take, drop_more, get_or-set_other, length-drop, length-set, length-take, take_more}
+use Rattle.std.proofs.lemmas.List.{drop-append-le, drop-set, drop-take, drop_more, get_or_default, get_or-set_other, length-drop, length-set, length-take, take_more, take_more_set}
 use Rattle.std.proofs.lemmas.Bool.{cases_lt}
 use Rattle.ob_waits.specs.declared.wait.Wait.{Wait}
 use Rattle.ob_waits.specs.Rules.{Within, IsRising}
-use Rattle.ob_waits.specs.RisingNumbers.{IsOrdered, HasAll, ends_with, has_pending, Thins}
+use Rattle.ob_waits.specs.RisingNumbers.{IsOrdered, HasAll, KeepsPending, ends_with, has_pending, Thins}
 use Rattle.ob_waits.specs.Waits.{is_pending}
 
 pub within_left : (n m : ℕ) (ns : List ℕ) → Within n ns → Within n (ns ++ m ∷ [])
@@ -55,24 +55,103 @@ last_most k x (y ∷ ns) r i = elim i [
   | inr later ↦ last_most k y ns r.1 later
 ]
 
--- so a number that isn't below the last, and isn't it, is above all
-below_new : (m : ℕ) (ns : List ℕ) → IsOrdered m ns → ends_with m ns ≡ false → (k : ℕ) → Within k ns → k < m
-below_new m ns numbers h k i = elim (cases_lt k m) [
-  | inl lt ↦ lt
-  | inr le ↦ absurd (by ns numbers h (search arith))
+-- the numbers before the last are below it
+below_last : (k m : ℕ) (ns : List ℕ) → IsRising (ns ++ m ∷ []) → Within k ns → k < m
+below_last k m [] r i = absurd i
+below_last k m (x ∷ ns) r i = elim i [
+  | inl same ↦ (let lt = r.0 m (within_last m ns) in omega arith)
+  | inr later ↦ below_last k m ns r.1 later
 ]
-  where
-    by : (xs : List ℕ) → IsOrdered m xs → ends_with m xs ≡ false → Within m xs → ⊥
-    by [] r e j = j
-    by (x ∷ xs) r e j =
-        let end : length (x ∷ xs) - 1 ≡ length xs = omega arith in
-        let least : m ≤ get_or (x ∷ xs) (length xs) 0 = last_most m x xs r.rising j in
-        let most : get_or (x ∷ xs) (length xs) 0 ≤ m = r.below _ (search (arith, within_at)) in
-        let same : get_or (x ∷ xs) (length (x ∷ xs) - 1) 0 ≡ m = search arith in
-        grind arith
 
-pub ordered_entered : (m : ℕ) (ns : List ℕ) → IsOrdered m ns → ends_with m ns ≡ false → IsOrdered m (ns ++ m ∷ [])
-ordered_entered m ns numbers h = search (arith, within_either, rising_push, below_new)
+rising_front : (m : ℕ) (ns : List ℕ) → IsRising (ns ++ m ∷ []) → IsRising ns
+rising_front m [] r = tt
+rising_front m (x ∷ ns) r = ((λ k i. r.0 k (within_left k m ns i)), rising_front m ns r.1)
+
+pub ordered_appended : (m : ℕ) (ns : List ℕ) → IsOrdered m ns → ((k : ℕ) → Within k ns → k < m)
+    → IsOrdered m (ns ++ m ∷ [])
+ordered_appended m ns numbers below = search (arith, within_either, rising_push)
+
+-- a list whose last number is another, not below it
+last_replaced : (l m : ℕ) (ns : List ℕ) → IsOrdered m (ns ++ l ∷ []) → IsOrdered m (ns ++ m ∷ [])
+last_replaced l m ns o =
+    let most : l ≤ m = o.below l (within_last l ns) in
+    ordered_appended m ns (record {
+      rising = rising_front l ns o.rising;
+      below = λ k i. o.below k (within_left k l ns i);
+    }) (λ k i. let lt = below_last k l ns o.rising i in omega arith)
+
+-- a list of numbers is what is before its last one, and that one; where another stands in its place, only that differs
+split_last : (items : List ℕ) → 0 < length items
+    → items ≡ take (length items - 1) items ++ get_or items (length items - 1) 0 ∷ []
+split_last items some =
+    let all : length items - 1 + 1 ≡ length items = omega arith in
+    sym (take-length items) ∙ ap (λ m. take m items) (sym all) ∙ take_more items (length items - 1) 0 (omega arith)
+
+split_set : (m : ℕ) (items : List ℕ) → 0 < length items
+    → set items (length items - 1) m ≡ take (length items - 1) items ++ m ∷ []
+split_set m items some =
+    let long : length (set items (length items - 1) m) ≡ length items = length-set items (length items - 1) m in
+    let all : length items - 1 + 1 ≡ length items = omega arith in
+    sym (take-length (set items (length items - 1) m)) ∙ ap (λ k. take k (set items (length items - 1) m)) (long ∙ sym all)
+    ∙ take_more_set items (length items - 1) m (omega arith)
+
+-- another number stands in the place of the last one
+pub record IsReplaced (l m : ℕ) (old new : List ℕ) : Type 0 where
+  pub front : List ℕ
+  pub was : old ≡ front ++ l ∷ []
+  pub is : new ≡ front ++ m ∷ []
+
+pub replaced : {l m start end len : ℕ} (items : List ℕ) → (len ≡ length items) × (end ≡ len) → start ≤ length items
+    → (start ≡ end → ⊥) → l ≡ get_or items (end - 1) l
+    → IsReplaced l m (drop start items) (drop start (set items (end - 1) m))
+replaced {l = l} {m = m} {start = start} {end = end} items sizes in_order unequal read =
+    let front = take (length items - 1) items in
+    let at : end - 1 ≡ length items - 1 = let a = sizes.0 in let b = sizes.1 in omega arith in
+    let some : start < length items = elim (cases_lt start (length items)) [
+      | inl lt ↦ lt
+      | inr le ↦ absurd (unequal (let a = sizes.0 in let b = sizes.1 in omega arith))
+    ] in
+    let within : start ≤ length front = (let taken = length-take (length items - 1) items in omega arith) in
+    let last : get_or items (length items - 1) 0 ≡ l = search (arith, get_or_default) in
+    record {
+      front = drop start front;
+      was = ap (drop start) (split_last items (omega arith)) ∙ drop-append-le start front _ within
+          ∙ ap (λ n. drop start front ++ n ∷ []) last;
+      is = ap (λ i. drop start (set items i m)) at ∙ ap (drop start) (split_set m items (omega arith))
+          ∙ drop-append-le start front _ within;
+    }
+
+module _ {l m : ℕ} {old new : List ℕ} (r : IsReplaced l m old new) where
+  pub ordered_replaced : IsOrdered m old → IsOrdered m new
+  ordered_replaced o = subst (IsOrdered m) (sym r.is) (last_replaced l m r.front (subst (IsOrdered m) r.was o))
+
+  pub within_replaced : Within m new
+  within_replaced = subst (Within m) (sym r.is) (within_last m r.front)
+
+  pub keeps_replaced : (waits : List (Option Wait)) → is_pending (get_or waits l None) ≡ false
+      → KeepsPending waits old new
+  keeps_replaced waits over = record {
+    each = λ k pending i. subst (Within k) (sym r.is) (elim (within_either k l r.front (subst (Within k) r.was i)) [
+      | inl before ↦ within_left k m r.front before
+      | inr last ↦ absurd (let was = ap (λ n. is_pending (get_or waits n None)) last in cc (was, pending, over))
+    ]);
+  }
+
+  -- where that one is of a pending wait, and the other isn't, all are below the other
+  pub below_pending : (waits : List (Option Wait)) → is_pending (get_or waits l None) ≡ true
+      → is_pending (get_or waits m None) ≡ false → IsOrdered m old → (k : ℕ) → Within k old → k < m
+  below_pending waits pending fresh o k i =
+      let o' : IsOrdered m (r.front ++ l ∷ []) = subst (IsOrdered m) r.was o in
+      let most : l ≤ m = o'.below l (within_last l r.front) in
+      let below : l < m = elim (cases_lt l m) [
+        | inl lt ↦ lt
+        | inr le ↦ absurd (let same : l ≡ m = omega arith in
+            let was = ap (λ n. is_pending (get_or waits n None)) same in cc (was, pending, fresh))
+      ] in
+      elim (within_either k l r.front (subst (Within k) r.was i)) [
+        | inl before ↦ (let lt = below_last k l r.front o'.rising before in omega arith)
+        | inr last ↦ omega arith
+      ]
 
 -- the numbers that pass, of the first ones, so many, and all others
 module _ (p : ℕ → Bool) where
@@ -165,10 +244,6 @@ pub all_thinned : (test : Option Wait → Bool) (waits : List (Option Wait)) (ol
 all_thinned test waits old new pending t all = search arith
 
 -- a list without its last number, of a wait that is not pending
-rising_front : (m : ℕ) (ns : List ℕ) → IsRising (ns ++ m ∷ []) → IsRising ns
-rising_front m [] r = tt
-rising_front m (x ∷ ns) r = ((λ k i. r.0 k (within_left k m ns i)), rising_front m ns r.1)
-
 pub thins_last : (ws : List (Option Wait)) (old new : List ℕ) (n : ℕ) → old ≡ new ++ n ∷ []
     → is_pending (get_or ws n None) ≡ false → Thins ws old new
 thins_last ws old new n is over = search (arith, within_left, within_either, rising_front)

@@ -1,21 +1,25 @@
 -- Numbers take effect one after another where they are ready: that is settling, as long as none that is ready is below
 -- the next.
 use Rattle.ob_codec.proofs.AtPlace.{at_place}
-use Rattle.std.proofs.Common.{◌≡◌, ℕ, zero, suc, ◌+◌, ◌<◌, ◌≤◌, List, [], ◌∷◌, length, Option, Some, None, refl, ◌∙◌, sym, subst, arith, drop, eqb, get_or, set, Bool, true, false, inl, inr}
+use Rattle.std.proofs.Common.{◌≡◌, ℕ, zero, suc, ◌+◌, ◌<◌, ◌≤◌, List, [], ◌∷◌, length, Option, Some, None, refl, ◌∙◌, sym, subst, arith, drop, eqb, get_or, ltb, set, Bool, true, false, inl, inr}
 use Rattle.std.specs.List.{list_any}
-use Rattle.std.specs.Prelude.{◌&&◌, not}
+use Rattle.std.specs.Prelude.{◌&&◌, not, IfSome}
+use Rattle.std.proofs.lemmas.Bool.Decides.{nat_tests}
 use Rattle.std.proofs.lemmas.List.{drop_all, drop_more}
 use Rattle.std.proofs.lemmas.List.Folds.{list_any_at}
-use Rattle.std.proofs.lemmas.List.Sums.{count_by-le-length, passes_at_first}
+use Rattle.std.proofs.lemmas.List.Sums.{count_by-le-length, fails_before_first, passes_at_first}
 use Rattle.std.proofs.lemmas.Bool.{cases_lt, true_from_ne_false}
 use Rattle.pin_core.specs.declared.id.Id.{Id}
 use Rattle.ob_body.specs.declared.body.Body.{Body}
+use Rattle.ob_waits.specs.declared.wait.Mode.{Mode}
+use Rattle.ob_waits.specs.declared.wait.Mode.TheVariants.{Any}
+use Rattle.ob_waits.specs.declared.wait.State.TheVariants.{Pending}
 use Rattle.ob_waits.specs.declared.wait.Wait.{Wait}
 use Rattle.ob_waits.specs.RisingNumbers.{numbers_of, Thins}
 use Rattle.ob_waits.specs.CountedBodies.{CountedBodies, slot_signaled}
 use Rattle.ob_waits.specs.PendingIndex.{AreIndexed}
-use Rattle.ob_waits.specs.Rules.{Covers, IsReadyAt, IsReadyBy, IsRising, IsSettled, IsSpent, thread_of}
-use Rattle.ob_waits.specs.Waits.{nowhere, Scene, answered, is_ready, is_pending, ids_of, first_ready, effect, passed, settled, settled_within}
+use Rattle.ob_waits.specs.Rules.{Covers, IsOnlyIn, IsReadyAt, IsReadyBy, IsRising, IsSettled, IsSpent, thread_of}
+use Rattle.ob_waits.specs.Waits.{nowhere, Scene, answered, is_ready, is_pending, ids_of, first_ready, first_signaled, is_signaled, effect, passed, settled, settled_within}
 use Rattle.ob_waits.proofs.Keeping.{Fade}
 use Rattle.ob_waits.proofs.NumberLaws.{thins_both, thins_first}
 use Rattle.ob_waits.proofs.Settling.{pending_count, ready_within, ready_counted, ready_where, fewer, was_ready, answers, settled_at_end, settled_none, settled_same, settled_first, first_is}
@@ -173,3 +177,43 @@ thins_on ws ws' ns at false true fade lt is before both = absurd (cc (both))
 thins_on ws ws' ns at false false fade lt is before both = absurd (cc (both))
 thins_on ws ws' ns at true false fade lt is before both = thins_both ws' ns (drop at ns) (drop (at + 1) ns)
     (thins_faded ws ws' ns (drop at ns) fade (before refl)) (thins_first ws' ns at lt (sym is))
+
+-- where none outside of a slot is signaled, none is before the first in the slot
+pub before_first : (given : Option ℕ) (slot place thread : ℕ) (bodies : List (Option Body)) (ids : List Id)
+    → given ≡ Some slot → place ≤ length ids → ((i : ℕ) → i < place → (get_or ids i nowhere).slot ≡ slot → ⊥)
+    → IsOnlyIn given thread bodies ids
+    → place ≤ first_signaled thread bodies ids
+before_first given slot place thread bodies ids is most others only =
+    let k = first_signaled thread bodies ids in
+    elim (cases_lt k place) [
+      | inl lt ↦
+          (let yes : is_signaled thread bodies (get_or ids k nowhere) ≡ true =
+          passes_at_first (is_signaled thread bodies) ids nowhere (omega arith) in
+          let none = only.others slot k is (omega arith) (others k lt) in
+          absurd (cc (yes, none)))
+      | inr le ↦ le
+    ]
+
+-- an object of a pending wait for any that is signaled is in the slot that waits are ready by
+pub only_in : (slot : Option ℕ) (bodies : List (Option Body)) (ws : List (Option Wait)) (n : ℕ) (w : Wait) (mode : Mode)
+    (ids : List Id) → IfSome slot (λ s. IsReadyAt s bodies ws) → get_or ws n None ≡ Some w → w.state ≡ Pending mode ids
+    → mode ≡ Any → IsOnlyIn slot w.thread bodies ids
+only_in None bodies ws n w mode ids ready at is any = record { others = λ s i none. absurd (cc none) }
+only_in (Some k) bodies ws n w mode ids ready at is any = record {
+  others = λ s i same lt other. by s i same lt other (slot_signaled w.thread (get_or bodies (get_or ids i nowhere).slot None))
+      refl;
+}
+  where
+    by : (s i : ℕ) → Some k ≡ Some s → i < length ids → ((get_or ids i nowhere).slot ≡ s → ⊥) → (b : Bool)
+        → slot_signaled w.thread (get_or bodies (get_or ids i nowhere).slot None) ≡ b → b ≡ false
+    by s i same lt other false now = refl
+    by s i same lt other true now =
+        let unready : is_ready ready.before (Some w) ≡ false = subst (λ x. is_ready ready.before x ≡ false) at
+        (ready.settled.each n) in
+        let none : ltb (first_signaled w.thread ready.before ids) (length ids) ≡ false = grind arith in
+        let out : eqb (get_or ids i nowhere).slot k ≡ false = grind (arith, nat_tests) in
+        let was : is_signaled w.thread ready.before (get_or ids i nowhere) ≡ true =
+        ready.less w.thread (get_or ids i nowhere).slot out now in
+        let fails : is_signaled w.thread ready.before (get_or ids i nowhere) ≡ false =
+        fails_before_first (is_signaled w.thread ready.before) ids i nowhere (grind arith) in
+        absurd (cc (was, fails))

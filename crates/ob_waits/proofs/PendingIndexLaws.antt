@@ -1,11 +1,9 @@
 -- The roster stays right while lists are thinned and grow, and while waits come, are answered and go.
-use Rattle.std.proofs.Common.{arith, ◌≡◌, ℕ, List, length, Option, subst}
+use Rattle.std.proofs.Common.{arith, ◌≡◌, ℕ, List, length, Option}
 use Rattle.ob_waits.specs.declared.wait.Wait.{Wait}
-use Rattle.ob_waits.specs.Rules.{Within}
-use Rattle.ob_waits.specs.RisingNumbers.{IsOrdered, numbers_of, AreOrdered, LosesNone, Thins, ThinsEach}
+use Rattle.ob_waits.specs.RisingNumbers.{IsOrdered, numbers_of, AreOrdered, KeepsPending, KeepsEach, Thins, ThinsEach}
 use Rattle.ob_waits.specs.PendingIndex.{PendingIndex, AreIndexed, IsRight, ThinsIndex}
-use Rattle.ob_waits.proofs.NumberLaws.{ordered_thinned, thins_none}
-use Rattle.ob_waits.proofs.IndexLaws.{thins_each_none}
+use Rattle.ob_waits.proofs.NumberLaws.{ordered_thinned}
 
 lists_thinned : (waits : List (Option Wait)) (order order' : List ℕ) (index index' : List (List ℕ))
     → Thins waits order order' → ThinsEach waits index index' → AreIndexed waits order index
@@ -24,33 +22,15 @@ pub right_left : (waits : List (Option Wait)) (old new : PendingIndex) → Thins
     → IsRight waits new
 right_left waits old new l r = search (arith, lists_thinned)
 
--- a wait is to come, whose number enters the order, and the lists of its slots, once these were thinned
-module _ {waits : List (Option Wait)} {n : ℕ} {seen : PendingIndex} {order : List ℕ} {index : List (List ℕ)}
-    (same : ◌≡◌ {A = PendingIndex} (record { order = order; index = index }) seen) (right : IsRight waits seen)
-    (next : length waits ≡ n) where
-  was : AreIndexed waits order index
-  was = search arith
-
-  pub order_thinned : {thin : List ℕ} → Thins waits order thin → IsOrdered n thin
-  order_thinned {thin = thin} t = search (arith, was.order_rises)
-
-  pub index_thinned : {thin : List (List ℕ)} → ThinsEach waits index thin → AreOrdered n thin
-  index_thinned {thin = thin} ts = subst (λ m. AreOrdered m thin) next
-      (lists_thinned waits order order index thin (thins_none waits order) ts was).index_rises
-
-  pub order_ready : {thin new : List ℕ} → Thins waits order thin → IsOrdered n new
-      → ((k : ℕ) → Within k thin → Within k new) → AreIndexed waits new index
-  order_ready {thin = thin} {new = new} t numbers keeps =
-      let a = lists_thinned waits order thin index index t (thins_each_none waits index) was in
-      search arith
-
-  pub index_ready : {entered : List ℕ} {thin new : List (List ℕ)} → AreIndexed waits entered index
-      → ThinsEach waits index thin → AreOrdered n new → LosesNone thin new → AreIndexed waits entered new
-  index_ready {entered = entered} {thin = thin} {new = new} indexed ts lists keeps =
-      let a = lists_thinned waits entered entered index thin (thins_none waits entered) ts indexed in
-      record {
-        order_rises = a.order_rises;
-        order_all = a.order_all;
-        index_rises = search arith;
-        index_all = λ s. record { each = λ k h. keeps.each s k ((a.index_all s).each k h) };
-      }
+-- the lists grow, and what leaves them isn't the number of a pending wait
+pub right_grown : (waits : List (Option Wait)) (n : ℕ) (old new : PendingIndex) → length waits ≡ n → IsRight waits old
+    → IsOrdered n new.order → KeepsPending waits old.order new.order
+    → AreOrdered n new.index → KeepsEach waits old.index new.index → IsRight waits new
+right_grown waits n old new next right orders order lists index = record {
+  order_rises = search arith;
+  order_all = record { each = λ k h. order.each k h (right.order_all.each k h) };
+  index_rises = search arith;
+  index_all = λ s. record {
+    each = λ k h. (index.each s).each k (search arith) ((right.index_all s).each k h);
+  };
+}

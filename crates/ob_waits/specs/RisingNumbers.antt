@@ -22,9 +22,12 @@ numbers_of lists slot = slice_index_or lists slot []
 pub record AreOrdered (last : ℕ) (lists : List (List ℕ)) : Type 0 where
   pub each : (slot : ℕ) → IsOrdered last (numbers_of lists slot)
 
--- what was there is there
-pub record LosesNone (old new : List (List ℕ)) : Type 0 where
-  pub each : (slot k : ℕ) → Within k (numbers_of old slot) → Within k (numbers_of new slot)
+-- the numbers of pending waits that were there are there
+pub record KeepsPending (waits : List (Option Wait)) (old new : List ℕ) : Type 0 where
+  pub each : (k : ℕ) → is_pending (slice_index_or waits k None) ≡ true → Within k old → Within k new
+
+pub record KeepsEach (waits : List (Option Wait)) (old new : List (List ℕ)) : Type 0 where
+  pub each : (slot : ℕ) → KeepsPending waits (numbers_of old slot) (numbers_of new slot)
 
 -- a number above the last, such that none of these is between; and none where none of these is above
 pub record IsNext (last : ℕ) (numbers : List ℕ) (next : Option ℕ) : Type 0 where

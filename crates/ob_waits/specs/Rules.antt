@@ -72,6 +72,11 @@ pub record IsReadyBy (changed : ℕ → Bool) (bodies : List (Option Body)) (wai
 abbrev pub IsReadyAt : ℕ → List (Option Body) → List (Option Wait) → Type 0
 IsReadyAt slot bodies waits = IsReadyBy (λ k. k == slot) bodies waits
 
+-- of these objects, none that is outside of a slot is signaled for the thread, where the slot is given
+pub record IsOnlyIn (slot : Option ℕ) (thread : ℕ) (bodies : List (Option Body)) (ids : List Id) : Type 0 where
+  pub others : (s i : ℕ) → slot ≡ Some s → i < length ids → ((slice_index_or ids i nowhere).slot ≡ s → ⊥)
+      → slot_signaled thread (slice_index_or bodies (slice_index_or ids i nowhere).slot None) ≡ false
+
 -- or by the slot of one of some objects
 abbrev pub IsReadyAtOne : List Id → List (Option Body) → List (Option Wait) → Type 0
 IsReadyAtOne ids bodies waits = IsReadyBy (has_slot ids) bodies waits

@@ -7,6 +7,7 @@ use crate::wait::Wait;
 use std::alloc::AllocError;
 
 /// Makes room for a thread.
+#[inline(always)]
 pub(crate) fn make_room(
     by_thread: &mut Vec<Option<NumberedWait>>,
     thread: u32,

@@ -1,7 +1,7 @@
-ghost use Rattle.std.specs.Prelude.{◌≡◌, ◌<◌, ◌≤◌, ℕ, [], drop, length, slice_index_or, true, OnOk};
+ghost use Rattle.std.specs.Prelude.{◌≡◌, ◌<◌, ◌≤◌, ℕ, [], drop, false, length, slice_index_or, true, IfOk, None, OnOk};
 ghost use Rattle.ob_waits.specs.Rules.{Within};
-ghost use Rattle.ob_waits.specs.RisingNumbers.{numbers_of, AreOrdered, LosesNone, Thins, ThinsEach};
-ghost use Rattle.ob_waits.specs.Waits.{nowhere};
+ghost use Rattle.ob_waits.specs.RisingNumbers.{numbers_of, AreOrdered, KeepsEach, Thins, ThinsEach};
+ghost use Rattle.ob_waits.specs.Waits.{is_pending, nowhere};
 
 use crate::live::Live;
 use crate::rising_numbers::RisingNumbers;
@@ -60,17 +60,6 @@ impl Index {
         }
     }
 
-    /// Drops all numbers of a slot whose waits are not pending, where it is due.
-    pub(crate) fn thin_if_due(&mut self, live: &Live, slot: u32)
-        ensures { ThinsEach live.now self.old self.new }
-    {
-        let at = slot as usize;
-        if at < self.lists.len() {
-            let numbers = &mut self.lists[at];
-            numbers.thin_if_due(live);
-        }
-    }
-
     fn make_room(&mut self, slot: u32) -> Result<(), AllocError>
         ensures room { OnOk result (slot < length self.new) }
         ensures same { (s : ℕ) → numbers_of self.new s ≡ numbers_of self.old s }
@@ -82,37 +71,60 @@ impl Index {
         Ok(())
     }
 
-    fn enter_there(&mut self, slot: u32, number: u32) -> Result<(), AllocError>
+    fn enter_there(
+        &mut self,
+        live: &Live,
+        slot: u32,
+        number: u32,
+        over: u32,
+    ) -> Result<u32, AllocError>
         requires room { slot < length self.old }
         requires ordered { AreOrdered number self.old }
+        requires fresh { is_pending (slice_index_or live.now number None) ≡ false }
+        requires over { is_pending (slice_index_or live.now over None) ≡ false }
+        ensures over { IfOk result (λ n. is_pending (slice_index_or live.now n None) ≡ false) }
         ensures ordered { AreOrdered number self.new }
-        ensures keeps { LosesNone self.old self.new }
+        ensures keeps { KeepsEach live.now self.old self.new }
+        ensures stays { OnOk result ((s : ℕ) → Within number (numbers_of self.old s)
+            → Within number (numbers_of self.new s)) }
         ensures entered { OnOk result (Within number (numbers_of self.new slot)) }
     {
         let numbers = &mut self.lists[slot as usize];
-        numbers.enter(number)
+        numbers.enter(live, number, over)
     }
 
-    fn enter(&mut self, slot: u32, number: u32) -> Result<(), AllocError>
+    fn enter(&mut self, live: &Live, slot: u32, number: u32, over: u32) -> Result<u32, AllocError>
         requires ordered { AreOrdered number self.old }
+        requires fresh { is_pending (slice_index_or live.now number None) ≡ false }
+        requires over { is_pending (slice_index_or live.now over None) ≡ false }
+        ensures over { IfOk result (λ n. is_pending (slice_index_or live.now n None) ≡ false) }
         ensures ordered { AreOrdered number self.new }
-        ensures keeps { LosesNone self.old self.new }
+        ensures keeps { KeepsEach live.now self.old self.new }
+        ensures stays { OnOk result ((s : ℕ) → Within number (numbers_of self.old s)
+            → Within number (numbers_of self.new s)) }
         ensures entered { OnOk result (Within number (numbers_of self.new slot)) }
     {
         self.make_room(slot)?;
-        self.enter_there(slot, number)
+        self.enter_there(live, slot, number, over)
     }
 
-    /// Puts a number in at the slot of each object.
-    pub(crate) fn enter_all(&mut self, ids: &[Id], number: u32) -> Result<(), AllocError>
+    /// Puts the number of a wait that is to come in at the slot of each of its objects.
+    pub(crate) fn enter_all(
+        &mut self,
+        live: &Live,
+        ids: &[Id],
+        number: u32,
+    ) -> Result<(), AllocError>
         requires ordered { AreOrdered number self.old }
+        requires fresh { is_pending (slice_index_or live.now number None) ≡ false }
         ensures ordered { AreOrdered number self.new }
-        ensures keeps { LosesNone self.old self.new }
+        ensures keeps { KeepsEach live.now self.old self.new }
         ensures entered { OnOk result ((i : ℕ) → i < length ids.now
             → Within number (numbers_of self.new (slice_index_or ids.now i nowhere).slot)) }
     {
+        let mut over = number;
         for id in ids {
-            self.enter(id.slot, number)?;
+            over = self.enter(live, id.slot, number, over)?;
         }
         Ok(())
     }
@@ -135,16 +147,6 @@ impl Index {
     {
         for id in ids {
             self.advance(live, id.slot);
-        }
-    }
-
-    /// Makes room in the lists of these objects' slots by dropping what they need not have.
-    #[tactic(auto, using(crate::proofs::IndexLaws::thins_each_none, crate::proofs::IndexLaws::thins_each_both))]
-    pub(crate) fn thin_all(&mut self, live: &Live, ids: &[Id])
-        ensures { ThinsEach live.now self.old self.new }
-    {
-        for id in ids {
-            self.thin_if_due(live, id.slot);
         }
     }
 }

@@ -71,6 +71,7 @@ fn remove_overflow(overflow: &mut HashMap<u32, u32>, number: u32)
     let _ = overflow.remove(&number);
 }
 
+#[inline(always)]
 fn put_at(
     place: &mut Option<NumberedThread>,
     overflow: &mut HashMap<u32, u32>,
@@ -160,6 +161,7 @@ impl NumberMap {
     }
 
     /// Doubles the places where a number's is taken, and there are at most two for each thread up to its own.
+    #[inline(always)]
     fn make_way(&mut self, entry: NumberedThread) -> Result<(), AllocError>
         requires { IsNumberMap self.old }
         ensures number_map { IsNumberMap self.new }
@@ -176,6 +178,7 @@ impl NumberMap {
     }
 
     /// Puts a new number in.
+    #[inline(always)]
     pub(crate) fn put(&mut self, entry: NumberedThread) -> Result<(), AllocError>
         requires number_map { IsNumberMap self.old }
         requires free { thread_at self.old entry.number ≡ None }

@@ -130,6 +130,7 @@ impl Numbered {
     }
 
     /// Gives the next number to the wait of a thread that has none.
+    #[inline(always)]
     pub(crate) fn push(&mut self, wait: Wait) -> Result<(), AllocError>
         requires at_most { length self.old < 4294967296 }
         requires alone { number_of wait.thread self.old ≡ None }

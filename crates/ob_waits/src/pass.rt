@@ -1,4 +1,4 @@
-ghost use Rattle.std.specs.Prelude.{[], ◌∷◌, ◌≡◌, ◌<◌, ◌≤◌, true, false, None, Some, drop, length, slice_index_or};
+ghost use Rattle.std.specs.Prelude.{[], ◌∷◌, ◌≡◌, ◌<◌, ◌≤◌, true, false, IfSome, None, Some, drop, length, slice_index_or};
 ghost use Rattle.ob_waits.specs.CountedBodies.{without_blocks};
 ghost use Rattle.ob_waits.specs.RisingNumbers.{numbers_of, Thins};
 ghost use Rattle.ob_waits.specs.PendingIndex.{IsRight};
@@ -10,14 +10,28 @@ use crate::live::Live;
 use crate::merge::next_number;
 use crate::open::is_open;
 use crate::pending_index::PendingIndex;
-use crate::take::try_now;
+use crate::take::try_at;
 use crate::wait::State;
 use ob_body::RECURSION_MAX;
 use pin_core::Id;
 
 /// Takes the wait block of each listed object away, as where a pending wait ends by its time or with its thread. An
 /// object whose last block leaves so, and which has no handle, ends.
+#[inline(always)]
 pub fn leave_all<B: Bodies>(bodies: &mut B, ids: &[Id])
+    ensures objects { B.objects bodies.new ≡ without_blocks (B.objects bodies.old) ids.now }
+    ensures rest { B.rest bodies.new ≡ B.rest bodies.old }
+{
+    if let [id] = ids {
+        bodies.block_left(*id);
+        return;
+    }
+    leave_each(bodies, ids);
+}
+
+/// The same of several, apart since most waits are for one.
+#[inline(never)]
+fn leave_each<B: Bodies>(bodies: &mut B, ids: &[Id])
     ensures objects { B.objects bodies.new ≡ without_blocks (B.objects bodies.old) ids.now }
     ensures rest { B.rest bodies.new ≡ B.rest bodies.old }
 {
@@ -26,11 +40,13 @@ pub fn leave_all<B: Bodies>(bodies: &mut B, ids: &[Id])
     }
 }
 
-/// The wait of a number takes effect, if it is ready. Answers whether it is still pending.
+/// The wait of a number takes effect, if it is ready: by the slot, where one is given. Answers whether it is still
+/// pending.
 #[inline(always)]
 #[tactic(auto, using(crate::proofs::PassLaws::answered_not_pending))]
-fn take_effect<B: Bodies>(live: &mut Live, bodies: &mut B, number: u32) -> bool
-    requires { Fits RECURSION_MAX (B.objects bodies.old).bodies live.old }
+fn take_effect<B: Bodies>(live: &mut Live, bodies: &mut B, number: u32, slot: Option<u32>) -> bool
+    requires fits { Fits RECURSION_MAX (B.objects bodies.old).bodies live.old }
+    requires ready { IfSome slot (λ s. IsReadyAt s (B.objects bodies.old).bodies live.old) }
     ensures pending { result ≡ is_pending (slice_index_or live.new number None) }
     ensures rest { B.rest bodies.new ≡ B.rest bodies.old }
     ensures scene { record { objects = B.objects bodies.new; waits = live.new }
@@ -43,7 +59,7 @@ fn take_effect<B: Bodies>(live: &mut Live, bodies: &mut B, number: u32) -> bool
         return false;
     };
     let thread = wait.thread;
-    let Some(code) = try_now(bodies, thread, *mode, ids.as_slice()) else {
+    let Some(code) = try_at(bodies, thread, *mode, ids.as_slice(), slot) else {
         return true;
     };
     leave_all(bodies, ids.as_slice());
@@ -62,7 +78,7 @@ pub(crate) fn pass<B: Bodies>(live: &mut Live, bodies: &mut B, numbers: &[u32])
         ≡ settled (record { objects = B.objects bodies.old; waits = live.old }) }
 {
     for number in numbers {
-        let _ = take_effect(live, bodies, *number);
+        let _ = take_effect(live, bodies, *number, None);
     }
 }
 
@@ -90,7 +106,7 @@ pub(crate) fn pass_slot<B: Bodies>(
         if at > 0 && !is_open(live, bodies, id) {
             return (at, all);
         }
-        all = !take_effect(live, bodies, *number) & all;
+        all = !take_effect(live, bodies, *number, Some(id.slot)) & all;
     }
     (numbers.len(), all)
 }
@@ -120,7 +136,7 @@ fn pass_some<B: Bodies>(
         let Some(number) = next_number(live, bodies, pending_index, ids, last) else {
             return true;
         };
-        let _ = take_effect(live, bodies, number);
+        let _ = take_effect(live, bodies, number, None);
         last = number;
     }
     false

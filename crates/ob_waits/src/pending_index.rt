@@ -52,7 +52,7 @@ impl PendingIndex {
     }
 
     /// Takes all memory that a wait for these objects needs here.
-    #[tactic(auto, using(crate::proofs::PendingIndexLaws::index_ready, crate::proofs::PendingIndexLaws::order_ready))]
+    #[tactic(auto, using(crate::proofs::PendingIndexLaws::right_grown))]
     pub(crate) fn make_room(
         &mut self,
         live: &Live,
@@ -64,11 +64,8 @@ impl PendingIndex {
         ensures right { IsRight live.now self.new }
         ensures place { OnOk result (HasPlace self.new ids.now number) }
     {
-        self.order.thin_if_due(live);
-        self.order.enter(number)?;
-        self.index.thin_all(live, ids);
-        self.index.enter_all(ids, number)?;
-        Ok(())
+        let _ = self.order.enter(live, number, number)?;
+        self.index.enter_all(live, ids, number)
     }
 
     /// Drops numbers of waits that are not pending.

@@ -1,8 +1,9 @@
 ghost use Rattle.std.specs.Prelude.{[], ◌≡◌, ◌≤◌, ◌<◌, ◌-◌, ◌++◌, ℕ, List, Option, None, drop, false, filter, length};
-ghost use Rattle.std.specs.Prelude.{slice_index_or, take, true, OnOk};
+ghost use Rattle.std.specs.Prelude.{not, slice_index_or, take, true, IfNone, IfOk, IfSome, OnOk};
+ghost use Rattle.std.specs.Option.{OnSome};
 ghost use Rattle.ob_waits.specs.declared.wait.Wait.{Wait};
 ghost use Rattle.ob_waits.specs.Waits.{is_pending};
-ghost use Rattle.ob_waits.specs.RisingNumbers.{IsOrdered, ends_with, has_pending, Thins};
+ghost use Rattle.ob_waits.specs.RisingNumbers.{IsOrdered, KeepsPending, ends_with, has_pending, Thins};
 ghost use Rattle.ob_waits.specs.Rules.{Within};
 
 use crate::live::Live;
@@ -36,6 +37,15 @@ fn ends_with(numbers: &[u32], number: u32) -> bool
         Some(last) => *last == number,
         None => false,
     }
+}
+
+/// Whether the wait of a number is not pending, as that of `over` is not.
+#[inline(always)]
+fn is_over(live: &Live, number: u32, over: u32) -> bool
+    requires { is_pending (slice_index_or live.now over None) ≡ false }
+    ensures { is_pending (slice_index_or live.now number None) ≡ not result }
+{
+    number == over || !live.is_pending(number)
 }
 
 /// Moves the numbers of pending waits to the end of a range; answers where they begin.
@@ -79,19 +89,61 @@ impl RisingNumbers {
         &self.numbers.as_slice()[self.start..]
     }
 
-    /// Puts a number in that is not below any that is there.
-    #[tactic(auto, using(crate::proofs::NumberLaws::within_end))]
-    pub(crate) fn enter(&mut self, number: u32) -> Result<(), AllocError>
-        requires { IsOrdered number self.old }
+    /// Puts a number in the place of the last one, where the wait of that is not pending, and answers the last one.
+    #[inline(always)]
+    fn replace(&mut self, live: &Live, number: u32, over: u32) -> Option<u32>
+        requires ordered { IsOrdered number self.old }
+        requires fresh { is_pending (slice_index_or live.now number None) ≡ false }
+        requires over { is_pending (slice_index_or live.now over None) ≡ false }
+        ensures over { IfSome result (λ n. is_pending (slice_index_or live.now n None) ≡ false) }
+        ensures ordered { IsOrdered number self.new }
+        ensures keeps { KeepsPending live.now self.old self.new }
+        ensures entered { OnSome result (Within number self.new) }
+        ensures above { IfNone result ((k : ℕ) → Within k self.new → k < number) }
+    {
+        let end = self.numbers.len();
+        if self.start == end {
+            return None;
+        }
+        let last = self.numbers[end - 1];
+        if !is_over(live, last, over) {
+            return None;
+        }
+        self.numbers[end - 1] = number;
+        Some(last)
+    }
+
+    /// Puts a number in that is above all that are there.
+    #[inline(always)]
+    fn append(&mut self, number: u32) -> Result<(), AllocError>
+        requires ordered { IsOrdered number self.old }
+        requires above { (k : ℕ) → Within k self.old → k < number }
         ensures ordered { IsOrdered number self.new }
         ensures keeps { (k : ℕ) → Within k self.old → Within k self.new }
         ensures entered { OnOk result (Within number self.new) }
     {
-        if ends_with(self.as_slice(), number) {
-            return Ok(());
-        }
         self.numbers.push(number)?;
         Ok(())
+    }
+
+    /// Puts a number in that is not below any that is there, of a wait that is to come; where the last one is of a wait
+    /// that is over, in its place. Given and answered is a number of a wait that is not pending.
+    #[inline(always)]
+    pub(crate) fn enter(&mut self, live: &Live, number: u32, over: u32) -> Result<u32, AllocError>
+        requires ordered { IsOrdered number self.old }
+        requires fresh { is_pending (slice_index_or live.now number None) ≡ false }
+        requires over { is_pending (slice_index_or live.now over None) ≡ false }
+        ensures over { IfOk result (λ n. is_pending (slice_index_or live.now n None) ≡ false) }
+        ensures ordered { IsOrdered number self.new }
+        ensures keeps { KeepsPending live.now self.old self.new }
+        ensures entered { OnOk result (Within number self.new) }
+    {
+        if let Some(last) = self.replace(live, number, over) {
+            return Ok(last);
+        }
+        self.thin_if_due(live);
+        self.append(number)?;
+        Ok(over)
     }
 
     /// Drops the number of a wait that is not pending, where it is the last, as of a wait that was short.
@@ -130,6 +182,7 @@ impl RisingNumbers {
     }
 
     /// Drops, of the first `count` numbers, those of waits that are not pending: all of them, where that is known.
+    #[inline(always)]
     #[tactic(auto, using(crate::proofs::NumberLaws::thins_front))]
     pub(crate) fn thin(&mut self, live: &Live, count: usize, all: bool)
         requires bound { count ≤ length self.old }
@@ -179,7 +232,7 @@ impl RisingNumbers {
     /// as were left the last time, so that it costs constant time for each number, over all calls.
     #[inline]
     #[tactic(auto, using(crate::proofs::NumberLaws::thins_none))]
-    pub(crate) fn thin_if_due(&mut self, live: &Live)
+    fn thin_if_due(&mut self, live: &Live)
         ensures { Thins live.now self.old self.new }
     {
         if self.numbers.len() >= self.due {

@@ -1,9 +1,10 @@
-ghost use Rattle.std.specs.Prelude.{[], ◌∷◌, ◌≡◌, ◌<◌, ◌≤◌, true, None, Some, length};
+ghost use Rattle.std.specs.Prelude.{[], ◌∷◌, ◌≡◌, ◌≢◌, ◌<◌, ◌≤◌, ℕ, List, Option, true, None, Some, length, slice_index_or};
 ghost use Rattle.std.specs.List.{list_any, list_all};
 ghost use Rattle.std.specs.Option.{IfNone};
-ghost use Rattle.ob_waits.specs.Waits.{is_signaled, is_abandoned, first_signaled, list_ready};
+ghost use Rattle.ob_body.specs.declared.body.Body.{Body};
+ghost use Rattle.ob_waits.specs.Waits.{is_signaled, is_abandoned, first_signaled, list_ready, nowhere};
 ghost use Rattle.ob_waits.specs.Waits.{with_all_acquired, code_now, objects_now};
-ghost use Rattle.ob_waits.specs.Rules.{HasRoom, IsDistinct, IsWaitable};
+ghost use Rattle.ob_waits.specs.Rules.{HasRoom, IsDistinct, IsOnlyIn, IsWaitable};
 
 use crate::bodies::Bodies;
 use crate::codes::WAIT_ABANDONED_0;
@@ -11,6 +12,7 @@ use crate::wait::Mode;
 use ob_body::RECURSION_MAX;
 use pin_core::Id;
 
+#[inline]
 fn is_signaled<B: Bodies>(bodies: &B, thread: u32, id: Id) -> bool
     ensures { result ≡ is_signaled thread (B.objects bodies.now).bodies id }
 {
@@ -20,17 +22,44 @@ fn is_signaled<B: Bodies>(bodies: &B, thread: u32, id: Id) -> bool
     }
 }
 
-/// The index of the first object that is signaled, or the length.
-fn first_signaled<B: Bodies>(bodies: &B, thread: u32, ids: &[Id]) -> usize
+/// The index of the first object that is signaled, or the length. None before `first` is.
+fn first_signaled<B: Bodies>(bodies: &B, thread: u32, ids: &[Id], first: usize) -> usize
+    requires most { first ≤ length ids.now }
+    requires before { first ≤ first_signaled thread (B.objects bodies.now).bodies ids.now }
     ensures value { result ≡ first_signaled thread (B.objects bodies.now).bodies ids.now }
     ensures bound { result ≤ length ids.now }
 {
-    for (i, id) in ids.iter().enumerate() {
-        if is_signaled(bodies, thread, *id) {
+    for i in first..ids.len() {
+        if is_signaled(bodies, thread, ids[i]) {
             return i;
         }
     }
     ids.len()
+}
+
+/// The first place in a list of an object in the slot, or the length.
+fn place_of(ids: &[Id], slot: u32) -> usize
+    ensures bound { result ≤ length ids.now }
+    ensures others { (i : ℕ) → i < result → (slice_index_or ids.now i nowhere).slot ≢ slot }
+{
+    for (i, id) in ids.iter().enumerate() {
+        if id.slot == slot {
+            return i;
+        }
+    }
+    ids.len()
+}
+
+/// Where to look for an object that is signaled: at the first in a slot, where no object in another slot is.
+fn first_place(ids: &[Id], slot: Option<u32>) -> usize
+    ensures bound { result ≤ length ids.now }
+    ensures before { (thread : ℕ) (bodies : List (Option Body)) → IsOnlyIn slot thread bodies ids.now
+        → result ≤ first_signaled thread bodies ids.now }
+{
+    match slot {
+        Some(slot) => place_of(ids, slot),
+        None => 0,
+    }
 }
 
 fn are_all_signaled<B: Bodies>(bodies: &B, thread: u32, ids: &[Id]) -> bool
@@ -50,7 +79,7 @@ pub fn is_satisfied<B: Bodies>(bodies: &B, thread: u32, mode: Mode, ids: &[Id]) 
     ensures { result ≡ list_ready mode thread (B.objects bodies.now).bodies ids.now }
 {
     match mode {
-        Mode::Any => first_signaled(bodies, thread, ids) < ids.len(),
+        Mode::Any => first_signaled(bodies, thread, ids, 0) < ids.len(),
         Mode::All => are_all_signaled(bodies, thread, ids),
     }
 }
@@ -96,15 +125,16 @@ fn take_one<B: Bodies>(bodies: &mut B, thread: u32, id: Id) -> Option<u32>
 
 /// Takes the first object that is signaled, if there is one, and gives the code.
 #[tactic(auto, using(std::proofs::lemmas::List::Sums::passes_at_first))]
-fn take_any<B: Bodies>(bodies: &mut B, thread: u32, ids: &[Id]) -> Option<u32>
+fn take_any<B: Bodies>(bodies: &mut B, thread: u32, ids: &[Id], slot: Option<u32>) -> Option<u32>
     requires at_most { length ids.now ≤ 64 }
+    requires only { IsOnlyIn slot thread (B.objects bodies.old).bodies ids.now }
     requires room { HasRoom RECURSION_MAX thread (B.objects bodies.old).bodies ids.now }
     ensures code { result ≡ code_now Mode.Any thread (B.objects bodies.old).bodies ids.now }
     ensures objects { B.objects bodies.new ≡ objects_now Mode.Any thread (B.objects bodies.old) ids.now }
     ensures rest { B.rest bodies.new ≡ B.rest bodies.old }
     ensures unready { IfNone result (bodies.new ≡ bodies.old) }
 {
-    let index = first_signaled(bodies, thread, ids);
+    let index = first_signaled(bodies, thread, ids, first_place(ids, slot));
     if index >= ids.len() {
         return None;
     }
@@ -132,6 +162,32 @@ fn take_each<B: Bodies>(bodies: &mut B, thread: u32, ids: &[Id]) -> Option<u32>
     Some(0)
 }
 
+/// The same as [`try_now`], of a wait for any object of which none is signaled but in a slot, where one is given.
+#[inline(always)]
+pub(crate) fn try_at<B: Bodies>(
+    bodies: &mut B,
+    thread: u32,
+    mode: Mode,
+    ids: &[Id],
+    slot: Option<u32>,
+) -> Option<u32>
+    requires waitable { IsWaitable mode ids.now }
+    requires room { HasRoom RECURSION_MAX thread (B.objects bodies.old).bodies ids.now }
+    requires only { mode ≡ Mode.Any → IsOnlyIn slot thread (B.objects bodies.old).bodies ids.now }
+    ensures code { result ≡ code_now mode thread (B.objects bodies.old).bodies ids.now }
+    ensures objects { B.objects bodies.new ≡ objects_now mode thread (B.objects bodies.old) ids.now }
+    ensures rest { B.rest bodies.new ≡ B.rest bodies.old }
+    ensures unready { IfNone result (bodies.new ≡ bodies.old) }
+{
+    if let [id] = ids {
+        return take_one(bodies, thread, *id);
+    }
+    match mode {
+        Mode::Any => take_any(bodies, thread, ids, slot),
+        Mode::All => take_each(bodies, thread, ids),
+    }
+}
+
 /// Takes what a wait of the thread for these objects is satisfied by, where it is satisfied now, and gives its code
 /// ([Wait Functions]): for any, the least index of a signaled object, and 128 more where that is an abandoned mutex;
 /// for all, 0, or 128 where one is an abandoned mutex (*profile*). Else nothing changes.
@@ -146,11 +202,5 @@ pub fn try_now<B: Bodies>(bodies: &mut B, thread: u32, mode: Mode, ids: &[Id]) -
     ensures rest { B.rest bodies.new ≡ B.rest bodies.old }
     ensures unready { IfNone result (bodies.new ≡ bodies.old) }
 {
-    if let [id] = ids {
-        return take_one(bodies, thread, *id);
-    }
-    match mode {
-        Mode::Any => take_any(bodies, thread, ids),
-        Mode::All => take_each(bodies, thread, ids),
-    }
+    try_at(bodies, thread, mode, ids, None)
 }

@@ -47,11 +47,12 @@ use std::marker::Model;
 /// which costs a logarithm of the threads where waits weren't answered in the order of their numbers.
 ///
 /// Beside these there is a list of wait numbers for each slot, and one for all. Such a list has the numbers of all
-/// pending waits for its objects, and may have others, until a settling that looks at them drops them, or an `add` that
-/// finds eight more than twice as many there as were left the last time. So `add` costs constant time for each object
-/// that it lists, amortised over all calls, beside the growth of the tables to the greatest thread number and slot that
-/// a wait had. [`settle_after`](Waits::settle_after) looks at the list of one slot up to the last wait that it
-/// satisfies, and [`blocks_of`](Waits::blocks_of) goes over all of it, [`settle`](Waits::settle) over the list for all.
+/// pending waits for its objects, and may have others, until a settling that looks at them drops them, or an `add`: the
+/// last one, and all where it finds eight more than twice as many as were left the last time. So `add` costs constant
+/// time for each object that it lists, amortised over all calls, beside the growth of the tables to the greatest thread
+/// number and slot that a wait had. [`settle_after`](Waits::settle_after) looks at the list of one slot up to the last
+/// wait that it satisfies, and [`blocks_of`](Waits::blocks_of) goes over all of it, [`settle`](Waits::settle) over the
+/// list for all.
 #[derive(Drop)]
 pub struct Waits {
     limit: u32,

@@ -2,7 +2,11 @@
 use Rattle.std.specs.Prelude.{◌≡◌, ◌⊎◌, ℕ, Bool, true, false, Option, Some, None, Result, Ok, Err}
 use Rattle.ob_rights.specs.Fault.{code_of}
 use Rattle.ob_rights.specs.declared.fault.Fault.{Fault}
+use Rattle.ob_rights.specs.declared.rights.Rights.{Rights}
+use Rattle.pin_core.specs.declared.id.Id.{Id}
 use Rattle.ob_tables.specs.declared.entry.Entry.{Entry}
+use Rattle.ob_manager.specs.Counting.{card}
+use Rattle.ob_manager.specs.declared.card.Card.{Card}
 use Rattle.ob_manager.specs.HostData.{HostData, object_data}
 use Rattle.ob_manager.specs.declared.object_state.ObjectState.{ObjectState}
 use Rattle.ob_manager.specs.States.{state_of}
@@ -33,6 +37,20 @@ handle_info held entry = record {
   flags = entry.flags.0;
   reserved = 0;
 }
+
+-- the rights that an open can get
+abbrev pub grant_in : Option Card → Rights
+grant_in None = record { 0 = 0 }
+grant_in (Some card) = card.grant
+
+-- what a name names, as a handle to it with its whole grant would
+abbrev pub named_entry : OwnedManager → Result Id Fault → Result Entry Fault
+named_entry held (Ok id) = Ok (record {
+  id = id;
+  rights = grant_in (card held.manager.state id);
+  flags = record { 0 = 0 };
+})
+named_entry held (Err fault) = Err fault
 
 -- that at its place and 0, or a refusal's number, and the place as it was
 abbrev pub FindsHandle : OwnedManager → Result Entry Fault → ℕ → HandleInfo → HandleInfo → Type 0

@@ -19,6 +19,7 @@ use Rattle.ob_store.specs.Kept.{IsThere}
 use Rattle.ob_store.specs.declared.room.Room.{Room}
 use Rattle.ob_store.specs.State.{State}
 use Rattle.ob_store.specs.Walking.{is_object_at, is_value_of}
+use Rattle.ob_manager.specs.States.{state_of}
 use Rattle.ob_manager.specs.declared.object_state.ObjectState.{ObjectState}
 use Rattle.ob_manager.specs.declared.object_state.ObjectState.TheVariants.{Event, Mutex, Semaphore, Timer, Host, Ended}
 use Rattle.obman_c.specs.declared.looking.HandleEntry.{HandleEntry}
@@ -80,6 +81,11 @@ c_room room = record {
 abbrev pub TellsState : Option ObjectState → ℕ → CObjectState → CObjectState → Type 0
 TellsState (Some state) status before after = (status ≡ 0) × (after ≡ c_object_state_of state)
 TellsState None status before after = (status ≡ 6) × (after ≡ before)
+
+-- the same of what a handle names, or a refusal's number
+abbrev pub TellsStateOf : State → Result Entry Fault → ℕ → CObjectState → CObjectState → Type 0
+TellsStateOf s (Ok entry) status before after = TellsState (state_of s entry.id) status before after
+TellsStateOf s (Err fault) status before after = (status ≡ code_of fault) × (after ≡ before)
 
 -- a handle with what it names
 abbrev pub handle_entry : ℕ × Entry → HandleEntry

@@ -4,14 +4,16 @@ ghost use Rattle.ob_manager.specs.Counting.{card};
 ghost use Rattle.ob_manager.specs.Handles.{entry_of};
 ghost use Rattle.ob_manager.specs.HostData.{object_data, process_data, thread_data};
 ghost use Rattle.ob_manager.specs.HostData.{with_object_data, with_process_data, with_thread_data};
-ghost use Rattle.obman_c.specs.HostData.{FindsHandle, Keeps};
+ghost use Rattle.ob_manager.specs.Creating.{find_named};
+ghost use Rattle.obman_c.specs.HostData.{FindsHandle, Keeps, named_entry};
 ghost use Rattle.obman_c.specs.Pinning.{id_at};
 
 use crate::looking::kind_at;
 use crate::pinning::id_at;
 use crate::values::{Object, object_of};
-use ob_rights::{Fault, code_of};
-use obman_c_base::{ManagerOwner, SUCCESS};
+use ob_rights::{Fault, HandleFlags, Rights, code_of};
+use ob_tables::Entry;
+use obman_c_base::{ManagerOwner, OwnedManager, SUCCESS};
 use std::alloc::AllocError;
 
 /// What a handle names (`om_handle_info`).
@@ -116,20 +118,11 @@ pub extern "C" fn om_process_data(owner: &mut ManagerOwner, process: u32) -> u64
     owner.lend().kept.process(process)
 }
 
-/// What a handle of a process names: 0, 87 where no such process lives, or 6 where there is no such handle.
-#[unsafe(no_mangle)]
-pub extern "C" fn om_query_handle(
-    owner: &mut ManagerOwner,
-    process: u32,
-    handle: u32,
-    info: &mut HandleInfo,
-) -> u32
-    ensures finds { FindsHandle owner.old.value (entry_of owner.old.value.manager.state process handle) result
-        info.old info.new }
-    ensures same { owner.new.value ≡ owner.old.value }
+/// Tells what a handle names, or a refusal.
+fn tell_entry(held: &OwnedManager, entry: Result<Entry, Fault>, info: &mut HandleInfo) -> u32
+    ensures { FindsHandle held.now entry result info.old info.new }
 {
-    let held = owner.lend();
-    match held.manager.handle(process, handle) {
+    match entry {
         Ok(entry) => {
             *info = HandleInfo {
                 value: held.kept.object(entry.id),
@@ -143,4 +136,54 @@ pub extern "C" fn om_query_handle(
         }
         Err(fault) => code_of(fault),
     }
+}
+
+/// What a handle of a process names: 0, 87 where no such process lives, or 6 where there is no such handle.
+#[unsafe(no_mangle)]
+pub extern "C" fn om_query_handle(
+    owner: &mut ManagerOwner,
+    process: u32,
+    handle: u32,
+    info: &mut HandleInfo,
+) -> u32
+    ensures finds { FindsHandle owner.old.value (entry_of owner.old.value.manager.state process handle) result
+        info.old info.new }
+    ensures same { owner.new.value ≡ owner.old.value }
+{
+    let held = owner.lend();
+    tell_entry(held, held.manager.handle(process, handle), info)
+}
+
+/// What a handle to the object of a name would name, with the object's whole grant.
+fn named_entry(held: &OwnedManager, session: u32, name: &[u8]) -> Result<Entry, Fault>
+    ensures { result ≡ named_entry held.now (find_named held.now.manager.state session name.now) }
+{
+    let id = held.manager.find(session, name)?;
+    let rights = match held.manager.card(id) {
+        Some(card) => card.grant,
+        None => Rights(0),
+    };
+    Ok(Entry {
+        id,
+        rights,
+        flags: HandleFlags(0),
+    })
+}
+
+/// [`Manager::find`](ob_manager::Manager::find), with what a handle to the object would tell that had its whole grant:
+/// 0, 206, 87, 3 or 2.
+#[unsafe(no_mangle)]
+pub extern "C" fn om_find(
+    owner: &mut ManagerOwner,
+    session: u32,
+    name: &[u8],
+    info: &mut HandleInfo,
+) -> u32
+    ensures finds { FindsHandle owner.old.value (named_entry owner.old.value
+        (find_named owner.old.value.manager.state session name.now)) result info.old info.new }
+    ensures same { owner.new.value ≡ owner.old.value }
+{
+    let held = owner.lend();
+    let entry = named_entry(held, session, name);
+    tell_entry(held, entry, info)
 }

@@ -11,7 +11,7 @@ ghost use Rattle.ob_manager.specs.Handles.{entry_of};
 ghost use Rattle.ob_manager.specs.States.{state_of};
 ghost use Rattle.obman_c.specs.Asking.{number_at};
 ghost use Rattle.obman_c.specs.HostData.{kind_in};
-ghost use Rattle.obman_c.specs.Looking.{FindsEntry, IdsTell, NextHandle, NextObject, SessionTold, TellsState};
+ghost use Rattle.obman_c.specs.Looking.{FindsEntry, IdsTell, NextHandle, NextObject, SessionTold, TellsState, TellsStateOf};
 ghost use Rattle.obman_c.specs.Looking.{WaitTells, c_room, handle_entry, or_zero, pending_wait, places, c_object_state_of};
 ghost use Rattle.obman_c.specs.Pinning.{id_at};
 ghost use Rattle.obman_c.specs.Telling.{object_of};
@@ -185,6 +185,19 @@ fn handle_entry(handle: u32, entry: Entry) -> HandleEntry
     }
 }
 
+/// Tells what state an object is in.
+fn tell_state(found: Option<ObjectState>, state: &mut CObjectState) -> u32
+    ensures { TellsState found result state.old state.new }
+{
+    match found {
+        Some(found) => {
+            *state = c_object_state_of(found);
+            SUCCESS
+        }
+        None => code_of(Fault::Handle),
+    }
+}
+
 /// [`Manager::state_of`](ob_manager::Manager::state_of): 0, or 6 where there is no such object.
 #[unsafe(no_mangle)]
 pub extern "C" fn om_state(
@@ -197,12 +210,29 @@ pub extern "C" fn om_state(
         (id_at slot generation)) result state.old state.new }
     ensures same { owner.new.value ≡ owner.old.value }
 {
-    match owner.lend().manager.state_of(id_at(slot, generation)) {
-        Some(found) => {
-            *state = c_object_state_of(found);
-            SUCCESS
-        }
-        None => code_of(Fault::Handle),
+    tell_state(
+        owner.lend().manager.state_of(id_at(slot, generation)),
+        state,
+    )
+}
+
+/// What state the object is in that a handle names: 0, 87 where no such process lives, or 6 where there is no such
+/// handle.
+#[unsafe(no_mangle)]
+pub extern "C" fn om_handle_state(
+    owner: &mut ManagerOwner,
+    process: u32,
+    handle: u32,
+    state: &mut CObjectState,
+) -> u32
+    ensures stands { TellsStateOf owner.old.value.manager.state
+        (entry_of owner.old.value.manager.state process handle) result state.old state.new }
+    ensures same { owner.new.value ≡ owner.old.value }
+{
+    let held = owner.lend();
+    match held.manager.handle(process, handle) {
+        Ok(entry) => tell_state(held.manager.state_of(entry.id), state),
+        Err(fault) => code_of(fault),
     }
 }
 

@@ -1,13 +1,17 @@
 //! The directory of names.
-ghost use Rattle.std.specs.Prelude.{◌≡◌, length, slice_get};
+ghost use Rattle.std.specs.Prelude.{◌≡◌, is_some, length, slice_get};
 ghost use Rattle.ob_name.specs.Keys.{space_number};
 ghost use Rattle.ob_name.specs.Refs.{namespace_of, row_at};
 ghost use Rattle.ob_store.specs.Directory.{directory_of};
-ghost use Rattle.obman_c.specs.Listing.{RowTold, RowTells};
+ghost use Rattle.ob_manager.specs.Counting.{card, name_held};
+ghost use Rattle.obman_c.specs.Listing.{NameTold, RowTold, RowTells};
+ghost use Rattle.obman_c.specs.Pinning.{id_at};
 
+use crate::pinning::id_at;
 use crate::status::NO_MORE;
 use crate::values::{Object, object_of};
 use ob_name::{NameRef, Space};
+use ob_rights::{Fault, code_of};
 use obman_c_base::{ManagerOwner, SUCCESS, TOO_SMALL};
 use pin_core::Id;
 
@@ -50,6 +54,39 @@ pub extern "C" fn om_directory_at(
     match owned.manager.directory_at(at) {
         Some((found, id)) => tell_row(found, id, name, row),
         None => NO_MORE,
+    }
+}
+
+/// [`Manager::name_of`](ob_manager::Manager::name_of): 0, also where the object has no name, 6 where there is no such
+/// object, or 122 where the name doesn't fit; the row then says how long it is.
+#[unsafe(no_mangle)]
+pub extern "C" fn om_name_of(
+    owner: &mut ManagerOwner,
+    slot: u32,
+    generation: u32,
+    name: &mut [u8],
+    row: &mut Row,
+) -> u32
+    ensures row { NameTold (is_some (card owner.old.value.manager.state (id_at slot generation)))
+        (id_at slot generation) (name_held owner.old.value.manager.state (id_at slot generation)) result
+        row.old row.new name.old name.new }
+    ensures same { owner.new.value ≡ owner.old.value }
+{
+    let id = id_at(slot, generation);
+    let held = owner.lend();
+    if held.manager.card(id).is_none() {
+        return code_of(Fault::Handle);
+    }
+    match held.manager.name_of(id) {
+        Some(found) => tell_row(found, id, name, row),
+        None => {
+            *row = Row {
+                object: object_of(id),
+                session: 0,
+                length: 0,
+            };
+            SUCCESS
+        }
     }
 }
 

@@ -14,7 +14,7 @@ use Rattle.obman_c_base.specs.declared.owned.OwnedManager.{OwnedManager}
 pub noted : {old new : OwnedManager} {call : Call} {reply : Reply} → Step old.manager call reply new.manager
     → IfReap call (λ slot. IfReaped reply
     (λ outcome. ReclaimsFound old.manager.keeper slot outcome new.manager.keeper))
-    → Notes old.recorder (text_for call reply) new.recorder → new.kept ≡ data_after reply old.kept
+    → Notes old.recorder (text_for call reply) new.recorder → new.kept ≡ data_after call reply old.kept
     → Makes old call reply new
 noted step exact lines kept = record { step = step; exact = exact; noted = lines; kept = kept }
 
@@ -22,7 +22,7 @@ pub unnoted : {old new : OwnedManager} {call : Call} {reply : Reply} {on : Bool}
     → on ≡ old.recorder.is_on → new.recorder ≡ old.recorder → Step old.manager call reply new.manager
     → IfReap call (λ slot. IfReaped reply
     (λ outcome. ReclaimsFound old.manager.keeper slot outcome new.manager.keeper))
-    → new.kept ≡ data_after reply old.kept → Makes old call reply new
+    → new.kept ≡ data_after call reply old.kept → Makes old call reply new
 unnoted {old} {new} {call} {reply} off is same step exact kept = record {
   step = step;
   exact = exact;

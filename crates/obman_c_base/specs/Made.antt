@@ -26,4 +26,4 @@ pub record Makes (old : OwnedManager) (call : Call) (reply : Reply) (new : Owned
   pub exact : IfReap call (λ slot. IfReaped reply
       (λ outcome. ReclaimsFound old.manager.keeper slot outcome new.manager.keeper))
   pub noted : Notes old.recorder (text_for call reply) new.recorder
-  pub kept : new.kept ≡ data_after reply old.kept
+  pub kept : new.kept ≡ data_after call reply old.kept

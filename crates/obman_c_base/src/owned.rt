@@ -58,7 +58,7 @@ impl OwnedManager {
             return self.recorded(&call);
         }
         let answer = self.manager.try_call(call);
-        self.kept.follow(&answer);
+        self.kept.follow(call, &answer);
         answer
     }
 
@@ -71,7 +71,7 @@ impl OwnedManager {
         let reply = self.manager.call(call);
         self.recorder.note(call, &reply);
         let answer = Ok(reply);
-        self.kept.follow(&answer);
+        self.kept.follow(call, &answer);
         answer
     }
 }

@@ -131,6 +131,7 @@ impl Keeper {
     }
 
     /// Stores the descriptor of a free slot, by one store.
+    #[inline(always)]
     pub fn store_descr(&mut self, slot: u32, descr: Descr)
         requires slot { slot < self.old.view.shape.slots }
         requires free { (slot_of self.old.view.slots slot).phase ≡ Free }
@@ -145,6 +146,7 @@ impl Keeper {
     }
 
     /// Publishes a free slot with its descriptor, so that it is live, by one atomic or.
+    #[inline(always)]
     pub fn publish(&mut self, slot: u32)
         requires slot { slot < self.old.view.shape.slots }
         requires free { (slot_of self.old.view.slots slot).phase ≡ Free }
@@ -313,10 +315,12 @@ impl PinKeeper for Keeper {
         Keeper::generation(self, slot)
     }
 
+    #[inline(always)]
     fn store_descr(&mut self, slot: u32, descr: Descr) {
         Keeper::store_descr(self, slot, descr);
     }
 
+    #[inline(always)]
     fn publish(&mut self, slot: u32) {
         Keeper::publish(self, slot);
     }

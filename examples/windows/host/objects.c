@@ -3,8 +3,7 @@
 
 #include <string.h>
 
-enum { GENERIC_ALL = 1 << 28, GENERIC_EXECUTE = 1 << 29, GENERIC_WRITE = 1 << 30, MAXIMUM_ALLOWED = 1 << 25 };
-#define GENERIC_READ 0x80000000u
+#define MAXIMUM_ALLOWED 0x02000000u
 #define WAIT_FAILED 0xFFFFFFFFu
 
 /* A guest's handle as the library's. What has more than 32 bits names nothing, nor does what stands for the caller itself. */
@@ -37,22 +36,9 @@ static asked asked_by(const call *c, uint64_t attributes, uint64_t at) {
     return a;
 }
 
-/* Rights as the library has them: the generic ones stand for those of the kind. */
-static uint32_t rights_of(uint32_t access, uint32_t all) {
-    uint32_t rights = access & ~(GENERIC_READ | GENERIC_WRITE | GENERIC_EXECUTE | GENERIC_ALL | MAXIMUM_ALLOWED);
-    if (access & (GENERIC_ALL | MAXIMUM_ALLOWED)) {
-        rights |= all;
-    }
-    if (access & GENERIC_READ) {
-        rights |= OM_READ_CONTROL;
-    }
-    if (access & GENERIC_WRITE) {
-        rights |= (OM_MODIFY_STATE & all) | OM_READ_CONTROL;
-    }
-    if (access & GENERIC_EXECUTE) {
-        rights |= OM_SYNCHRONIZE | OM_READ_CONTROL;
-    }
-    return rights;
+/* Rights as the library has them: the generic ones stand for those of the kind, and as many as are allowed are all. */
+static uint32_t rights_of(uint32_t kind, uint32_t access) {
+    return om_map_access(kind, access & MAXIMUM_ALLOWED ? access | OM_GENERIC_ALL : access) & ~MAXIMUM_ALLOWED;
 }
 
 /* ---- Creating and opening ---- */
@@ -95,12 +81,12 @@ void create_timer(call *c) {
 typedef uint32_t (*opener)(om_manager *m, uint32_t thread, uint32_t access, bool inherit, const char *name, size_t length,
                            om_opening *opening);
 
-static void open_named(call *c, opener by, uint32_t all) {
+static void open_named(call *c, opener by, uint32_t kind) {
     om_opening opened;
     asked a = asked_by(c, 0, argument(c, 2));
     uint32_t status = OM_ERROR_INVALID_PARAMETER;
     if (argument(c, 2) != 0) {
-        uint32_t access = rights_of((uint32_t)argument(c, 0), all);
+        uint32_t access = rights_of(kind, (uint32_t)argument(c, 0));
         status = by(&om, c->by->number, access, (uint32_t)argument(c, 1) != 0, a.name, a.length, &opened);
     }
     done(c, status);
@@ -108,19 +94,19 @@ static void open_named(call *c, opener by, uint32_t all) {
 }
 
 void open_event(call *c) {
-    open_named(c, om_open_event, OM_EVENT_ALL_ACCESS);
+    open_named(c, om_open_event, OM_EVENT);
 }
 
 void open_mutex(call *c) {
-    open_named(c, om_open_mutex, OM_MUTEX_ALL_ACCESS);
+    open_named(c, om_open_mutex, OM_MUTEX);
 }
 
 void open_semaphore(call *c) {
-    open_named(c, om_open_semaphore, OM_SEMAPHORE_ALL_ACCESS);
+    open_named(c, om_open_semaphore, OM_SEMAPHORE);
 }
 
 void open_timer(call *c) {
-    open_named(c, om_open_timer, OM_TIMER_ALL_ACCESS);
+    open_named(c, om_open_timer, OM_TIMER);
 }
 
 /* ---- Signals ---- */
@@ -330,12 +316,8 @@ static uint32_t process_by(const call *c, uint64_t guest) {
 
 /* What a duplicate may do to what its source names, as the library has it. */
 static uint32_t rights_to(uint32_t source, uint32_t handle, uint32_t access) {
-    static const uint32_t all[] = {OM_EVENT_ALL_ACCESS, OM_MUTEX_ALL_ACCESS, OM_SEMAPHORE_ALL_ACCESS, OM_TIMER_ALL_ACCESS};
     om_handle_info info;
-    if (om_query_handle(&om, source, handle, &info) != OM_SUCCESS) {
-        return access;
-    }
-    return rights_of(access, info.kind < OM_HOST(0) ? all[info.kind] : OM_HOST_ALL_ACCESS);
+    return om_query_handle(&om, source, handle, &info) == OM_SUCCESS ? rights_of(info.kind, access) : access;
 }
 
 /* Closes the source of a duplicate of which nothing else comes. */

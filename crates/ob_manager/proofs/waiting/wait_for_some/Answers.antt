@@ -1,11 +1,18 @@
-use Rattle.std.proofs.Common.{◌<◌, ℕ, List, get_or, length, sym, subst}
+use Rattle.std.proofs.Common.{List, subst, sym}
 use Rattle.pin_core.specs.declared.id.Id.{Id}
-use Rattle.ob_waits.specs.Waits.{nowhere}
-use Rattle.ob_store.specs.State.{handles_of}
+use Rattle.ob_manager.proofs.Waited.{AreAsked, asked}
 use Rattle.ob_manager.proofs.waiting.wait_for_some.Goals as goal
 
-pub wait_on-requires-clause-is_there : goal.wait_on-requires-clause-is_there
-wait_on-requires-clause-is_there g c =
-    subst (λ (ids : List Id). (i : ℕ) → i < length ids
-    → 0 < handles_of c.args.store.now.state (get_or ids i nowhere))
-    (sym c.as_slice.ensures.value) c.in_ok-objects_of.ensures.is_there
+pub wait_on-requires : goal.wait_on-requires
+wait_on-requires g c =
+    let are : AreAsked c.args.store.now.state c.args.process c.as_slice.result.now =
+    subst (λ (ids : List Id). AreAsked c.args.store.now.state c.args.process ids) (sym c.as_slice.ensures.value)
+    (asked c.args.store.now.state c.args.process c.args.handles.now c.collect.new.ids.items c.in_ok-collect.ensures.value)
+    in
+    record {
+      not_empty = are.not_empty;
+      at_most = are.at_most;
+      alone = c.requires.alone;
+      live = c.requires.live;
+      is_there = are.is_there;
+    }

@@ -1,7 +1,6 @@
-use Rattle.std.proofs.Common.{◌≡◌, ◌+◌, drop}
+use Rattle.std.proofs.Common.{◌≤◌}
 use Rattle.ob_waits.specs.Waits.{first_signaled}
 use Rattle.ob_waits.proofs.take.first_signaled.Given as goal
 
 abbrev pub invariant-loop-i : goal.invariant-loop-i
-invariant-loop-i g l = l.i + first_signaled l.thread (g.B.Bodies.objects l.bodies).bodies (drop l.i l.ids)
-    ≡ first_signaled l.thread (g.B.Bodies.objects l.bodies).bodies l.ids
+invariant-loop-i g l = l.i ≤ first_signaled l.thread (g.B.Bodies.objects l.bodies).bodies l.ids

@@ -1,8 +1,7 @@
-use Rattle.std.proofs.Common.{◌≡◌, [], List, ℕ, ◌<◌, length, set, subst, rules, arith}
+use Rattle.std.proofs.Common.{◌≡◌, [], List, ℕ, ◌<◌, length, subst, rules, arith}
 use Rattle.std.proofs.lemmas.List.{get_or_read}
-use Rattle.ob_waits.specs.Rules.{Within}
-use Rattle.ob_waits.specs.RisingNumbers.{AreOrdered, LosesNone, numbers_of}
-use Rattle.ob_waits.proofs.IndexLaws.{lists_changed, keeps_changed}
+use Rattle.ob_waits.specs.RisingNumbers.{AreOrdered, KeepsPending, numbers_of}
+use Rattle.ob_waits.proofs.IndexLaws.{lists_changed, keeps_changed, stays_changed}
 use Rattle.ob_waits.proofs.index.Index.enter_there.Goals as goal
 
 pub enter-requires : goal.enter-requires
@@ -24,6 +23,8 @@ returns-clause-keeps c =
     let lt : c.args.slot < length lists = search rules in
     let read : c.index_mut-numbers.result.now ≡ numbers_of lists c.args.slot =
     get_or_read lists c.args.slot c.index_mut-numbers.result.now lt c.index_mut-numbers.ensures.value [] in
-    subst (λ (rs : List (List ℕ)). LosesNone rs (set lists c.args.slot c.enter.new.self)) c.self.view_is
-    (keeps_changed lists c.args.slot c.enter.new.self (subst (λ (r : List ℕ). (j : ℕ) → Within j r
-    → Within j c.enter.new.self) read c.enter.ensures.keeps))
+    rw (← c.self.view_is) (keeps_changed c.args.live.now lists c.args.slot c.enter.new.self
+    (subst (λ (r : List ℕ). KeepsPending c.args.live.now r c.enter.new.self) read c.enter.ensures.keeps))
+
+pub returns-clause-stays : goal.returns-clause-stays
+returns-clause-stays c = search (arith, stays_changed)

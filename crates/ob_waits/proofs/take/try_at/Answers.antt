@@ -1,7 +1,7 @@
 use Rattle.std.proofs.Common.{◌≡◌, ◌∷◌, [], ◌∙◌, List, ap, arith, get_or, length, refl}
 use Rattle.pin_core.specs.declared.id.Id.{Id}
 use Rattle.ob_waits.specs.Waits.{nowhere, objects_now}
-use Rattle.ob_waits.proofs.take.try_now.Goals as goal
+use Rattle.ob_waits.proofs.take.try_at.Goals as goal
 
 one : (ids : List Id) → length ids ≡ 1 → get_or ids 0 nowhere ∷ [] ≡ ids
 one [] is = absurd (omega arith)

@@ -1,6 +1,6 @@
 use Rattle.std.proofs.Common.{◌≡◌, drop}
 use Rattle.ob_waits.specs.CountedBodies.{without_blocks}
-use Rattle.ob_waits.proofs.pass.leave_all.Given as goal
+use Rattle.ob_waits.proofs.pass.leave_each.Given as goal
 
 abbrev pub invariant-loop-id : goal.invariant-loop-id
 invariant-loop-id g l = record {

@@ -1,7 +1,0 @@
-use Rattle.std.proofs.Common.{rules}
-use Rattle.ob_waits.proofs.IndexLaws.{thins_there}
-use Rattle.ob_waits.proofs.index.Index.thin_if_due.Goals as goal
-
-pub returns-then-at-len : goal.returns-then-at-len
-returns-then-at-len c = thins_there c.args.slot c.self.view_is c.index_mut-numbers.ensures.value c.thin_if_due.ensures
-    (search rules)

@@ -1,0 +1,6 @@
+use Rattle.std.proofs.Common.{ℕ, ◌<◌, ◌≢◌, get_or}
+use Rattle.ob_waits.specs.Waits.{nowhere}
+use Rattle.ob_waits.proofs.take.place_of.Given as goal
+
+abbrev pub invariant-loop-i : goal.invariant-loop-i
+invariant-loop-i l = (k : ℕ) → k < l.i → (get_or l.ids k nowhere).slot ≢ l.slot
