@@ -50,9 +50,9 @@ due_after w due consistent least =
     let later : w.state.clock < due =
     ⊎_elim
     (λ (e : get_or timers least.stands.0 None ≡ Some due). subst (λ x. IsAfter w.state.clock x)
-        (sym (get_or-map slot_due w.state.bodies least.stands.0 None) ∙ e) (consistent.formed.later least.stands.0))
+    (sym (get_or-map slot_due w.state.bodies least.stands.0 None) ∙ e) (consistent.formed.later least.stands.0))
     (λ (e : (k : ℕ) × (get_or waits k None ≡ Some due)). subst (λ x. IsAfter w.state.clock x)
-        (sym (get_or-map deadline_of w.state.waits e.0 None) ∙ e.1) (consistent.ahead.each e.0))
+    (sym (get_or-map deadline_of w.state.waits e.0 None) ∙ e.1) (consistent.ahead.each e.0))
     (either timers waits least.stands.0 due at.0) in
     (later, at.1)
 

@@ -9,8 +9,8 @@ ghost use Rattle.obman_c.specs.Timing.{Advances, Serves};
 
 use crate::status::{NO_MORE, told};
 use ob_manager::Ask;
-use obman_c_base::{ManagerOwner, OwnedManager, SUCCESS};
 use ob_store::LAST_MOMENT;
+use obman_c_base::{ManagerOwner, OwnedManager, SUCCESS};
 
 /// [`Manager::set_timer`](ob_manager::Manager::set_timer): 0, 87, 170, 6 or 5.
 #[unsafe(no_mangle)]
