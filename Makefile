@@ -10,6 +10,8 @@
 #     make check                 passes every check (./check)
 #     make windows               builds examples/windows: Windows programs, and a host that runs them, in build/windows; it needs
 #                                mingw-w64 and Unicorn (docs/WINDOWS.md)
+#     make win32                 builds examples/win32: the calls of Windows for the threads of one process, build/win32/libwin32.a, and a
+#                                Windows program on it, build/win32/buffer; LIBRARY may name another archive than build/libobman.a
 #
 # It needs the Rattle kit, which proves the library and builds it, a C compiler and ar.
 PREFIX ?= /usr/local
@@ -24,6 +26,7 @@ CXX ?= c++
 CARGO ?= cargo
 PYTHON ?= python3
 MINGW ?= x86_64-w64-mingw32-gcc
+LIBRARY ?= build/libobman.a
 
 KIT = $(dir $(shell rt doc))
 PROVED = $(foreach part,obman_c obman_c_whole,crates/$(part)/out/lib$(part).a)
@@ -36,9 +39,10 @@ DIST = obman-$(RELEASE)-x86_64-linux
 # What is installed finds the rest from where it lies.
 HEADERS = $(shell realpath -ms --relative-to=$(LIBDIR) $(INCLUDEDIR))
 
+WIN32 = $(filter-out %/buffer.o,$(patsubst examples/win32/%.c,build/win32/%.o,$(wildcard examples/win32/*.c)))
 GUESTS = $(patsubst examples/windows/guests/%.c,build/windows/%.exe,$(wildcard examples/windows/guests/*.c))
 
-.PHONY: all proved check install install-strip dist examples windows clean
+.PHONY: all proved check install install-strip dist examples windows win32 clean
 
 all: build/libobman.a build/libobman.so
 
@@ -127,6 +131,20 @@ build/windows/host: $(wildcard examples/windows/host/*) include/obman.h build/li
 build/windows/%.exe: examples/windows/guests/%.c $(wildcard examples/windows/guests/*.h)
 	mkdir -p $(@D)
 	$(MINGW) -std=c11 -O2 -nostdlib -ffreestanding -mno-stack-arg-probe -e start -o $@ $< -lkernel32
+
+win32: build/win32/buffer
+
+build/win32/%.o: examples/win32/%.c $(wildcard examples/win32/*.h) include/obman.h
+	mkdir -p $(@D)
+	$(CC) -std=c11 -O2 -Iinclude -Iexamples/win32 -c -o $@ $<
+
+build/win32/libwin32.a: $(WIN32)
+	rm -f $@
+	ar rcs $@ $^
+
+# Source that was written for Windows, as it is.
+build/win32/buffer: build/win32/buffer.o build/win32/libwin32.a $(LIBRARY)
+	$(CC) -o $@ $^ -pthread
 
 clean:
 	rm -rf build

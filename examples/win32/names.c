@@ -1,0 +1,250 @@
+/* The names of Windows as the library has them.
+ *
+ * The library's names are printable ASCII, 260 bytes with their prefix. Another character stands as % and four hexadecimal digits, % itself too,
+ * so that a zero, which names of ntdll may have, is one more character; and a name that is too long stands as %% and a digest of it. */
+#include "host.h"
+
+#include <stdio.h>
+#include <string.h>
+#include <strings.h>
+#include <sys/mman.h>
+#include <unistd.h>
+
+static bool is_plain(WCHAR c) {
+    return c >= 0x20 && c <= 0x7E && c != '%';
+}
+
+__extension__ typedef unsigned __int128 digest_of_128_bits;
+
+/* 128 bits of FNV-1a: no two names meet by chance. Where guests choose names to harm others, let it be a digest that nobody can choose for. */
+static size_t digested(const WCHAR *text, size_t length, char *bytes) {
+    digest_of_128_bits digest = ((digest_of_128_bits)0x6C62272E07BB0142u << 64) | 0x62B821756295C58Du;
+    const digest_of_128_bits prime = ((digest_of_128_bits)1 << 88) | 0x13B;
+    for (size_t i = 0; i < length; i++) {
+        digest = (digest ^ (text[i] & 0xFF)) * prime;
+        digest = (digest ^ (text[i] >> 8)) * prime;
+    }
+    return (size_t)sprintf(bytes, "%%%%%016llX%016llX", (unsigned long long)(digest >> 64), (unsigned long long)digest);
+}
+
+/* A name of the session, or of all sessions. */
+static void spell(name *n, bool is_global, const WCHAR *text, size_t length) {
+    size_t prefix = (size_t)sprintf(n->bytes, is_global ? "Global\\" : "Local\\");
+    n->is_given = true;
+    n->length = prefix;
+    for (size_t i = 0; i < length; i++) {
+        if (n->length + (is_plain(text[i]) ? 1 : 5) > OM_NAME_MOST) {
+            n->length = prefix + digested(text, length, n->bytes + prefix);
+            return;
+        }
+        if (is_plain(text[i])) {
+            n->bytes[n->length++] = (char)text[i];
+        } else {
+            n->length += (size_t)sprintf(n->bytes + n->length, "%%%04X", text[i]);
+        }
+    }
+}
+
+/* How many characters of a text a prefix has that it begins with, or 0. */
+static size_t begins(const WCHAR *text, size_t length, const char *prefix, bool any_case) {
+    size_t i = 0;
+    for (; prefix[i] != 0; i++) {
+        char c = i < length && text[i] < 0x80 ? (char)text[i] : 0;
+        if (any_case ? strncasecmp(&c, &prefix[i], 1) != 0 : c != prefix[i]) {
+            return 0;
+        }
+    }
+    return i;
+}
+
+static bool is_word(const WCHAR *text, size_t length, const char *word) {
+    return length == strlen(word) && begins(text, length, word, false) == length;
+}
+
+/* ---- kernel32: a name may begin with Global\ or Local\, and each is followed where it stands.
+ * https://learn.microsoft.com/windows/win32/termserv/kernel-object-namespaces ---- */
+
+static name of_text(const WCHAR *text, size_t length) {
+    name n = {0};
+    bool is_global = false;
+    size_t prefix;
+    if (length == 0) {
+        return n; /* an empty name is none */
+    }
+    if (*text == '\\') {
+        n.status = ERROR_BAD_PATHNAME;
+        return n;
+    }
+    if (is_word(text, length, "Global") || is_word(text, length, "Local") || is_word(text, length, "Session")) {
+        n.status = ERROR_INVALID_HANDLE; /* each is a link there, and no object of another kind */
+        return n;
+    }
+    while ((prefix = begins(text, length, "Global\\", false)) > 0 || (prefix = begins(text, length, "Local\\", false)) > 0 ||
+           (prefix = begins(text, length, "Session\\1\\", false)) > 0) {
+        is_global = *text == 'G';
+        text += prefix;
+        length -= prefix;
+        if (length == 0 || *text == '\\') {
+            n.status = ERROR_INVALID_NAME;
+            return n;
+        }
+    }
+    for (size_t i = 0; i < length; i++) {
+        if (text[i] == '\\') {
+            n.status = ERROR_PATH_NOT_FOUND;
+            return n;
+        }
+    }
+    spell(&n, is_global, text, length);
+    return n;
+}
+
+name wide(LPCWSTR text) {
+    size_t length = 0;
+    while (text != NULL && text[length] != 0) {
+        length++;
+    }
+    return of_text(text, length);
+}
+
+/* A byte is the character of its number, and a narrow name has MAX_PATH of them at the most. */
+name narrow(LPCSTR text) {
+    WCHAR widened[MAX_PATH];
+    size_t length = 0;
+    for (; text != NULL && text[length] != 0; length++) {
+        if (length == MAX_PATH) {
+            return (name){.status = ERROR_FILENAME_EXCED_RANGE};
+        }
+        widened[length] = (unsigned char)text[length];
+    }
+    return of_text(widened, length);
+}
+
+/* ---- ntdll: a path from the root, or from a directory that was opened.
+ * https://learn.microsoft.com/windows-hardware/drivers/kernel/object-directories ---- */
+
+/* Whether there is memory at a place; Windows tests whatever it is passed. */
+bool is_there(const void *at, size_t size) {
+    unsigned char pages[32];
+    uintptr_t page = (uintptr_t)sysconf(_SC_PAGESIZE), first = (uintptr_t)at / page * page;
+    return size == 0 || ((uintptr_t)at + size - first <= sizeof pages * page && mincore((void *)first, (uintptr_t)at + size - first, pages) == 0);
+}
+
+/* A name that differs from one that is asked for in nothing but case, where there is one, is meant (OBJ_CASE_INSENSITIVE). */
+static void find_any_case(name *n) {
+    size_t prefix = strcspn(n->bytes, "\\") + 1;
+    char bytes[OM_NAME_MOST];
+    om_row row;
+    for (size_t at = 0; om_directory_at(&om, at, bytes, sizeof bytes, &row) == OM_SUCCESS; at++) {
+        bool is_global = *n->bytes == 'G';
+        if (row.session == (is_global ? 0 : SESSION) && row.length == n->length - prefix && strncasecmp(bytes, n->bytes + prefix, row.length) == 0) {
+            memcpy(n->bytes + prefix, bytes, row.length);
+        }
+    }
+}
+
+/* What a name begins with that is looked up from the root: one of the two directories of names, and the links of each. */
+static size_t root_of(const WCHAR *text, size_t length, bool any_case, bool *is_global) {
+    static const struct {
+        const char *path;
+        bool is_global;
+    } links[] = {{"Local\\", false}, {"Session\\1\\", false}, {"Global\\", true}};
+    size_t all = begins(text, length, "\\BaseNamedObjects\\", any_case), link;
+    *is_global = all > 0;
+    if (all == 0 && (all = begins(text, length, "\\Sessions\\1\\BaseNamedObjects\\", any_case)) == 0) {
+        return 0;
+    }
+    for (size_t i = 0; i < sizeof links / sizeof links[0]; i++) {
+        if ((link = begins(text + all, length - all, links[i].path, any_case)) > 0) {
+            *is_global = links[i].is_global;
+            return all + link;
+        }
+    }
+    return all;
+}
+
+/* The directory by whose handle a name is looked up. */
+static NTSTATUS directory_by(HANDLE handle, bool *is_global) {
+    om_handle_info info;
+    if (om_query_handle(&om, me->of->number, number_of(handle), &info) != OM_SUCCESS) {
+        return STATUS_INVALID_HANDLE;
+    }
+    *is_global = info.kind == OM_HOST((uint32_t)GLOBAL_NAMES);
+    return *is_global || info.kind == OM_HOST((uint32_t)LOCAL_NAMES) ? STATUS_SUCCESS : STATUS_OBJECT_TYPE_MISMATCH;
+}
+
+/* The name of ObjectName and RootDirectory, or why it is none, in the order in which Windows is known to test (Wine's tests of object names). A
+ * create may be without one. */
+NTSTATUS native_name(const OBJECT_ATTRIBUTES *attributes, bool is_create, name *n) {
+    *n = (name){0};
+    if (attributes == NULL) {
+        return is_create ? STATUS_SUCCESS : STATUS_INVALID_PARAMETER;
+    }
+    if (attributes->Length != sizeof *attributes) {
+        return STATUS_INVALID_PARAMETER;
+    }
+    const UNICODE_STRING *string = attributes->ObjectName;
+    if (string == NULL) {
+        return attributes->RootDirectory != NULL ? STATUS_OBJECT_NAME_INVALID : is_create ? STATUS_SUCCESS : STATUS_OBJECT_PATH_SYNTAX_BAD;
+    }
+    if (!is_there(string, sizeof *string)) {
+        return STATUS_ACCESS_VIOLATION;
+    }
+    if (((uintptr_t)string->Buffer & 1) != 0) {
+        return STATUS_DATATYPE_MISALIGNMENT;
+    }
+    if (!is_there(string->Buffer, string->Length)) {
+        return STATUS_ACCESS_VIOLATION;
+    }
+    if ((string->Length & 1) != 0 || string->Length == UINT16_MAX - 1) {
+        return STATUS_OBJECT_NAME_INVALID;
+    }
+    const WCHAR *text = string->Buffer;
+    size_t length = string->Length / 2, root = 0;
+    bool any_case = (attributes->Attributes & OBJ_CASE_INSENSITIVE) != 0, is_global;
+    if (length == 0 && is_create) {
+        return STATUS_SUCCESS;
+    }
+    if (attributes->RootDirectory != NULL) {
+        NTSTATUS status = directory_by(attributes->RootDirectory, &is_global);
+        if (status != STATUS_SUCCESS || length == 0) {
+            return status != STATUS_SUCCESS ? status : STATUS_OBJECT_TYPE_MISMATCH; /* the directory itself */
+        }
+        if (*text == '\\') {
+            return STATUS_OBJECT_PATH_SYNTAX_BAD;
+        }
+    } else {
+        if (length == 0 || *text != '\\') {
+            return STATUS_OBJECT_PATH_SYNTAX_BAD;
+        }
+        if (length == 1) {
+            return STATUS_OBJECT_TYPE_MISMATCH; /* the root */
+        }
+        if ((root = root_of(text, length, any_case, &is_global)) == 0) {
+            return STATUS_OBJECT_PATH_NOT_FOUND;
+        }
+    }
+    spell(n, is_global, text + root, length - root);
+    if (any_case) {
+        find_any_case(n);
+    }
+    return STATUS_SUCCESS;
+}
+
+/* The path of a row of the directory as ntdll tells it; of a name that was too long the digest. */
+size_t native_path(const char *spelled, const om_row *row, WCHAR *path) {
+    char root[64];
+    size_t length = 0;
+    int written = row->session == 0 ? sprintf(root, "\\BaseNamedObjects\\") : sprintf(root, "\\Sessions\\%u\\BaseNamedObjects\\", row->session);
+    for (int i = 0; i < written; i++) {
+        path[length++] = (WCHAR)root[i];
+    }
+    for (uint32_t i = 0; i < row->length; i++) {
+        unsigned code = (unsigned char)spelled[i];
+        if (code == '%' && spelled[i + 1] != '%' && sscanf(spelled + i + 1, "%4X", &code) == 1) {
+            i += 4;
+        }
+        path[length++] = (WCHAR)code;
+    }
+    return length;
+}

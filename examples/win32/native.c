@@ -1,0 +1,679 @@
+/* The calls of ntdll. Most are what the call of kernel32 does, with another form of names, moments and refusals.
+ * https://learn.microsoft.com/windows-hardware/drivers/ddi/ntifs/ */
+#include "host.h"
+
+#include <sched.h>
+#include <string.h>
+
+/* ---- Refusals ---- */
+
+static NTSTATUS native(uint32_t status) {
+    switch (status) {
+    case ERROR_PRIVILEGE_NOT_HELD: return STATUS_PRIVILEGE_NOT_HELD;
+    case ERROR_NOT_SAME_OBJECT: return STATUS_NOT_SAME_OBJECT;
+    default: return (NTSTATUS)om_nt_status(status);
+    }
+}
+
+/* Ends a call that has to have a handle of one kind: where it is refused with 6 and there is such a handle, that is of another. */
+static NTSTATUS ended(uint32_t status, HANDLE handle) {
+    om_handle_info info;
+    bool is_other = status == OM_ERROR_INVALID_HANDLE && query(handle, &info) == OM_SUCCESS;
+    unlocked(status);
+    return is_other ? STATUS_OBJECT_TYPE_MISMATCH : native(status);
+}
+
+/* Ends a call that tells the state before, where it isn't refused. */
+static NTSTATUS ended_with(uint32_t status, HANDLE handle, PLONG previous, LONG before) {
+    if (status == OM_SUCCESS && previous != NULL) {
+        *previous = before;
+    }
+    return ended(status, handle);
+}
+
+/* The state of what a handle of the caller's names; all zeros where it names nothing. */
+static om_object_state state_of(HANDLE handle) {
+    om_object_state state = {0};
+    om_handle_state(&om, me->of->number, number_of(handle), &state);
+    return state;
+}
+
+/* ---- Making and opening ---- */
+
+/* Without OBJ_OPENIF a name that is there is refused. */
+static NTSTATUS made_native(PHANDLE handle, ACCESS_MASK access, const OBJECT_ATTRIBUTES *attributes, body b, bool is_good) {
+    ULONG flags = attributes != NULL ? attributes->Attributes : 0;
+    om_opening made;
+    name n;
+    if (!is_there(handle, sizeof *handle)) {
+        return STATUS_ACCESS_VIOLATION;
+    }
+    *handle = NULL;
+    enter();
+    NTSTATUS refused = native_name(attributes, true, &n);
+    if (refused != STATUS_SUCCESS || !is_good) {
+        unlocked(OM_SUCCESS);
+        return refused != STATUS_SUCCESS ? refused : STATUS_INVALID_PARAMETER;
+    }
+    uint32_t status = make(&b, &n, access, (flags & OBJ_INHERIT) != 0, attributes != NULL ? attributes->SecurityDescriptor : NULL, &made);
+    if (status == OM_ERROR_ALREADY_EXISTS && (flags & OBJ_OPENIF) == 0) {
+        om_close(&om, me->number, made.handle);
+        refused = STATUS_OBJECT_NAME_COLLISION;
+    } else if (status == OM_SUCCESS || status == OM_ERROR_ALREADY_EXISTS) {
+        *handle = (HANDLE)(uintptr_t)made.handle;
+    }
+    unlocked(status);
+    return refused != STATUS_SUCCESS ? refused : status == OM_ERROR_INVALID_HANDLE ? STATUS_OBJECT_TYPE_MISMATCH : native(status);
+}
+
+static NTSTATUS opened_native(PHANDLE handle, ACCESS_MASK access, const OBJECT_ATTRIBUTES *attributes, uint32_t kind) {
+    om_opening opened;
+    name n;
+    if (!is_there(handle, sizeof *handle)) {
+        return STATUS_ACCESS_VIOLATION;
+    }
+    *handle = NULL;
+    enter();
+    NTSTATUS refused = native_name(attributes, false, &n);
+    if (refused != STATUS_SUCCESS) {
+        unlocked(OM_SUCCESS);
+        return refused;
+    }
+    uint32_t status = open_named(kind, &n, access, (attributes->Attributes & OBJ_INHERIT) != 0, &opened);
+    if (status == OM_SUCCESS) {
+        *handle = (HANDLE)(uintptr_t)opened.handle;
+    }
+    unlocked(status);
+    return status == OM_ERROR_INVALID_HANDLE ? STATUS_OBJECT_TYPE_MISMATCH : native(status);
+}
+
+/* ---- Queries: one class each, whose length has to be right ---- */
+
+/* Begins a query: under the lock where it isn't refused. */
+static NTSTATUS asked(HANDLE handle, uint32_t kind, ULONG what, size_t due, ULONG length, om_object_state *state) {
+    om_handle_info info;
+    if (what != 0 || length != due) {
+        return what != 0 ? STATUS_INVALID_INFO_CLASS : STATUS_INFO_LENGTH_MISMATCH;
+    }
+    enter();
+    tell_time();
+    uint32_t status = query(handle, &info);
+    *state = state_of(handle);
+    unlocked(status);
+    if (status != OM_SUCCESS) {
+        return native(status);
+    }
+    return info.kind != kind ? STATUS_OBJECT_TYPE_MISMATCH : (info.access & EVENT_QUERY_STATE) == 0 ? STATUS_ACCESS_DENIED : STATUS_SUCCESS;
+}
+
+static NTSTATUS told_in_full(NTSTATUS status, size_t length, PULONG written) {
+    if (status == STATUS_SUCCESS && written != NULL) {
+        *written = (ULONG)length;
+    }
+    return status;
+}
+
+/* ---- Events ---- */
+
+NTSTATUS NTAPI NtClearEvent(HANDLE event) {
+    return NtResetEvent(event, NULL);
+}
+
+NTSTATUS NTAPI NtCreateEvent(PHANDLE made, ACCESS_MASK access, const OBJECT_ATTRIBUTES *attributes, EVENT_TYPE type, BOOLEAN set) {
+    body b = {.kind = OM_EVENT, .manual = type == NotificationEvent, .set = set};
+    return made_native(made, access, attributes, b, type <= SynchronizationEvent);
+}
+
+NTSTATUS NTAPI NtOpenEvent(PHANDLE opened, ACCESS_MASK access, const OBJECT_ATTRIBUTES *attributes) {
+    return opened_native(opened, access, attributes, OM_EVENT);
+}
+
+NTSTATUS NTAPI NtPulseEvent(HANDLE event, PLONG previous) {
+    enter();
+    om_object_state before = state_of(event);
+    return ended_with(pulse(number_of(event)), event, previous, before.signaled);
+}
+
+NTSTATUS NTAPI NtQueryEvent(HANDLE event, ULONG what, PVOID told, ULONG length, PULONG written) {
+    om_description made;
+    om_object_state state;
+    om_handle_info info;
+    NTSTATUS status = asked(event, OM_EVENT, what, sizeof(EVENT_BASIC_INFORMATION), length, &state);
+    if (status == STATUS_SUCCESS) {
+        enter();
+        bool is_manual = query(event, &info) == OM_SUCCESS && om_card(&om, info.object.slot, info.object.generation, &made) == OM_SUCCESS && made.manual;
+        unlocked(OM_SUCCESS);
+        *(EVENT_BASIC_INFORMATION *)told = (EVENT_BASIC_INFORMATION){is_manual ? NotificationEvent : SynchronizationEvent, state.signaled};
+    }
+    return told_in_full(status, length, written);
+}
+
+NTSTATUS NTAPI NtResetEvent(HANDLE event, PLONG previous) {
+    uint32_t by = enter();
+    om_object_state before = state_of(event);
+    return ended_with(om_reset_event(&om, by, number_of(event)), event, previous, before.signaled);
+}
+
+NTSTATUS NTAPI NtSetEvent(HANDLE event, PLONG previous) {
+    uint32_t by = enter();
+    om_object_state before = state_of(event);
+    return ended_with(om_set_event(&om, by, number_of(event)), event, previous, before.signaled);
+}
+
+/* ---- Mutants, whose count is 1 less how often they are owned ---- */
+
+NTSTATUS NTAPI NtCreateMutant(PHANDLE made, ACCESS_MASK access, const OBJECT_ATTRIBUTES *attributes, BOOLEAN owned) {
+    return made_native(made, access, attributes, (body){.kind = OM_MUTEX, .set = owned}, true);
+}
+
+NTSTATUS NTAPI NtOpenMutant(PHANDLE opened, ACCESS_MASK access, const OBJECT_ATTRIBUTES *attributes) {
+    return opened_native(opened, access, attributes, OM_MUTEX);
+}
+
+NTSTATUS NTAPI NtQueryMutant(HANDLE mutant, ULONG what, PVOID told, ULONG length, PULONG written) {
+    om_object_state state;
+    NTSTATUS status = asked(mutant, OM_MUTEX, what, sizeof(MUTANT_BASIC_INFORMATION), length, &state);
+    if (status == STATUS_SUCCESS) {
+        *(MUTANT_BASIC_INFORMATION *)told = (MUTANT_BASIC_INFORMATION){1 - (LONG)state.count, state.owner == me->number, state.abandoned};
+    }
+    return told_in_full(status, length, written);
+}
+
+NTSTATUS NTAPI NtReleaseMutant(HANDLE mutant, PLONG previous) {
+    uint32_t by = enter();
+    om_object_state before = state_of(mutant);
+    return ended_with(om_release_mutex(&om, by, number_of(mutant)), mutant, previous, 1 - (LONG)before.count);
+}
+
+/* ---- Semaphores ---- */
+
+NTSTATUS NTAPI NtCreateSemaphore(PHANDLE made, ACCESS_MASK access, const OBJECT_ATTRIBUTES *attributes, LONG initial, LONG most) {
+    return made_native(made, access, attributes, (body){.kind = OM_SEMAPHORE, .initial = initial, .most = most}, true);
+}
+
+NTSTATUS NTAPI NtOpenSemaphore(PHANDLE opened, ACCESS_MASK access, const OBJECT_ATTRIBUTES *attributes) {
+    return opened_native(opened, access, attributes, OM_SEMAPHORE);
+}
+
+NTSTATUS NTAPI NtQuerySemaphore(HANDLE semaphore, ULONG what, PVOID told, ULONG length, PULONG written) {
+    om_object_state state;
+    NTSTATUS status = asked(semaphore, OM_SEMAPHORE, what, sizeof(SEMAPHORE_BASIC_INFORMATION), length, &state);
+    if (status == STATUS_SUCCESS) {
+        *(SEMAPHORE_BASIC_INFORMATION *)told = (SEMAPHORE_BASIC_INFORMATION){state.count, state.max};
+    }
+    return told_in_full(status, length, written);
+}
+
+NTSTATUS NTAPI NtReleaseSemaphore(HANDLE semaphore, ULONG count, PULONG previous) {
+    uint32_t before, status = om_release_semaphore(&om, enter(), number_of(semaphore), (int32_t)count, &before);
+    return ended_with(status, semaphore, (PLONG)previous, (LONG)before);
+}
+
+/* ---- Timers ---- */
+
+NTSTATUS NTAPI NtCancelTimer(HANDLE timer, PBOOLEAN previous) {
+    enter();
+    tell_time();
+    om_object_state before = state_of(timer);
+    uint32_t status = cancel_timer(number_of(timer));
+    if (status == OM_SUCCESS && previous != NULL) {
+        *previous = before.signaled;
+    }
+    return ended(status, timer);
+}
+
+NTSTATUS NTAPI NtCreateTimer(PHANDLE made, ACCESS_MASK access, const OBJECT_ATTRIBUTES *attributes, TIMER_TYPE type) {
+    return made_native(made, access, attributes, (body){.kind = OM_TIMER, .manual = type == NotificationTimer}, type <= SynchronizationTimer);
+}
+
+NTSTATUS NTAPI NtOpenTimer(PHANDLE opened, ACCESS_MASK access, const OBJECT_ATTRIBUTES *attributes) {
+    return opened_native(opened, access, attributes, OM_TIMER);
+}
+
+NTSTATUS NTAPI NtQueryTimer(HANDLE timer, ULONG what, PVOID told, ULONG length, PULONG written) {
+    om_object_state state;
+    NTSTATUS status = asked(timer, OM_TIMER, what, sizeof(TIMER_BASIC_INFORMATION), length, &state);
+    if (status == STATUS_SUCCESS) {
+        TIMER_BASIC_INFORMATION *t = told;
+        t->RemainingTime.QuadPart = state.has_due ? (LONGLONG)(state.due - now()) : 0;
+        t->TimerState = state.signaled;
+    }
+    return told_in_full(status, length, written);
+}
+
+NTSTATUS NTAPI NtSetTimer(HANDLE timer, const LARGE_INTEGER *due, PTIMER_APC_ROUTINE routine, PVOID argument, BOOLEAN resume, ULONG period,
+                          PBOOLEAN previous) {
+    (void)resume;
+    enter();
+    tell_time();
+    om_object_state before = state_of(timer);
+    uint32_t status = set_timer(number_of(timer), due->QuadPart, period, (PTIMERAPCROUTINE)routine, argument);
+    if (status == OM_SUCCESS && previous != NULL) {
+        *previous = before.signaled;
+    }
+    return ended(status, timer);
+}
+
+/* ---- Waits, and procedure calls ---- */
+
+/* Stands for waits of the library's until a moment: so many milliseconds, and no less. */
+static uint32_t milliseconds_until(const LARGE_INTEGER *until) {
+    if (until == NULL) {
+        return INFINITE;
+    }
+    uint64_t moment = (uint64_t)until->QuadPart, units = moment > now() ? moment - now() : 0;
+    if (until->QuadPart < 0) {
+        units = 0 - moment;
+    }
+    uint64_t milliseconds = (units + UNITS_PER_MILLISECOND - 1) / UNITS_PER_MILLISECOND;
+    return milliseconds < INFINITE ? (uint32_t)milliseconds : INFINITE - 1;
+}
+
+/* Ends a call that answers with a wait's code, which is a status. */
+static NTSTATUS waited(uint32_t status, uint32_t code) {
+    unlocked(status);
+    return status == OM_SUCCESS ? (NTSTATUS)code : native(status);
+}
+
+NTSTATUS NTAPI NtDelayExecution(BOOLEAN alertable, const LARGE_INTEGER *until) {
+    enter();
+    uint64_t moment = until == NULL ? NEVER : (uint64_t)until->QuadPart;
+    if (until != NULL && until->QuadPart < 0) {
+        moment = now() - moment;
+    }
+    return waited(OM_SUCCESS, sleep_for(moment, alertable));
+}
+
+NTSTATUS NTAPI NtQuerySystemTime(PLARGE_INTEGER time) {
+    FILETIME moment;
+    GetSystemTimeAsFileTime(&moment);
+    time->QuadPart = (LONGLONG)((uint64_t)moment.dwHighDateTime << 32 | moment.dwLowDateTime);
+    return STATUS_SUCCESS;
+}
+
+NTSTATUS NTAPI NtQueueApcThread(HANDLE handle, PNTAPCFUNC routine, ULONG_PTR one, ULONG_PTR two, ULONG_PTR three) {
+    thread *t;
+    enter();
+    uint32_t status = thread_by(handle, THREAD_SET_CONTEXT, &t);
+    if (status != OM_SUCCESS) {
+        return ended(status, handle);
+    }
+    bool has_ended = t->has_ended;
+    if (routine != NULL) {
+        queue_call(t, routine, one, two, three, NULL);
+    }
+    unlocked(OM_SUCCESS);
+    return has_ended ? STATUS_UNSUCCESSFUL : STATUS_SUCCESS;
+}
+
+NTSTATUS NTAPI NtSignalAndWaitForSingleObject(HANDLE signal, HANDLE wait, BOOLEAN alertable, const LARGE_INTEGER *until) {
+    uint32_t code = 0;
+    enter();
+    uint32_t status = signal_and_wait(signal, wait, milliseconds_until(until), alertable, &code);
+    return waited(status, code);
+}
+
+NTSTATUS NTAPI NtTestAlert(void) {
+    enter();
+    run_calls();
+    unlocked(OM_SUCCESS);
+    return STATUS_SUCCESS;
+}
+
+NTSTATUS NTAPI NtWaitForMultipleObjects(ULONG count, const HANDLE *handles, BOOLEAN any, BOOLEAN alertable, const LARGE_INTEGER *until) {
+    uint32_t code = 0;
+    enter();
+    uint32_t status = wait_for(handles, count, !any, milliseconds_until(until), alertable, &code);
+    return waited(status, code);
+}
+
+NTSTATUS NTAPI NtWaitForSingleObject(HANDLE handle, BOOLEAN alertable, const LARGE_INTEGER *until) {
+    uint32_t code = 0;
+    enter();
+    uint32_t status = wait_for_one(handle, milliseconds_until(until), alertable, &code);
+    return waited(status, code);
+}
+
+NTSTATUS NTAPI NtYieldExecution(void) {
+    sched_yield();
+    return STATUS_SUCCESS;
+}
+
+/* ---- Handles ---- */
+
+NTSTATUS NTAPI NtClose(HANDLE handle) {
+    om_handle_info info;
+    if ((LONG_PTR)handle < 0 && (LONG_PTR)handle >= -6) {
+        return STATUS_SUCCESS; /* what stands for the caller itself */
+    }
+    uint32_t status = om_close(&om, enter(), number_of(handle));
+    bool is_protected = status == OM_ERROR_INVALID_HANDLE && query(handle, &info) == OM_SUCCESS;
+    unlocked(status);
+    return is_protected ? STATUS_HANDLE_NOT_CLOSABLE : native(status);
+}
+
+NTSTATUS NTAPI NtCompareObjects(HANDLE one, HANDLE other) {
+    enter();
+    return native(unlocked(same_object(one, other)));
+}
+
+NTSTATUS NTAPI NtDuplicateObject(HANDLE source, HANDLE handle, HANDLE target, PHANDLE made, ACCESS_MASK access, ULONG attributes, ULONG options) {
+    HANDLE copy = NULL;
+    if (made != NULL && !is_there(made, sizeof *made)) {
+        return STATUS_ACCESS_VIOLATION;
+    }
+    enter();
+    uint32_t status = duplicate(source, handle, target, access, (attributes & OBJ_INHERIT) != 0, options, &copy);
+    if (made != NULL) {
+        *made = copy;
+    }
+    return native(unlocked(status));
+}
+
+/* A thread of a process whose object is behind that of another, where slots are the order; one that has ended is found while somebody has a handle
+ * to it. */
+static thread *next_thread(const process *p, const thread *behind) {
+    om_object object;
+    om_object_state state;
+    for (uint32_t slot = behind == NULL ? 0 : behind->own.object.slot + 1; om_next_object(&om, slot, &object) == OM_SUCCESS; slot = object.slot + 1) {
+        thread *t = (thread *)(uintptr_t)om_object_data(&om, object.slot, object.generation);
+        if (om_state(&om, object.slot, object.generation, &state) == OM_SUCCESS && state.kind == OM_HOST((uint32_t)A_THREAD) && t->of == p) {
+            return t;
+        }
+    }
+    return NULL;
+}
+
+/* A handle of the host's own to a thread is there while it runs: of one that has ended the caller's handles are the only ones. */
+static uint32_t opened_thread(const thread *t, ACCESS_MASK access, bool inherit, HANDLE *opened) {
+    om_entry entry;
+    om_opening o;
+    uint32_t status = OM_ERROR_INVALID_HANDLE;
+    if (!t->has_ended) {
+        return given(&t->own, me->of, access, inherit, opened);
+    }
+    for (uint32_t handle = 0; om_next_handle(&om, me->of->number, handle, &entry) == OM_SUCCESS; handle = entry.handle) {
+        if (entry.object.slot == t->own.object.slot) {
+            status = om_duplicate(&om, me->number, me->of->number, entry.handle, me->of->number, access, inherit, 0, &o);
+            *opened = (HANDLE)(uintptr_t)o.handle;
+            break;
+        }
+    }
+    return status;
+}
+
+NTSTATUS NTAPI NtGetNextThread(HANDLE handle, HANDLE behind, ACCESS_MASK access, ULONG attributes, ULONG flags, PHANDLE next) {
+    process *p;
+    thread *t = NULL;
+    if (!is_there(next, sizeof *next)) {
+        return STATUS_ACCESS_VIOLATION;
+    }
+    *next = NULL;
+    if (flags != 0) {
+        return STATUS_INVALID_PARAMETER; /* backwards */
+    }
+    enter();
+    uint32_t status = process_by(handle, PROCESS_QUERY_INFORMATION, &p);
+    if (status == OM_SUCCESS && behind != NULL) {
+        status = thread_by(behind, 0, &t);
+    }
+    if (status != OM_SUCCESS) {
+        return native(unlocked(status));
+    }
+    if ((t = next_thread(p, t)) == NULL) {
+        unlocked(OM_SUCCESS);
+        return STATUS_NO_MORE_ENTRIES;
+    }
+    return native(unlocked(opened_thread(t, rights_of(OM_HOST((uint32_t)A_THREAD), access, THREAD_ALL_ACCESS), (attributes & OBJ_INHERIT) != 0, next)));
+}
+
+NTSTATUS NTAPI NtOpenProcess(PHANDLE opened, ACCESS_MASK access, const OBJECT_ATTRIBUTES *attributes, const CLIENT_ID *id) {
+    if (!is_there(opened, sizeof *opened) || attributes == NULL) {
+        return STATUS_ACCESS_VIOLATION;
+    }
+    if (id == NULL) {
+        return STATUS_INVALID_PARAMETER_MIX;
+    }
+    *opened = NULL;
+    enter();
+    process *p = (uintptr_t)id->UniqueProcess > UINT32_MAX ? NULL : process_with_id((DWORD)(uintptr_t)id->UniqueProcess);
+    if (p == NULL) {
+        unlocked(OM_SUCCESS);
+        return STATUS_INVALID_CID;
+    }
+    ACCESS_MASK rights = rights_of(OM_HOST((uint32_t)A_PROCESS), access, PROCESS_ALL_ACCESS);
+    return native(unlocked(given(&p->own, me->of, rights, (attributes->Attributes & OBJ_INHERIT) != 0, opened)));
+}
+
+/* A string behind what has it. */
+static void place(UNICODE_STRING *string, void *at, const WCHAR *text, size_t length) {
+    *string = (UNICODE_STRING){(USHORT)(length * 2), (USHORT)(length * 2 + 2), at};
+    memcpy(at, text, length * 2);
+    string->Buffer[length] = 0;
+}
+
+static NTSTATUS basic_of(const om_handle_info *info, OBJECT_BASIC_INFORMATION *told, ULONG length, ULONG *needed) {
+    om_references all = {0};
+    *needed = sizeof *told;
+    if (length < *needed) {
+        return STATUS_INFO_LENGTH_MISMATCH;
+    }
+    om_counts(&om, info->object.slot, info->object.generation, &all);
+    *told = (OBJECT_BASIC_INFORMATION){.GrantedAccess = info->access, .HandleCount = all.handles, .PointerCount = all.handles + 1};
+    return STATUS_SUCCESS;
+}
+
+static NTSTATUS name_of(const om_handle_info *info, OBJECT_NAME_INFORMATION *told, ULONG length, ULONG *needed) {
+    char spelled[OM_NAME_MOST + 1] = {0};
+    WCHAR path[OM_NAME_MOST + 64];
+    om_row row = {0};
+    om_name_of(&om, info->object.slot, info->object.generation, spelled, OM_NAME_MOST, &row);
+    size_t count = row.length == 0 ? 0 : native_path(spelled, &row, path);
+    *needed = (ULONG)(sizeof *told + (count == 0 ? 0 : count * 2 + 2));
+    if (length < *needed) {
+        return STATUS_INFO_LENGTH_MISMATCH;
+    }
+    told->Name = (UNICODE_STRING){0};
+    if (count > 0) {
+        place(&told->Name, told + 1, path, count);
+    }
+    return STATUS_SUCCESS;
+}
+
+static NTSTATUS type_of(const om_handle_info *info, OBJECT_TYPE_INFORMATION *told, ULONG length, ULONG *needed) {
+    const char *type = type_name(info->kind);
+    WCHAR text[32];
+    size_t count = strlen(type);
+    for (size_t i = 0; i < count; i++) {
+        text[i] = (WCHAR)type[i];
+    }
+    *needed = (ULONG)(sizeof *told + count * 2 + 2);
+    if (length < *needed) {
+        return STATUS_INFO_LENGTH_MISMATCH;
+    }
+    *told = (OBJECT_TYPE_INFORMATION){0};
+    place(&told->TypeName, told + 1, text, count);
+    return STATUS_SUCCESS;
+}
+
+NTSTATUS NTAPI NtQueryObject(HANDLE handle, ULONG what, PVOID told, ULONG length, PULONG written) {
+    om_handle_info info;
+    ULONG needed = 0;
+    NTSTATUS status = STATUS_INVALID_INFO_CLASS;
+    enter();
+    uint32_t refused = query(handle, &info);
+    if (refused != OM_SUCCESS) {
+        return native(unlocked(refused));
+    }
+    switch (what) {
+    case ObjectBasicInformation: status = basic_of(&info, told, length, &needed); break;
+    case ObjectNameInformation: status = name_of(&info, told, length, &needed); break;
+    case ObjectTypeInformation: status = type_of(&info, told, length, &needed); break;
+    default: break;
+    }
+    unlocked(OM_SUCCESS);
+    if (written != NULL && needed > 0) {
+        *written = needed;
+    }
+    return status;
+}
+
+/* All handles of all processes but the host's own, one by one; `place` writes one. */
+typedef void (*handle_teller)(void *told, size_t at, const process *p, const om_entry *entry, uint32_t kind);
+
+static size_t tell_handles(void *told, handle_teller tell) {
+    om_entry entry;
+    om_object_state state;
+    size_t count = 0;
+    for (uint32_t number = 0; (number = om_next_process(&om, number)) != 0;) {
+        const process *p = (const process *)(uintptr_t)om_process_data(&om, number);
+        for (uint32_t handle = 0; p != NULL && om_next_handle(&om, number, handle, &entry) == OM_SUCCESS; handle = entry.handle) {
+            if (tell != NULL && om_state(&om, entry.object.slot, entry.object.generation, &state) == OM_SUCCESS) {
+                tell(told, count, p, &entry, state.kind);
+            }
+            count++;
+        }
+    }
+    return count;
+}
+
+static ULONG attributes_of(const om_entry *entry) {
+    return (entry->flags & HANDLE_FLAG_INHERIT ? OBJ_INHERIT : 0) | (entry->flags & HANDLE_FLAG_PROTECT_FROM_CLOSE ? OBJ_PROTECT_CLOSE : 0);
+}
+
+static void tell_short(void *told, size_t at, const process *p, const om_entry *entry, uint32_t kind) {
+    ((SYSTEM_HANDLE_INFORMATION *)told)->Handles[at] = (SYSTEM_HANDLE_TABLE_ENTRY_INFO){
+        .UniqueProcessId = id_of_process(p),
+        .ObjectTypeIndex = (BYTE)(kind + 2),
+        .HandleAttributes = (BYTE)attributes_of(entry),
+        .HandleValue = (USHORT)entry->handle,
+        .GrantedAccess = entry->access,
+    };
+}
+
+static void tell_long(void *told, size_t at, const process *p, const om_entry *entry, uint32_t kind) {
+    ((SYSTEM_HANDLE_INFORMATION_EX *)told)->Handles[at] = (SYSTEM_HANDLE_TABLE_ENTRY_INFO_EX){
+        .UniqueProcessId = id_of_process(p),
+        .HandleValue = entry->handle,
+        .GrantedAccess = entry->access,
+        .ObjectTypeIndex = (USHORT)(kind + 2),
+        .HandleAttributes = attributes_of(entry),
+    };
+}
+
+NTSTATUS NTAPI NtQuerySystemInformation(ULONG what, PVOID told, ULONG length, PULONG written) {
+    bool is_long = what == SystemExtendedHandleInformation;
+    if (!is_long && what != SystemHandleInformation) {
+        return STATUS_INVALID_INFO_CLASS;
+    }
+    enter();
+    size_t count = tell_handles(NULL, NULL);
+    size_t needed = is_long ? offsetof(SYSTEM_HANDLE_INFORMATION_EX, Handles) + count * sizeof(SYSTEM_HANDLE_TABLE_ENTRY_INFO_EX)
+                            : offsetof(SYSTEM_HANDLE_INFORMATION, Handles) + count * sizeof(SYSTEM_HANDLE_TABLE_ENTRY_INFO);
+    NTSTATUS status = length < needed ? STATUS_INFO_LENGTH_MISMATCH : told == NULL ? STATUS_ACCESS_VIOLATION : STATUS_SUCCESS;
+    if (status == STATUS_SUCCESS && is_long) {
+        *(SYSTEM_HANDLE_INFORMATION_EX *)told = (SYSTEM_HANDLE_INFORMATION_EX){.NumberOfHandles = tell_handles(told, tell_long)};
+    } else if (status == STATUS_SUCCESS) {
+        ((SYSTEM_HANDLE_INFORMATION *)told)->NumberOfHandles = (ULONG)tell_handles(told, tell_short);
+    }
+    unlocked(OM_SUCCESS);
+    if (written != NULL) {
+        *written = (ULONG)needed;
+    }
+    return status;
+}
+
+/* ---- What else has a name: as named objects alone, without what they do ---- */
+
+static NTSTATUS other_made(PHANDLE made, ACCESS_MASK access, const OBJECT_ATTRIBUTES *attributes, type of) {
+    return made_native(made, access, attributes, (body){.kind = OM_HOST((uint32_t)of)}, true);
+}
+
+static NTSTATUS other_opened(PHANDLE opened, ACCESS_MASK access, const OBJECT_ATTRIBUTES *attributes, type of) {
+    return opened_native(opened, access, attributes, OM_HOST((uint32_t)of));
+}
+
+NTSTATUS NTAPI NtCreateDebugObject(PHANDLE made, ACCESS_MASK access, const OBJECT_ATTRIBUTES *attributes, ULONG flags) {
+    (void)flags;
+    return other_made(made, access, attributes, A_DEBUG_OBJECT);
+}
+
+NTSTATUS NTAPI NtCreateIoCompletion(PHANDLE made, ACCESS_MASK access, const OBJECT_ATTRIBUTES *attributes, ULONG threads) {
+    (void)threads;
+    return other_made(made, access, attributes, A_COMPLETION);
+}
+
+NTSTATUS NTAPI NtCreateJobObject(PHANDLE made, ACCESS_MASK access, const OBJECT_ATTRIBUTES *attributes) {
+    return other_made(made, access, attributes, A_JOB);
+}
+
+NTSTATUS NTAPI NtCreateKeyedEvent(PHANDLE made, ACCESS_MASK access, const OBJECT_ATTRIBUTES *attributes, ULONG flags) {
+    (void)flags;
+    return other_made(made, access, attributes, A_KEYED_EVENT);
+}
+
+NTSTATUS NTAPI NtCreateSection(PHANDLE made, ACCESS_MASK access, const OBJECT_ATTRIBUTES *attributes, const LARGE_INTEGER *size, ULONG protect,
+                               ULONG flags, HANDLE file) {
+    (void)size, (void)protect, (void)flags, (void)file;
+    return other_made(made, access, attributes, A_SECTION);
+}
+
+/* The directories of names, by their paths: \BaseNamedObjects and \Sessions\1\BaseNamedObjects, with their links. */
+NTSTATUS NTAPI NtOpenDirectoryObject(PHANDLE opened, ACCESS_MASK access, const OBJECT_ATTRIBUTES *attributes) {
+    static const struct {
+        const char *path;
+        type of;
+    } directories[] = {
+        {"\\BaseNamedObjects", GLOBAL_NAMES},
+        {"\\BaseNamedObjects\\Global", GLOBAL_NAMES},
+        {"\\BaseNamedObjects\\Local", LOCAL_NAMES},
+        {"\\BaseNamedObjects\\Session\\1", LOCAL_NAMES},
+        {"\\Sessions\\1\\BaseNamedObjects", LOCAL_NAMES},
+    };
+    if (!is_there(opened, sizeof *opened)) {
+        return STATUS_ACCESS_VIOLATION;
+    }
+    *opened = NULL;
+    if (attributes == NULL || attributes->Length != sizeof *attributes) {
+        return STATUS_INVALID_PARAMETER;
+    }
+    if (attributes->RootDirectory != NULL || attributes->ObjectName == NULL || !is_there(attributes->ObjectName, sizeof(UNICODE_STRING))) {
+        return STATUS_NOT_IMPLEMENTED;
+    }
+    for (size_t i = 0; i < sizeof directories / sizeof directories[0]; i++) {
+        const UNICODE_STRING *string = attributes->ObjectName;
+        size_t length = strlen(directories[i].path), same = 0;
+        while (same < length && same * 2 < string->Length && string->Buffer[same] == (WCHAR)directories[i].path[same]) {
+            same++;
+        }
+        if (same == length && same * 2 == string->Length) {
+            OBJECT_ATTRIBUTES unnamed = {.Length = sizeof unnamed, .Attributes = attributes->Attributes};
+            return other_made(opened, access, &unnamed, directories[i].of);
+        }
+    }
+    return STATUS_OBJECT_NAME_NOT_FOUND;
+}
+
+NTSTATUS NTAPI NtOpenIoCompletion(PHANDLE opened, ACCESS_MASK access, const OBJECT_ATTRIBUTES *attributes) {
+    return other_opened(opened, access, attributes, A_COMPLETION);
+}
+
+NTSTATUS NTAPI NtOpenJobObject(PHANDLE opened, ACCESS_MASK access, const OBJECT_ATTRIBUTES *attributes) {
+    return other_opened(opened, access, attributes, A_JOB);
+}
+
+NTSTATUS NTAPI NtOpenKeyedEvent(PHANDLE opened, ACCESS_MASK access, const OBJECT_ATTRIBUTES *attributes) {
+    return other_opened(opened, access, attributes, A_KEYED_EVENT);
+}
+
+NTSTATUS NTAPI NtOpenSection(PHANDLE opened, ACCESS_MASK access, const OBJECT_ATTRIBUTES *attributes) {
+    return other_opened(opened, access, attributes, A_SECTION);
+}
+
+void NTAPI RtlInitUnicodeString(PUNICODE_STRING string, PCWSTR text) {
+    size_t length = 0;
+    while (text != NULL && text[length] != 0) {
+        length++;
+    }
+    *string = (UNICODE_STRING){(USHORT)(length * 2), (USHORT)(text == NULL ? 0 : length * 2 + 2), (PWSTR)(uintptr_t)text};
+}

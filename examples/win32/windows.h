@@ -1,0 +1,2 @@
+/* For source that was written for Windows. */
+#include "win32.h"
