@@ -80,8 +80,9 @@ BOOL WINAPI AddAccessAllowedAce(ACL *list, DWORD revision, DWORD access, const B
 
 /* A file is an object of the host's own, and nothing else. */
 HANDLE WINAPI CreateFileA(LPCSTR path, DWORD access, DWORD share, LPSECURITY_ATTRIBUTES attributes, DWORD how, DWORD flags, HANDLE like) {
+    const name none = {0};
     (void)path, (void)access, (void)share, (void)how, (void)flags, (void)like;
-    return CreateFileMappingA(NULL, attributes, 0, 0, 0, NULL);
+    return create((body){.kind = OM_HOST((uint32_t)A_FILE)}, attributes, &none, GENERIC_ALL);
 }
 
 BOOL WINAPI DeleteFileA(LPCSTR path) {

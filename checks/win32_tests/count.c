@@ -1,5 +1,6 @@
 /* Runs one test function of Wine's, PROGRAM TEST, and counts its assertions: those that hold, those that don't, and those that don't behind a call that
- * isn't here (`missing`, until an assertion of the same thread holds again). It prints each place that fails once, and the three counts. */
+ * isn't here. That is `missing` until an assertion of the same thread holds before which no such call was made. It prints each place that fails once,
+ * and the three counts. */
 #include <pthread.h>
 #include <signal.h>
 #include <stdint.h>
@@ -33,6 +34,7 @@ static __thread struct {
     int line;
 } place;
 static __thread const char *missing;
+static __thread int is_just_missed;
 
 /* Of each program: what GetProcAddress gives. */
 extern const char *const asked_names[];
@@ -87,7 +89,7 @@ void count_assertion(int holds, const char *message, ...) {
     pthread_mutex_lock(&counting);
     if (holds) {
         held++;
-        missing = NULL;
+        missing = is_just_missed ? missing : NULL;
     } else {
         *(missing != NULL ? &unsupported : &failed) += 1;
         if (is_new()) {
@@ -97,6 +99,7 @@ void count_assertion(int holds, const char *message, ...) {
             va_end(values);
         }
     }
+    is_just_missed = 0;
     pthread_mutex_unlock(&counting);
 }
 
@@ -133,6 +136,7 @@ const char *__cdecl __wine_dbg_strdup(const char *text) {
 /* A call that isn't here, by its name and its first parameter. Where it should write a handle it writes one that names nothing. */
 uintptr_t without(const char *name, uintptr_t first) {
     missing = name;
+    is_just_missed = 1;
     SetLastError(ERROR_CALL_NOT_IMPLEMENTED);
     if (strncmp(name, "Nt", 2) == 0 || strncmp(name, "Rtl", 3) == 0) {
         if ((strncmp(name, "NtCreate", 8) == 0 || strncmp(name, "NtOpen", 6) == 0) && first > UINT32_MAX) {

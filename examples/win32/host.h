@@ -30,6 +30,7 @@
 typedef enum type {
     A_THREAD,
     A_PROCESS,
+    A_FILE,
     A_SECTION,
     A_JOB,
     A_COMPLETION,
@@ -156,7 +157,7 @@ uint32_t duplicate(HANDLE source, HANDLE handle, HANDLE target, ACCESS_MASK acce
 uint32_t thread_by(HANDLE handle, ACCESS_MASK right, thread **found);
 uint32_t process_by(HANDLE handle, ACCESS_MASK right, process **found);
 thread *thread_numbered(uint32_t number);
-DWORD id_of_process(const process *p);
+DWORD id_of_process(uint32_t number);
 process *process_with_id(DWORD id);
 
 #endif

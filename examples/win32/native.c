@@ -40,7 +40,7 @@ static om_object_state state_of(HANDLE handle) {
 
 /* ---- Making and opening ---- */
 
-/* Without OBJ_OPENIF a name that is there is refused. */
+/* The arguments of the kind are tested before the name. Without OBJ_OPENIF a name that is there is refused. */
 static NTSTATUS made_native(PHANDLE handle, ACCESS_MASK access, const OBJECT_ATTRIBUTES *attributes, body b, bool is_good) {
     ULONG flags = attributes != NULL ? attributes->Attributes : 0;
     om_opening made;
@@ -49,11 +49,14 @@ static NTSTATUS made_native(PHANDLE handle, ACCESS_MASK access, const OBJECT_ATT
         return STATUS_ACCESS_VIOLATION;
     }
     *handle = NULL;
+    if (!is_good) {
+        return STATUS_INVALID_PARAMETER;
+    }
     enter();
     NTSTATUS refused = native_name(attributes, true, &n);
-    if (refused != STATUS_SUCCESS || !is_good) {
+    if (refused != STATUS_SUCCESS) {
         unlocked(OM_SUCCESS);
-        return refused != STATUS_SUCCESS ? refused : STATUS_INVALID_PARAMETER;
+        return refused;
     }
     uint32_t status = make(&b, &n, access, (flags & OBJ_INHERIT) != 0, attributes != NULL ? attributes->SecurityDescriptor : NULL, &made);
     if (status == OM_ERROR_ALREADY_EXISTS && (flags & OBJ_OPENIF) == 0) {
@@ -188,7 +191,8 @@ NTSTATUS NTAPI NtReleaseMutant(HANDLE mutant, PLONG previous) {
 /* ---- Semaphores ---- */
 
 NTSTATUS NTAPI NtCreateSemaphore(PHANDLE made, ACCESS_MASK access, const OBJECT_ATTRIBUTES *attributes, LONG initial, LONG most) {
-    return made_native(made, access, attributes, (body){.kind = OM_SEMAPHORE, .initial = initial, .most = most}, true);
+    body b = {.kind = OM_SEMAPHORE, .initial = initial, .most = most};
+    return made_native(made, access, attributes, b, most > 0 && initial >= 0 && initial <= most);
 }
 
 NTSTATUS NTAPI NtOpenSemaphore(PHANDLE opened, ACCESS_MASK access, const OBJECT_ATTRIBUTES *attributes) {
@@ -370,18 +374,23 @@ NTSTATUS NTAPI NtDuplicateObject(HANDLE source, HANDLE handle, HANDLE target, PH
     return native(unlocked(status));
 }
 
-/* A thread of a process whose object is behind that of another, where slots are the order; one that has ended is found while somebody has a handle
- * to it. */
-static thread *next_thread(const process *p, const thread *behind) {
+/* The thread of a process whose object is behind that of another, or before it, where slots are the order; one that has ended is found while
+ * somebody has a handle to it. */
+static thread *next_thread(const process *p, const thread *from, bool is_backwards) {
     om_object object;
     om_object_state state;
-    for (uint32_t slot = behind == NULL ? 0 : behind->own.object.slot + 1; om_next_object(&om, slot, &object) == OM_SUCCESS; slot = object.slot + 1) {
+    thread *found = NULL;
+    uint32_t slot = from == NULL || is_backwards ? 0 : from->own.object.slot + 1;
+    for (; (found == NULL || is_backwards) && om_next_object(&om, slot, &object) == OM_SUCCESS; slot = object.slot + 1) {
         thread *t = (thread *)(uintptr_t)om_object_data(&om, object.slot, object.generation);
+        if (is_backwards && from != NULL && object.slot >= from->own.object.slot) {
+            break;
+        }
         if (om_state(&om, object.slot, object.generation, &state) == OM_SUCCESS && state.kind == OM_HOST((uint32_t)A_THREAD) && t->of == p) {
-            return t;
+            found = t;
         }
     }
-    return NULL;
+    return found;
 }
 
 /* A handle of the host's own to a thread is there while it runs: of one that has ended the caller's handles are the only ones. */
@@ -403,14 +412,15 @@ static uint32_t opened_thread(const thread *t, ACCESS_MASK access, bool inherit,
 }
 
 NTSTATUS NTAPI NtGetNextThread(HANDLE handle, HANDLE behind, ACCESS_MASK access, ULONG attributes, ULONG flags, PHANDLE next) {
+    enum { BACKWARDS = 1 };
     process *p;
     thread *t = NULL;
     if (!is_there(next, sizeof *next)) {
         return STATUS_ACCESS_VIOLATION;
     }
     *next = NULL;
-    if (flags != 0) {
-        return STATUS_INVALID_PARAMETER; /* backwards */
+    if (flags > BACKWARDS) {
+        return STATUS_INVALID_PARAMETER;
     }
     enter();
     uint32_t status = process_by(handle, PROCESS_QUERY_INFORMATION, &p);
@@ -420,7 +430,7 @@ NTSTATUS NTAPI NtGetNextThread(HANDLE handle, HANDLE behind, ACCESS_MASK access,
     if (status != OM_SUCCESS) {
         return native(unlocked(status));
     }
-    if ((t = next_thread(p, t)) == NULL) {
+    if ((t = next_thread(p, t, flags == BACKWARDS)) == NULL) {
         unlocked(OM_SUCCESS);
         return STATUS_NO_MORE_ENTRIES;
     }
@@ -518,20 +528,19 @@ NTSTATUS NTAPI NtQueryObject(HANDLE handle, ULONG what, PVOID told, ULONG length
     return status;
 }
 
-/* All handles of all processes but the host's own, one by one; `place` writes one. */
-typedef void (*handle_teller)(void *told, size_t at, const process *p, const om_entry *entry, uint32_t kind);
+/* Writes a handle of a process behind others. */
+typedef void (*handle_teller)(void *told, size_t at, DWORD id, const om_entry *entry, uint32_t kind);
 
+/* How many handles all processes have, the host's own among them. */
 static size_t tell_handles(void *told, handle_teller tell) {
     om_entry entry;
     om_object_state state;
     size_t count = 0;
     for (uint32_t number = 0; (number = om_next_process(&om, number)) != 0;) {
-        const process *p = (const process *)(uintptr_t)om_process_data(&om, number);
-        for (uint32_t handle = 0; p != NULL && om_next_handle(&om, number, handle, &entry) == OM_SUCCESS; handle = entry.handle) {
+        for (uint32_t handle = 0; om_next_handle(&om, number, handle, &entry) == OM_SUCCESS; handle = entry.handle, count++) {
             if (tell != NULL && om_state(&om, entry.object.slot, entry.object.generation, &state) == OM_SUCCESS) {
-                tell(told, count, p, &entry, state.kind);
+                tell(told, count, id_of_process(number), &entry, state.kind);
             }
-            count++;
         }
     }
     return count;
@@ -541,9 +550,9 @@ static ULONG attributes_of(const om_entry *entry) {
     return (entry->flags & HANDLE_FLAG_INHERIT ? OBJ_INHERIT : 0) | (entry->flags & HANDLE_FLAG_PROTECT_FROM_CLOSE ? OBJ_PROTECT_CLOSE : 0);
 }
 
-static void tell_short(void *told, size_t at, const process *p, const om_entry *entry, uint32_t kind) {
+static void tell_short(void *told, size_t at, DWORD id, const om_entry *entry, uint32_t kind) {
     ((SYSTEM_HANDLE_INFORMATION *)told)->Handles[at] = (SYSTEM_HANDLE_TABLE_ENTRY_INFO){
-        .UniqueProcessId = id_of_process(p),
+        .UniqueProcessId = id,
         .ObjectTypeIndex = (BYTE)(kind + 2),
         .HandleAttributes = (BYTE)attributes_of(entry),
         .HandleValue = (USHORT)entry->handle,
@@ -551,9 +560,9 @@ static void tell_short(void *told, size_t at, const process *p, const om_entry *
     };
 }
 
-static void tell_long(void *told, size_t at, const process *p, const om_entry *entry, uint32_t kind) {
+static void tell_long(void *told, size_t at, DWORD id, const om_entry *entry, uint32_t kind) {
     ((SYSTEM_HANDLE_INFORMATION_EX *)told)->Handles[at] = (SYSTEM_HANDLE_TABLE_ENTRY_INFO_EX){
-        .UniqueProcessId = id_of_process(p),
+        .UniqueProcessId = id,
         .HandleValue = entry->handle,
         .GrantedAccess = entry->access,
         .ObjectTypeIndex = (USHORT)(kind + 2),
@@ -594,8 +603,7 @@ static NTSTATUS other_opened(PHANDLE opened, ACCESS_MASK access, const OBJECT_AT
 }
 
 NTSTATUS NTAPI NtCreateDebugObject(PHANDLE made, ACCESS_MASK access, const OBJECT_ATTRIBUTES *attributes, ULONG flags) {
-    (void)flags;
-    return other_made(made, access, attributes, A_DEBUG_OBJECT);
+    return made_native(made, access, attributes, (body){.kind = OM_HOST((uint32_t)A_DEBUG_OBJECT)}, flags <= 1);
 }
 
 NTSTATUS NTAPI NtCreateIoCompletion(PHANDLE made, ACCESS_MASK access, const OBJECT_ATTRIBUTES *attributes, ULONG threads) {
@@ -614,8 +622,9 @@ NTSTATUS NTAPI NtCreateKeyedEvent(PHANDLE made, ACCESS_MASK access, const OBJECT
 
 NTSTATUS NTAPI NtCreateSection(PHANDLE made, ACCESS_MASK access, const OBJECT_ATTRIBUTES *attributes, const LARGE_INTEGER *size, ULONG protect,
                                ULONG flags, HANDLE file) {
-    (void)size, (void)protect, (void)flags, (void)file;
-    return other_made(made, access, attributes, A_SECTION);
+    ULONG protection = protect & 0xFF;
+    (void)size, (void)flags, (void)file;
+    return made_native(made, access, attributes, (body){.kind = OM_HOST((uint32_t)A_SECTION)}, protection != 0 && (protection & (protection - 1)) == 0);
 }
 
 /* The directories of names, by their paths: \BaseNamedObjects and \Sessions\1\BaseNamedObjects, with their links. */

@@ -11,8 +11,8 @@ static DWORD id_of_thread(const thread *t) {
     return t->number * ID_STEP + ID_OF_THREAD;
 }
 
-DWORD id_of_process(const process *p) {
-    return p->number * ID_STEP;
+DWORD id_of_process(uint32_t number) {
+    return number * ID_STEP;
 }
 
 thread *thread_numbered(uint32_t number) {
@@ -99,7 +99,7 @@ HANDLE WINAPI GetCurrentProcess(void) {
 
 DWORD WINAPI GetCurrentProcessId(void) {
     enter();
-    return unlocked(id_of_process(me->of));
+    return unlocked(id_of_process(me->of->number));
 }
 
 HANDLE WINAPI GetCurrentThread(void) {
@@ -135,7 +135,7 @@ DWORD WINAPI GetProcessId(HANDLE handle) {
     process *p;
     enter();
     uint32_t status = process_by(handle, PROCESS_QUERY_LIMITED_INFORMATION, &p);
-    DWORD id = status == OM_SUCCESS ? id_of_process(p) : 0;
+    DWORD id = status == OM_SUCCESS ? id_of_process(p->number) : 0;
     return done(status) ? id : 0;
 }
 
