@@ -1,6 +1,6 @@
 /* Runs one test function of Wine's, PROGRAM TEST, and counts its assertions: those that hold, those that don't, and those that don't behind a call that
- * isn't here. That is `missing` until an assertion of the same thread holds before which no such call was made. It prints each place that fails once,
- * and the three counts. */
+ * isn't here. That is `missing` until three assertions of the same thread in a row hold, between which no such call was made. It prints each place
+ * that fails once, and the three counts. */
 #include <pthread.h>
 #include <signal.h>
 #include <stdint.h>
@@ -25,7 +25,7 @@ static pthread_mutex_t counting = PTHREAD_MUTEX_INITIALIZER;
 static unsigned long held, failed, unsupported;
 static struct {
     const char *file;
-    int line;
+    int line, is_missing;
 } told[4096];
 static int told_count;
 static char **words;
@@ -34,7 +34,8 @@ static __thread struct {
     int line;
 } place;
 static __thread const char *missing;
-static __thread int is_just_missed;
+static __thread int held_since;
+enum { ENOUGH = 3 };
 
 /* Of each program: what GetProcAddress gives. */
 extern const char *const asked_names[];
@@ -49,13 +50,14 @@ void set_place(const char *file, int line, const char *function) {
 
 static int is_new(void) {
     for (int i = 0; i < told_count; i++) {
-        if (told[i].line == place.line && strcmp(told[i].file, place.file) == 0) {
+        if (told[i].line == place.line && told[i].is_missing == (missing != NULL) && strcmp(told[i].file, place.file) == 0) {
             return 0;
         }
     }
     if (told_count < 4096) {
         told[told_count].file = place.file;
-        told[told_count++].line = place.line;
+        told[told_count].line = place.line;
+        told[told_count++].is_missing = missing != NULL;
     }
     return 1;
 }
@@ -89,8 +91,9 @@ void count_assertion(int holds, const char *message, ...) {
     pthread_mutex_lock(&counting);
     if (holds) {
         held++;
-        missing = is_just_missed ? missing : NULL;
+        missing = ++held_since >= ENOUGH ? NULL : missing;
     } else {
+        held_since = 0;
         *(missing != NULL ? &unsupported : &failed) += 1;
         if (is_new()) {
             printf("%s%s %s:%d %s: ", missing != NULL ? "without " : "FAILED", missing != NULL ? missing : "", place.file, place.line, place.function);
@@ -99,7 +102,6 @@ void count_assertion(int holds, const char *message, ...) {
             va_end(values);
         }
     }
-    is_just_missed = 0;
     pthread_mutex_unlock(&counting);
 }
 
@@ -133,14 +135,14 @@ const char *__cdecl __wine_dbg_strdup(const char *text) {
 
 /* ---- What isn't here ---- */
 
-/* A call that isn't here, by its name and its first parameter. Where it should write a handle it writes one that names nothing. */
+/* A call that isn't here, by its name and its first parameter. Where it should write a handle it writes none. */
 uintptr_t without(const char *name, uintptr_t first) {
     missing = name;
-    is_just_missed = 1;
+    held_since = 0;
     SetLastError(ERROR_CALL_NOT_IMPLEMENTED);
     if (strncmp(name, "Nt", 2) == 0 || strncmp(name, "Rtl", 3) == 0) {
         if ((strncmp(name, "NtCreate", 8) == 0 || strncmp(name, "NtOpen", 6) == 0) && first > UINT32_MAX) {
-            *(HANDLE *)first = (HANDLE)0xBAD00;
+            *(HANDLE *)first = NULL;
         }
         return (uintptr_t)(uint32_t)STATUS_NOT_IMPLEMENTED;
     }
@@ -160,6 +162,9 @@ FARPROC WINAPI GetProcAddress(HMODULE module, LPCSTR name) {
 /* ---- A run ---- */
 
 static void end(const char *how) {
+    if (*how != 0) {
+        printf("%s behind %s:%d %s, %s\n", how, place.file, place.line, place.function, missing != NULL ? missing : "all is here");
+    }
     printf("COUNTS %lu %lu %lu %s\n", held, failed, unsupported, how);
     fflush(stdout);
     _exit(0);

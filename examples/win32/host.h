@@ -36,6 +36,7 @@ typedef enum type {
     A_COMPLETION,
     A_KEYED_EVENT,
     A_DEBUG_OBJECT,
+    A_LINK,       /* to one of the next two */
     GLOBAL_NAMES, /* a directory: \BaseNamedObjects, and that of the session */
     LOCAL_NAMES
 } type;
@@ -113,7 +114,10 @@ typedef struct name {
 
 name narrow(LPCSTR text);
 name wide(LPCWSTR text);
+NTSTATUS native_string(const OBJECT_ATTRIBUTES *attributes, bool is_create, const UNICODE_STRING **string);
 NTSTATUS native_name(const OBJECT_ATTRIBUTES *attributes, bool is_create, name *n);
+NTSTATUS directory_by(HANDLE handle, type *of);
+bool directory_named(const WCHAR *text, size_t length, bool is_link, type *directory);
 size_t native_path(const char *spelled, const om_row *row, WCHAR *path);
 bool is_there(const void *at, size_t size);
 

@@ -123,6 +123,22 @@ name narrow(LPCSTR text) {
 /* ---- ntdll: a path from the root, or from a directory that was opened.
  * https://learn.microsoft.com/windows-hardware/drivers/kernel/object-directories ---- */
 
+/* The directories of names, and links to them. What begins with a link's path begins with that of its directory too, and stands before it. */
+static const struct {
+    const char *path;
+    type of;
+    bool is_link;
+} directories[] = {
+    {"\\BaseNamedObjects\\Global", GLOBAL_NAMES, true},
+    {"\\BaseNamedObjects\\Local", LOCAL_NAMES, true},
+    {"\\BaseNamedObjects\\Session\\1", LOCAL_NAMES, true},
+    {"\\BaseNamedObjects", GLOBAL_NAMES, false},
+    {"\\Sessions\\1\\BaseNamedObjects\\Global", GLOBAL_NAMES, true},
+    {"\\Sessions\\1\\BaseNamedObjects\\Local", LOCAL_NAMES, true},
+    {"\\Sessions\\1\\BaseNamedObjects", LOCAL_NAMES, false},
+};
+enum { DIRECTORIES = sizeof directories / sizeof directories[0] };
+
 /* Whether there is memory at a place; Windows tests whatever it is passed. */
 bool is_there(const void *at, size_t size) {
     unsigned char pages[32];
@@ -143,88 +159,95 @@ static void find_any_case(name *n) {
     }
 }
 
-/* What a name begins with that is looked up from the root: one of the two directories of names, and the links of each. */
-static size_t root_of(const WCHAR *text, size_t length, bool any_case, bool *is_global) {
-    static const struct {
-        const char *path;
-        bool is_global;
-    } links[] = {{"Local\\", false}, {"Session\\1\\", false}, {"Global\\", true}};
-    size_t all = begins(text, length, "\\BaseNamedObjects\\", any_case), link;
-    *is_global = all > 0;
-    if (all == 0 && (all = begins(text, length, "\\Sessions\\1\\BaseNamedObjects\\", any_case)) == 0) {
-        return 0;
-    }
-    for (size_t i = 0; i < sizeof links / sizeof links[0]; i++) {
-        if ((link = begins(text + all, length - all, links[i].path, any_case)) > 0) {
-            *is_global = links[i].is_global;
-            return all + link;
+/* What a path begins with that is looked up from the root: one of the two directories of names, or a link of theirs. */
+static size_t root_of(const WCHAR *text, size_t length, bool any_case, type *directory) {
+    for (size_t i = 0; i < DIRECTORIES; i++) {
+        size_t path = begins(text, length, directories[i].path, any_case);
+        if (path > 0 && path < length && text[path] == '\\') {
+            *directory = directories[i].of;
+            return path + 1;
         }
     }
-    return all;
+    return 0;
+}
+
+/* The directory of a path, or the link. */
+bool directory_named(const WCHAR *text, size_t length, bool is_link, type *directory) {
+    for (size_t i = 0; i < DIRECTORIES; i++) {
+        if (is_word(text, length, directories[i].path) && (directories[i].is_link || !is_link)) {
+            *directory = is_link ? A_LINK : directories[i].of;
+            return true;
+        }
+    }
+    return false;
+}
+
+/* The string of ObjectName, or why it is none, in the order in which Windows is known to test (Wine's tests of object names). A create may be
+ * without one; then *string is NULL. */
+NTSTATUS native_string(const OBJECT_ATTRIBUTES *attributes, bool is_create, const UNICODE_STRING **string) {
+    *string = NULL;
+    if (attributes == NULL || attributes->Length != sizeof *attributes) {
+        return attributes == NULL && is_create ? STATUS_SUCCESS : STATUS_INVALID_PARAMETER;
+    }
+    const UNICODE_STRING *s = attributes->ObjectName;
+    if (s == NULL) {
+        return attributes->RootDirectory != NULL ? STATUS_OBJECT_NAME_INVALID : is_create ? STATUS_SUCCESS : STATUS_OBJECT_PATH_SYNTAX_BAD;
+    }
+    if (!is_there(s, sizeof *s)) {
+        return STATUS_ACCESS_VIOLATION;
+    }
+    if (((uintptr_t)s->Buffer & 1) != 0) {
+        return STATUS_DATATYPE_MISALIGNMENT;
+    }
+    if (!is_there(s->Buffer, s->Length)) {
+        return STATUS_ACCESS_VIOLATION;
+    }
+    if ((s->Length & 1) != 0 || s->Length == UINT16_MAX - 1) {
+        return STATUS_OBJECT_NAME_INVALID;
+    }
+    *string = s->Length == 0 && is_create ? NULL : s;
+    return STATUS_SUCCESS;
 }
 
 /* The directory by whose handle a name is looked up. */
-static NTSTATUS directory_by(HANDLE handle, bool *is_global) {
+NTSTATUS directory_by(HANDLE handle, type *of) {
     om_handle_info info;
     if (om_query_handle(&om, me->of->number, number_of(handle), &info) != OM_SUCCESS) {
         return STATUS_INVALID_HANDLE;
     }
-    *is_global = info.kind == OM_HOST((uint32_t)GLOBAL_NAMES);
-    return *is_global || info.kind == OM_HOST((uint32_t)LOCAL_NAMES) ? STATUS_SUCCESS : STATUS_OBJECT_TYPE_MISMATCH;
+    *of = info.kind == OM_HOST((uint32_t)GLOBAL_NAMES) ? GLOBAL_NAMES : LOCAL_NAMES;
+    return info.kind == OM_HOST((uint32_t)*of) ? STATUS_SUCCESS : STATUS_OBJECT_TYPE_MISMATCH;
 }
 
-/* The name of ObjectName and RootDirectory, or why it is none, in the order in which Windows is known to test (Wine's tests of object names). A
- * create may be without one. */
+/* The name of ObjectName and RootDirectory, or why it is none. */
 NTSTATUS native_name(const OBJECT_ATTRIBUTES *attributes, bool is_create, name *n) {
+    const UNICODE_STRING *string;
+    type directory = LOCAL_NAMES;
+    size_t root = 0;
     *n = (name){0};
-    if (attributes == NULL) {
-        return is_create ? STATUS_SUCCESS : STATUS_INVALID_PARAMETER;
-    }
-    if (attributes->Length != sizeof *attributes) {
-        return STATUS_INVALID_PARAMETER;
-    }
-    const UNICODE_STRING *string = attributes->ObjectName;
-    if (string == NULL) {
-        return attributes->RootDirectory != NULL ? STATUS_OBJECT_NAME_INVALID : is_create ? STATUS_SUCCESS : STATUS_OBJECT_PATH_SYNTAX_BAD;
-    }
-    if (!is_there(string, sizeof *string)) {
-        return STATUS_ACCESS_VIOLATION;
-    }
-    if (((uintptr_t)string->Buffer & 1) != 0) {
-        return STATUS_DATATYPE_MISALIGNMENT;
-    }
-    if (!is_there(string->Buffer, string->Length)) {
-        return STATUS_ACCESS_VIOLATION;
-    }
-    if ((string->Length & 1) != 0 || string->Length == UINT16_MAX - 1) {
-        return STATUS_OBJECT_NAME_INVALID;
+    NTSTATUS status = native_string(attributes, is_create, &string);
+    if (status != STATUS_SUCCESS || string == NULL) {
+        return status;
     }
     const WCHAR *text = string->Buffer;
-    size_t length = string->Length / 2, root = 0;
-    bool any_case = (attributes->Attributes & OBJ_CASE_INSENSITIVE) != 0, is_global;
-    if (length == 0 && is_create) {
-        return STATUS_SUCCESS;
-    }
+    size_t length = string->Length / 2;
+    bool any_case = (attributes->Attributes & OBJ_CASE_INSENSITIVE) != 0;
     if (attributes->RootDirectory != NULL) {
-        NTSTATUS status = directory_by(attributes->RootDirectory, &is_global);
+        status = directory_by(attributes->RootDirectory, &directory);
         if (status != STATUS_SUCCESS || length == 0) {
             return status != STATUS_SUCCESS ? status : STATUS_OBJECT_TYPE_MISMATCH; /* the directory itself */
         }
         if (*text == '\\') {
             return STATUS_OBJECT_PATH_SYNTAX_BAD;
         }
-    } else {
-        if (length == 0 || *text != '\\') {
-            return STATUS_OBJECT_PATH_SYNTAX_BAD;
-        }
-        if (length == 1) {
-            return STATUS_OBJECT_TYPE_MISMATCH; /* the root */
-        }
-        if ((root = root_of(text, length, any_case, &is_global)) == 0) {
-            return STATUS_OBJECT_PATH_NOT_FOUND;
-        }
+    } else if (length == 0 || *text != '\\') {
+        return STATUS_OBJECT_PATH_SYNTAX_BAD;
+    } else if (length == 1) {
+        return STATUS_OBJECT_TYPE_MISMATCH; /* the root */
+    } else if ((root = root_of(text, length, any_case, &directory)) == 0) {
+        return STATUS_OBJECT_PATH_NOT_FOUND;
     }
-    spell(n, is_global, text + root, length - root);
+    spell(n, directory == GLOBAL_NAMES, text + root, length - root);
     if (any_case) {
         find_any_case(n);
     }

@@ -579,7 +579,7 @@ NTSTATUS NTAPI NtQuerySystemInformation(ULONG what, PVOID told, ULONG length, PU
     size_t count = tell_handles(NULL, NULL);
     size_t needed = is_long ? offsetof(SYSTEM_HANDLE_INFORMATION_EX, Handles) + count * sizeof(SYSTEM_HANDLE_TABLE_ENTRY_INFO_EX)
                             : offsetof(SYSTEM_HANDLE_INFORMATION, Handles) + count * sizeof(SYSTEM_HANDLE_TABLE_ENTRY_INFO);
-    NTSTATUS status = length < needed ? STATUS_INFO_LENGTH_MISMATCH : told == NULL ? STATUS_ACCESS_VIOLATION : STATUS_SUCCESS;
+    NTSTATUS status = told == NULL && length > 0 ? STATUS_ACCESS_VIOLATION : length < needed ? STATUS_INFO_LENGTH_MISMATCH : STATUS_SUCCESS;
     if (status == STATUS_SUCCESS && is_long) {
         *(SYSTEM_HANDLE_INFORMATION_EX *)told = (SYSTEM_HANDLE_INFORMATION_EX){.NumberOfHandles = tell_handles(told, tell_long)};
     } else if (status == STATUS_SUCCESS) {
@@ -617,7 +617,7 @@ NTSTATUS NTAPI NtCreateJobObject(PHANDLE made, ACCESS_MASK access, const OBJECT_
 
 NTSTATUS NTAPI NtCreateKeyedEvent(PHANDLE made, ACCESS_MASK access, const OBJECT_ATTRIBUTES *attributes, ULONG flags) {
     (void)flags;
-    return other_made(made, access, attributes, A_KEYED_EVENT);
+    return made_native(made, access, attributes, (body){.kind = OM_HOST((uint32_t)A_KEYED_EVENT), .set = true}, true);
 }
 
 NTSTATUS NTAPI NtCreateSection(PHANDLE made, ACCESS_MASK access, const OBJECT_ATTRIBUTES *attributes, const LARGE_INTEGER *size, ULONG protect,
@@ -627,40 +627,36 @@ NTSTATUS NTAPI NtCreateSection(PHANDLE made, ACCESS_MASK access, const OBJECT_AT
     return made_native(made, access, attributes, (body){.kind = OM_HOST((uint32_t)A_SECTION)}, protection != 0 && (protection & (protection - 1)) == 0);
 }
 
-/* The directories of names, by their paths: \BaseNamedObjects and \Sessions\1\BaseNamedObjects, with their links. */
-NTSTATUS NTAPI NtOpenDirectoryObject(PHANDLE opened, ACCESS_MASK access, const OBJECT_ATTRIBUTES *attributes) {
-    static const struct {
-        const char *path;
-        type of;
-    } directories[] = {
-        {"\\BaseNamedObjects", GLOBAL_NAMES},
-        {"\\BaseNamedObjects\\Global", GLOBAL_NAMES},
-        {"\\BaseNamedObjects\\Local", LOCAL_NAMES},
-        {"\\BaseNamedObjects\\Session\\1", LOCAL_NAMES},
-        {"\\Sessions\\1\\BaseNamedObjects", LOCAL_NAMES},
-    };
+/* A directory of names, by its path, or by a handle to it without one; or a link by its path. No directory is in another here. */
+static NTSTATUS opened_directory(PHANDLE opened, ACCESS_MASK access, const OBJECT_ATTRIBUTES *attributes, bool is_link) {
+    const UNICODE_STRING *string;
+    type directory = A_LINK;
     if (!is_there(opened, sizeof *opened)) {
         return STATUS_ACCESS_VIOLATION;
     }
     *opened = NULL;
-    if (attributes == NULL || attributes->Length != sizeof *attributes) {
-        return STATUS_INVALID_PARAMETER;
+    NTSTATUS status = native_string(attributes, false, &string);
+    if (status != STATUS_SUCCESS) {
+        return status;
     }
-    if (attributes->RootDirectory != NULL || attributes->ObjectName == NULL || !is_there(attributes->ObjectName, sizeof(UNICODE_STRING))) {
-        return STATUS_NOT_IMPLEMENTED;
-    }
-    for (size_t i = 0; i < sizeof directories / sizeof directories[0]; i++) {
-        const UNICODE_STRING *string = attributes->ObjectName;
-        size_t length = strlen(directories[i].path), same = 0;
-        while (same < length && same * 2 < string->Length && string->Buffer[same] == (WCHAR)directories[i].path[same]) {
-            same++;
+    if (attributes->RootDirectory != NULL) {
+        enter();
+        status = directory_by(attributes->RootDirectory, &directory);
+        unlocked(OM_SUCCESS);
+        if (status == STATUS_SUCCESS && (string->Length > 0 || is_link)) {
+            status = string->Length > 0 ? STATUS_OBJECT_NAME_NOT_FOUND : STATUS_OBJECT_TYPE_MISMATCH;
         }
-        if (same == length && same * 2 == string->Length) {
-            OBJECT_ATTRIBUTES unnamed = {.Length = sizeof unnamed, .Attributes = attributes->Attributes};
-            return other_made(opened, access, &unnamed, directories[i].of);
-        }
+    } else if (string->Length == 0 || *string->Buffer != '\\') {
+        status = STATUS_OBJECT_PATH_SYNTAX_BAD;
+    } else if (!directory_named(string->Buffer, string->Length / 2, is_link, &directory)) {
+        status = STATUS_OBJECT_NAME_NOT_FOUND;
     }
-    return STATUS_OBJECT_NAME_NOT_FOUND;
+    OBJECT_ATTRIBUTES unnamed = {.Length = sizeof unnamed, .Attributes = attributes->Attributes};
+    return status != STATUS_SUCCESS ? status : other_made(opened, access, &unnamed, directory);
+}
+
+NTSTATUS NTAPI NtOpenDirectoryObject(PHANDLE opened, ACCESS_MASK access, const OBJECT_ATTRIBUTES *attributes) {
+    return opened_directory(opened, access, attributes, false);
 }
 
 NTSTATUS NTAPI NtOpenIoCompletion(PHANDLE opened, ACCESS_MASK access, const OBJECT_ATTRIBUTES *attributes) {
@@ -677,6 +673,10 @@ NTSTATUS NTAPI NtOpenKeyedEvent(PHANDLE opened, ACCESS_MASK access, const OBJECT
 
 NTSTATUS NTAPI NtOpenSection(PHANDLE opened, ACCESS_MASK access, const OBJECT_ATTRIBUTES *attributes) {
     return other_opened(opened, access, attributes, A_SECTION);
+}
+
+NTSTATUS NTAPI NtOpenSymbolicLinkObject(PHANDLE opened, ACCESS_MASK access, const OBJECT_ATTRIBUTES *attributes) {
+    return opened_directory(opened, access, attributes, true);
 }
 
 void NTAPI RtlInitUnicodeString(PUNICODE_STRING string, PCWSTR text) {

@@ -15,6 +15,7 @@ static const struct {
     [A_COMPLETION] = {"IoCompletion", 0x00020001u, 0x00020002u, 0x00120000u, 0x001F0003u},
     [A_KEYED_EVENT] = {"KeyedEvent", 0x00020001u, 0x00020002u, 0x00020000u, 0x000F0003u},
     [A_DEBUG_OBJECT] = {"DebugObject", 0x00020001u, 0x00020002u, 0x00120000u, 0x001F000Fu},
+    [A_LINK] = {"SymbolicLink", 0x00020001u, 0x00020000u, 0x00020001u, 0x000F0001u},
     [GLOBAL_NAMES] = {"Directory", 0x00020003u, 0x0002000Cu, 0x00020003u, 0x000F000Fu},
     [LOCAL_NAMES] = {"Directory", 0x00020003u, 0x0002000Cu, 0x00020003u, 0x000F000Fu},
 };
@@ -88,7 +89,7 @@ uint32_t make(const body *b, const name *n, ACCESS_MASK access, bool inherit, co
     case OM_MUTEX: return om_create_mutex(&om, by, &m, n->bytes, n->length, b->set, made);
     case OM_SEMAPHORE: return om_create_semaphore(&om, by, &m, n->bytes, n->length, b->initial, b->most, made);
     case OM_TIMER: return om_create_timer(&om, by, &m, n->bytes, n->length, b->manual, made);
-    default: return om_create_host(&om, by, &m, n->bytes, n->length, (uint8_t)(b->kind - OM_HOST(0)), true, false, made);
+    default: return om_create_host(&om, by, &m, n->bytes, n->length, (uint8_t)(b->kind - OM_HOST(0)), true, b->set, made);
     }
 }
 

@@ -439,6 +439,7 @@ NTSTATUS NTAPI NtOpenIoCompletion(PHANDLE opened, ACCESS_MASK access, const OBJE
 NTSTATUS NTAPI NtOpenJobObject(PHANDLE opened, ACCESS_MASK access, const OBJECT_ATTRIBUTES *attributes);
 NTSTATUS NTAPI NtOpenKeyedEvent(PHANDLE opened, ACCESS_MASK access, const OBJECT_ATTRIBUTES *attributes);
 NTSTATUS NTAPI NtOpenSection(PHANDLE opened, ACCESS_MASK access, const OBJECT_ATTRIBUTES *attributes);
+NTSTATUS NTAPI NtOpenSymbolicLinkObject(PHANDLE opened, ACCESS_MASK access, const OBJECT_ATTRIBUTES *attributes);
 void NTAPI RtlInitUnicodeString(PUNICODE_STRING string, PCWSTR text);
 
 /* ---- Text, and the names without a letter ---- */
