@@ -76,9 +76,7 @@ uint32_t duplicate(HANDLE source, HANDLE handle, HANDLE target, ACCESS_MASK acce
     return refused != OM_SUCCESS ? refused : copied(from, handle, to, access, inherit, options, made);
 }
 
-BOOL WINAPI CloseHandle(HANDLE handle) {
-    return is_pseudo(handle) ? TRUE : done(om_close(&om, enter(), number_of(handle)));
-}
+BOOL WINAPI CloseHandle(HANDLE handle) { return is_pseudo(handle) ? TRUE : done(om_close(&om, enter(), number_of(handle))); }
 
 BOOL WINAPI CompareObjectHandles(HANDLE one, HANDLE other) {
     enter();
@@ -103,8 +101,6 @@ BOOL WINAPI GetHandleInformation(HANDLE handle, LPDWORD flags) {
     return done(om_handle_flags(&om, enter(), number_of(handle), flags));
 }
 
-/* The other bits of a mask are ignored. */
 BOOL WINAPI SetHandleInformation(HANDLE handle, DWORD mask, DWORD flags) {
-    const DWORD known = HANDLE_FLAG_INHERIT | HANDLE_FLAG_PROTECT_FROM_CLOSE;
-    return done(om_set_handle_flags(&om, enter(), number_of(handle), mask & known, flags & known));
+    return done(om_set_handle_flags(&om, enter(), number_of(handle), mask, flags));
 }

@@ -249,7 +249,7 @@ static void adopted_ends(void *of) {
 
 static void begin(void) {
     om_limits limits = OM_LIMITS_MOST;
-    om_member member;
+    om_member member = {0};
     struct timespec monotonic, real;
     pthread_t ticking;
     clock_gettime(CLOCK_MONOTONIC, &monotonic);

@@ -7,7 +7,8 @@
  * waits.c    waits, procedure calls, sleep
  * handles.c  handles
  * threads.c  threads and the process
- * native.c   the same by ntdll
+ * native.c, native_handles.c
+ *            the same by ntdll
  *
  * All that is known of objects, handles, names and waits is known to the manager `om`. What the host keeps beside it, a thread's place to sleep
  * and a timer's period, hangs on the library's own threads and objects. Each call takes the one lock by `enter` and gives it back by `done`. */
@@ -163,5 +164,10 @@ uint32_t process_by(HANDLE handle, ACCESS_MASK right, process **found);
 thread *thread_numbered(uint32_t number);
 DWORD id_of_process(uint32_t number);
 process *process_with_id(DWORD id);
+
+/* native.c */
+NTSTATUS native(uint32_t status);
+NTSTATUS made_native(PHANDLE handle, ACCESS_MASK access, const OBJECT_ATTRIBUTES *attributes, body b, bool is_good);
+NTSTATUS opened_native(PHANDLE handle, ACCESS_MASK access, const OBJECT_ATTRIBUTES *attributes, uint32_t kind);
 
 #endif

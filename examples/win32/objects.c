@@ -172,26 +172,16 @@ HANDLE WINAPI CreateEventExW(LPSECURITY_ATTRIBUTES attributes, LPCWSTR name, DWO
     return created_wide(an_event(flags & CREATE_EVENT_MANUAL_RESET, flags & CREATE_EVENT_INITIAL_SET), attributes, name, access);
 }
 
-HANDLE WINAPI OpenEventA(DWORD access, BOOL inherit, LPCSTR name) {
-    return opened_narrow(OM_EVENT, access, inherit, name);
-}
-
-HANDLE WINAPI OpenEventW(DWORD access, BOOL inherit, LPCWSTR name) {
-    return opened_wide(OM_EVENT, access, inherit, name);
-}
+HANDLE WINAPI OpenEventA(DWORD access, BOOL inherit, LPCSTR name) { return opened_narrow(OM_EVENT, access, inherit, name); }
+HANDLE WINAPI OpenEventW(DWORD access, BOOL inherit, LPCWSTR name) { return opened_wide(OM_EVENT, access, inherit, name); }
 
 BOOL WINAPI PulseEvent(HANDLE event) {
     enter();
     return done(pulse(number_of(event)));
 }
 
-BOOL WINAPI ResetEvent(HANDLE event) {
-    return done(om_reset_event(&om, enter(), number_of(event)));
-}
-
-BOOL WINAPI SetEvent(HANDLE event) {
-    return done(om_set_event(&om, enter(), number_of(event)));
-}
+BOOL WINAPI ResetEvent(HANDLE event) { return done(om_reset_event(&om, enter(), number_of(event))); }
+BOOL WINAPI SetEvent(HANDLE event) { return done(om_set_event(&om, enter(), number_of(event))); }
 
 /* ---- Mutexes ---- */
 
@@ -215,17 +205,9 @@ HANDLE WINAPI CreateMutexExW(LPSECURITY_ATTRIBUTES attributes, LPCWSTR name, DWO
     return created_wide(a_mutex(flags & CREATE_MUTEX_INITIAL_OWNER), attributes, name, access);
 }
 
-HANDLE WINAPI OpenMutexA(DWORD access, BOOL inherit, LPCSTR name) {
-    return opened_narrow(OM_MUTEX, access, inherit, name);
-}
-
-HANDLE WINAPI OpenMutexW(DWORD access, BOOL inherit, LPCWSTR name) {
-    return opened_wide(OM_MUTEX, access, inherit, name);
-}
-
-BOOL WINAPI ReleaseMutex(HANDLE mutex) {
-    return done(om_release_mutex(&om, enter(), number_of(mutex)));
-}
+HANDLE WINAPI OpenMutexA(DWORD access, BOOL inherit, LPCSTR name) { return opened_narrow(OM_MUTEX, access, inherit, name); }
+HANDLE WINAPI OpenMutexW(DWORD access, BOOL inherit, LPCWSTR name) { return opened_wide(OM_MUTEX, access, inherit, name); }
+BOOL WINAPI ReleaseMutex(HANDLE mutex) { return done(om_release_mutex(&om, enter(), number_of(mutex))); }
 
 /* ---- Semaphores ---- */
 
@@ -251,13 +233,8 @@ HANDLE WINAPI CreateSemaphoreExW(LPSECURITY_ATTRIBUTES attributes, LONG initial,
     return created_wide(a_semaphore(initial, most), attributes, name, access);
 }
 
-HANDLE WINAPI OpenSemaphoreA(DWORD access, BOOL inherit, LPCSTR name) {
-    return opened_narrow(OM_SEMAPHORE, access, inherit, name);
-}
-
-HANDLE WINAPI OpenSemaphoreW(DWORD access, BOOL inherit, LPCWSTR name) {
-    return opened_wide(OM_SEMAPHORE, access, inherit, name);
-}
+HANDLE WINAPI OpenSemaphoreA(DWORD access, BOOL inherit, LPCSTR name) { return opened_narrow(OM_SEMAPHORE, access, inherit, name); }
+HANDLE WINAPI OpenSemaphoreW(DWORD access, BOOL inherit, LPCWSTR name) { return opened_wide(OM_SEMAPHORE, access, inherit, name); }
 
 BOOL WINAPI ReleaseSemaphore(HANDLE semaphore, LONG count, LPLONG previous) {
     uint32_t before, status = om_release_semaphore(&om, enter(), number_of(semaphore), count, &before);
@@ -289,13 +266,8 @@ HANDLE WINAPI CreateWaitableTimerExW(LPSECURITY_ATTRIBUTES attributes, LPCWSTR n
     return created_wide(a_timer(flags & CREATE_WAITABLE_TIMER_MANUAL_RESET), attributes, name, access);
 }
 
-HANDLE WINAPI OpenWaitableTimerA(DWORD access, BOOL inherit, LPCSTR name) {
-    return opened_narrow(OM_TIMER, access, inherit, name);
-}
-
-HANDLE WINAPI OpenWaitableTimerW(DWORD access, BOOL inherit, LPCWSTR name) {
-    return opened_wide(OM_TIMER, access, inherit, name);
-}
+HANDLE WINAPI OpenWaitableTimerA(DWORD access, BOOL inherit, LPCSTR name) { return opened_narrow(OM_TIMER, access, inherit, name); }
+HANDLE WINAPI OpenWaitableTimerW(DWORD access, BOOL inherit, LPCWSTR name) { return opened_wide(OM_TIMER, access, inherit, name); }
 
 /* ---- File mappings and jobs: their handles and names, which share the namespace of all the others, and nothing that they do ---- */
 
@@ -321,18 +293,7 @@ HANDLE WINAPI CreateJobObjectW(LPSECURITY_ATTRIBUTES attributes, LPCWSTR name) {
     return created_wide(other(A_JOB), attributes, name, JOB_OBJECT_ALL_ACCESS);
 }
 
-HANDLE WINAPI OpenFileMappingA(DWORD access, BOOL inherit, LPCSTR name) {
-    return opened_narrow(OM_HOST((uint32_t)A_SECTION), access, inherit, name);
-}
-
-HANDLE WINAPI OpenFileMappingW(DWORD access, BOOL inherit, LPCWSTR name) {
-    return opened_wide(OM_HOST((uint32_t)A_SECTION), access, inherit, name);
-}
-
-HANDLE WINAPI OpenJobObjectA(DWORD access, BOOL inherit, LPCSTR name) {
-    return opened_narrow(OM_HOST((uint32_t)A_JOB), access, inherit, name);
-}
-
-HANDLE WINAPI OpenJobObjectW(DWORD access, BOOL inherit, LPCWSTR name) {
-    return opened_wide(OM_HOST((uint32_t)A_JOB), access, inherit, name);
-}
+HANDLE WINAPI OpenFileMappingA(DWORD access, BOOL inherit, LPCSTR name) { return opened_narrow(OM_HOST((uint32_t)A_SECTION), access, inherit, name); }
+HANDLE WINAPI OpenFileMappingW(DWORD access, BOOL inherit, LPCWSTR name) { return opened_wide(OM_HOST((uint32_t)A_SECTION), access, inherit, name); }
+HANDLE WINAPI OpenJobObjectA(DWORD access, BOOL inherit, LPCSTR name) { return opened_narrow(OM_HOST((uint32_t)A_JOB), access, inherit, name); }
+HANDLE WINAPI OpenJobObjectW(DWORD access, BOOL inherit, LPCWSTR name) { return opened_wide(OM_HOST((uint32_t)A_JOB), access, inherit, name); }

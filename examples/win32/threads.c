@@ -93,18 +93,14 @@ void WINAPI ExitThread(DWORD code) {
     leave();
 }
 
-HANDLE WINAPI GetCurrentProcess(void) {
-    return (HANDLE)(LONG_PTR)-1;
-}
+HANDLE WINAPI GetCurrentProcess(void) { return (HANDLE)(LONG_PTR)-1; }
 
 DWORD WINAPI GetCurrentProcessId(void) {
     enter();
     return unlocked(id_of_process(me->of->number));
 }
 
-HANDLE WINAPI GetCurrentThread(void) {
-    return (HANDLE)(LONG_PTR)-2;
-}
+HANDLE WINAPI GetCurrentThread(void) { return (HANDLE)(LONG_PTR)-2; }
 
 DWORD WINAPI GetCurrentThreadId(void) {
     enter();
@@ -185,9 +181,7 @@ DWORD WINAPI ResumeThread(HANDLE handle) {
     return done(status) ? before : (DWORD)-1;
 }
 
-BOOL WINAPI SwitchToThread(void) {
-    return sched_yield() == 0;
-}
+BOOL WINAPI SwitchToThread(void) { return sched_yield() == 0; }
 
 BOOL WINAPI TerminateProcess(HANDLE handle, UINT code) {
     process *p;

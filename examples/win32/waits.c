@@ -169,9 +169,7 @@ DWORD WINAPI SignalObjectAndWait(HANDLE signal, HANDLE wait, DWORD milliseconds,
     return waited(status, code);
 }
 
-void WINAPI Sleep(DWORD milliseconds) {
-    SleepEx(milliseconds, FALSE);
-}
+void WINAPI Sleep(DWORD milliseconds) { SleepEx(milliseconds, FALSE); }
 
 DWORD WINAPI SleepEx(DWORD milliseconds, BOOL alertable) {
     enter();
@@ -194,9 +192,7 @@ DWORD WINAPI WaitForMultipleObjectsEx(DWORD count, const HANDLE *handles, BOOL a
     return waited(status, code);
 }
 
-DWORD WINAPI WaitForSingleObject(HANDLE handle, DWORD milliseconds) {
-    return WaitForSingleObjectEx(handle, milliseconds, FALSE);
-}
+DWORD WINAPI WaitForSingleObject(HANDLE handle, DWORD milliseconds) { return WaitForSingleObjectEx(handle, milliseconds, FALSE); }
 
 DWORD WINAPI WaitForSingleObjectEx(HANDLE handle, DWORD milliseconds, BOOL alertable) {
     uint32_t code = 0;
