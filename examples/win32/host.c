@@ -33,7 +33,7 @@ uint64_t now(void) {
 }
 
 static struct timespec clock_time(uint64_t moment) {
-    uint64_t units = moment - clock_begins_at;
+    uint64_t units = moment > clock_begins_at ? moment - clock_begins_at : 0;
     return (struct timespec){.tv_sec = (time_t)(units / 10000000u), .tv_nsec = (long)(units % 10000000u * 100)};
 }
 
@@ -214,6 +214,7 @@ _Noreturn void leave(void) {
     look_round();
     let_go(me);
     me = NULL;
+    pthread_setspecific(adopted, NULL);
     pthread_mutex_unlock(&lock);
     pthread_exit(NULL);
 }

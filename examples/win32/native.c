@@ -93,8 +93,8 @@ NTSTATUS opened_native(PHANDLE handle, ACCESS_MASK access, const OBJECT_ATTRIBUT
 
 /* ---- Queries: one class each, whose length has to be right ---- */
 
-/* Begins a query: under the lock where it isn't refused. */
-static NTSTATUS asked(HANDLE handle, uint32_t kind, ULONG what, size_t due, ULONG length, om_object_state *state) {
+/* What state an object is in, and what it was created as. */
+static NTSTATUS asked(HANDLE handle, uint32_t kind, ULONG what, size_t due, ULONG length, om_object_state *state, om_description *made) {
     om_handle_info info;
     if (what != 0 || length != due) {
         return what != 0 ? STATUS_INVALID_INFO_CLASS : STATUS_INFO_LENGTH_MISMATCH;
@@ -102,7 +102,10 @@ static NTSTATUS asked(HANDLE handle, uint32_t kind, ULONG what, size_t due, ULON
     enter();
     tell_time();
     uint32_t status = query(handle, &info);
-    *state = state_of(handle);
+    if (status == OM_SUCCESS) {
+        om_state(&om, info.object.slot, info.object.generation, state);
+        om_card(&om, info.object.slot, info.object.generation, made);
+    }
     unlocked(status);
     if (status != OM_SUCCESS) {
         return native(status);
@@ -137,15 +140,11 @@ NTSTATUS NTAPI NtPulseEvent(HANDLE event, PLONG previous) {
 }
 
 NTSTATUS NTAPI NtQueryEvent(HANDLE event, ULONG what, PVOID told, ULONG length, PULONG written) {
-    om_description made;
     om_object_state state;
-    om_handle_info info;
-    NTSTATUS status = asked(event, OM_EVENT, what, sizeof(EVENT_BASIC_INFORMATION), length, &state);
+    om_description made;
+    NTSTATUS status = asked(event, OM_EVENT, what, sizeof(EVENT_BASIC_INFORMATION), length, &state, &made);
     if (status == STATUS_SUCCESS) {
-        enter();
-        bool is_manual = query(event, &info) == OM_SUCCESS && om_card(&om, info.object.slot, info.object.generation, &made) == OM_SUCCESS && made.manual;
-        unlocked(OM_SUCCESS);
-        *(EVENT_BASIC_INFORMATION *)told = (EVENT_BASIC_INFORMATION){is_manual ? NotificationEvent : SynchronizationEvent, state.signaled};
+        *(EVENT_BASIC_INFORMATION *)told = (EVENT_BASIC_INFORMATION){made.manual ? NotificationEvent : SynchronizationEvent, state.signaled};
     }
     return told_in_full(status, length, written);
 }
@@ -174,7 +173,8 @@ NTSTATUS NTAPI NtOpenMutant(PHANDLE opened, ACCESS_MASK access, const OBJECT_ATT
 
 NTSTATUS NTAPI NtQueryMutant(HANDLE mutant, ULONG what, PVOID told, ULONG length, PULONG written) {
     om_object_state state;
-    NTSTATUS status = asked(mutant, OM_MUTEX, what, sizeof(MUTANT_BASIC_INFORMATION), length, &state);
+    om_description made;
+    NTSTATUS status = asked(mutant, OM_MUTEX, what, sizeof(MUTANT_BASIC_INFORMATION), length, &state, &made);
     if (status == STATUS_SUCCESS) {
         *(MUTANT_BASIC_INFORMATION *)told = (MUTANT_BASIC_INFORMATION){1 - (LONG)state.count, state.owner == me->number, state.abandoned};
     }
@@ -200,7 +200,8 @@ NTSTATUS NTAPI NtOpenSemaphore(PHANDLE opened, ACCESS_MASK access, const OBJECT_
 
 NTSTATUS NTAPI NtQuerySemaphore(HANDLE semaphore, ULONG what, PVOID told, ULONG length, PULONG written) {
     om_object_state state;
-    NTSTATUS status = asked(semaphore, OM_SEMAPHORE, what, sizeof(SEMAPHORE_BASIC_INFORMATION), length, &state);
+    om_description made;
+    NTSTATUS status = asked(semaphore, OM_SEMAPHORE, what, sizeof(SEMAPHORE_BASIC_INFORMATION), length, &state, &made);
     if (status == STATUS_SUCCESS) {
         *(SEMAPHORE_BASIC_INFORMATION *)told = (SEMAPHORE_BASIC_INFORMATION){state.count, state.max};
     }
@@ -235,7 +236,8 @@ NTSTATUS NTAPI NtOpenTimer(PHANDLE opened, ACCESS_MASK access, const OBJECT_ATTR
 
 NTSTATUS NTAPI NtQueryTimer(HANDLE timer, ULONG what, PVOID told, ULONG length, PULONG written) {
     om_object_state state;
-    NTSTATUS status = asked(timer, OM_TIMER, what, sizeof(TIMER_BASIC_INFORMATION), length, &state);
+    om_description made;
+    NTSTATUS status = asked(timer, OM_TIMER, what, sizeof(TIMER_BASIC_INFORMATION), length, &state, &made);
     if (status == STATUS_SUCCESS) {
         TIMER_BASIC_INFORMATION *t = told;
         t->RemainingTime.QuadPart = state.has_due ? (LONGLONG)(state.due - now()) : 0;

@@ -54,8 +54,8 @@ static uint32_t ended_by_calls(void) {
 /* Under the lock, which the caller has again when its wait is over: 0 and the wait's code, or why it is refused. What satisfies the wait at once goes
  * before a call that is queued, and that before a timeout of 0. */
 static uint32_t wait_by_numbers(const uint32_t *handles, size_t count, bool all, uint32_t milliseconds, bool alertable, uint32_t *code) {
-    bool has_calls = alertable && me->calls != NULL;
     tell_time();
+    bool has_calls = alertable && me->calls != NULL;
     uint32_t status = om_wait(&om, me->number, all, has_calls ? 0 : milliseconds, handles, count, code);
     look_round();
     if (status == OM_SUCCESS && has_calls && *code == OM_WAIT_TIMEOUT) {
