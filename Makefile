@@ -39,7 +39,7 @@ DIST = obman-$(RELEASE)-x86_64-linux
 # What is installed finds the rest from where it lies.
 HEADERS = $(shell realpath -ms --relative-to=$(LIBDIR) $(INCLUDEDIR))
 
-WIN32 = $(filter-out %/buffer.o,$(patsubst examples/win32/%.c,build/win32/%.o,$(wildcard examples/win32/*.c)))
+WIN32 = $(patsubst examples/win32/%.c,build/win32/%.o,$(wildcard examples/win32/*.c))
 GUESTS = $(patsubst examples/windows/guests/%.c,build/windows/%.exe,$(wildcard examples/windows/guests/*.c))
 
 .PHONY: all proved check install install-strip dist examples windows win32 clean
@@ -143,8 +143,8 @@ build/win32/libwin32.a: $(WIN32)
 	ar rcs $@ $^
 
 # Source that was written for Windows, as it is.
-build/win32/buffer: build/win32/buffer.o build/win32/libwin32.a $(LIBRARY)
-	$(CC) -o $@ $^ -pthread
+build/win32/buffer: examples/win32/programs/buffer.c build/win32/libwin32.a $(LIBRARY)
+	$(CC) -std=c11 -O2 -Iexamples/win32 -o $@ $^ -pthread
 
 clean:
 	rm -rf build

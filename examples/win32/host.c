@@ -255,7 +255,8 @@ static void begin(void) {
     pthread_t ticking;
     clock_gettime(CLOCK_MONOTONIC, &monotonic);
     clock_gettime(CLOCK_REALTIME, &real);
-    clock_begins_at = ((uint64_t)(real.tv_sec - monotonic.tv_sec) + 11644473600u) * 10000000u + (uint64_t)(real.tv_nsec / 100) - (uint64_t)(monotonic.tv_nsec / 100);
+    clock_begins_at = ((uint64_t)(real.tv_sec - monotonic.tv_sec) + 11644473600u) * 10000000u; /* 1601 to 1970 */
+    clock_begins_at += (uint64_t)(real.tv_nsec / 100) - (uint64_t)(monotonic.tv_nsec / 100);
     clock_sleeps_until = NEVER;
     begin_condition(&clock_woken);
     must(om_new_reusing(&limits, &om) == OM_SUCCESS && om_advance(&om, now()) == OM_SUCCESS, "no manager");

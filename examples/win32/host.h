@@ -131,6 +131,7 @@ typedef struct body {
 
 ACCESS_MASK rights_of(uint32_t kind, ACCESS_MASK access, ACCESS_MASK most);
 const char *type_name(uint32_t kind);
+ACCESS_MASK mapped_by(DWORD protect);
 uint32_t make(const body *b, const name *n, ACCESS_MASK access, bool inherit, const void *descriptor, om_opening *made);
 uint32_t open_named(uint32_t kind, const name *n, ACCESS_MASK access, bool inherit, om_opening *opened);
 HANDLE create(body b, LPSECURITY_ATTRIBUTES attributes, const name *n, ACCESS_MASK access);

@@ -282,9 +282,8 @@ NTSTATUS NTAPI NtCreateKeyedEvent(PHANDLE made, ACCESS_MASK access, const OBJECT
 
 NTSTATUS NTAPI NtCreateSection(PHANDLE made, ACCESS_MASK access, const OBJECT_ATTRIBUTES *attributes, const LARGE_INTEGER *size, ULONG protect,
                                ULONG flags, HANDLE file) {
-    ULONG protection = protect & 0xFF;
     (void)size, (void)flags, (void)file;
-    return made_native(made, access, attributes, (body){.kind = OM_HOST((uint32_t)A_SECTION)}, protection != 0 && (protection & (protection - 1)) == 0);
+    return made_native(made, access, attributes, (body){.kind = OM_HOST((uint32_t)A_SECTION)}, mapped_by(protect) != 0);
 }
 
 /* A directory of names, by its path, or by a handle to it without one; or a link by its path. No directory is in another here. */

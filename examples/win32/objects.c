@@ -1,4 +1,5 @@
-/* Events, mutexes and semaphores, and what else is made and opened by name. https://learn.microsoft.com/windows/win32/sync/synchronization-functions */
+/* Events, mutexes and semaphores, and what else is made and opened by name.
+ * https://learn.microsoft.com/windows/win32/sync/synchronization-functions */
 #include "host.h"
 
 /* ---- Rights: what the generic ones stand for. https://learn.microsoft.com/windows/win32/secauthz/generic-access-rights ---- */
@@ -39,13 +40,6 @@ ACCESS_MASK rights_of(uint32_t kind, ACCESS_MASK access, ACCESS_MASK most) {
     return access & MAXIMUM_ALLOWED ? rights | most : rights;
 }
 
-/* What a name's object grants, or all that its kind has. */
-static ACCESS_MASK most_of(uint32_t kind, const name *n) {
-    om_handle_info info;
-    bool is_found = n->is_given && om_find(&om, SESSION, n->bytes, n->length, &info) == OM_SUCCESS;
-    return is_found ? info.access : rights_of(kind, GENERIC_ALL, 0);
-}
-
 /* The rights that a security descriptor's discretionary list allows to anybody, since there are no users here: its layout is that of
  * SECURITY_DESCRIPTOR, ACL and ACE_HEADER. Without a list, or with none, everything is allowed.
  * https://learn.microsoft.com/windows/win32/secauthz/dacls-and-aces */
@@ -74,10 +68,14 @@ static bool has_grant(const void *descriptor, uint32_t kind, ACCESS_MASK *grant)
 
 /* ---- Making and opening ---- */
 
-/* Under the lock. The right to a system list is a privilege that nobody has here. */
+/* Under the lock. A new object's handle has what is asked for of the kind's rights, one to an object that is there what that grants. The right to a
+ * system list is a privilege that nobody has here. */
 uint32_t make(const body *b, const name *n, ACCESS_MASK access, bool inherit, const void *descriptor, om_opening *made) {
+    om_handle_info there;
     uint32_t by = me->number;
-    om_making m = om_with_access(rights_of(b->kind, access, access & MAXIMUM_ALLOWED ? most_of(b->kind, n) : 0));
+    ACCESS_MASK all = rights_of(b->kind, GENERIC_ALL, 0);
+    bool is_new = !n->is_given || om_find(&om, SESSION, n->bytes, n->length, &there) != OM_SUCCESS;
+    om_making m = om_with_access(is_new ? rights_of(b->kind, access, all) & (all | SYNCHRONIZE) : rights_of(b->kind, access, there.access));
     m.named = n->is_given;
     m.inherit = inherit;
     m.has_grant = has_grant(descriptor, b->kind, &m.grant);
@@ -95,9 +93,10 @@ uint32_t make(const body *b, const name *n, ACCESS_MASK access, bool inherit, co
 
 /* Under the lock. */
 uint32_t open_named(uint32_t kind, const name *n, ACCESS_MASK access, bool inherit, om_opening *opened) {
-    uint32_t by = me->number, rights = rights_of(kind, access, access & MAXIMUM_ALLOWED ? most_of(kind, n) : 0);
-    om_handle_info info;
-    if (access & ACCESS_SYSTEM_SECURITY && om_find(&om, SESSION, n->bytes, n->length, &info) == OM_SUCCESS && info.kind == kind) {
+    om_handle_info there = {0};
+    bool is_found = om_find(&om, SESSION, n->bytes, n->length, &there) == OM_SUCCESS && there.kind == kind;
+    uint32_t by = me->number, rights = rights_of(kind, access, there.access);
+    if (access & ACCESS_SYSTEM_SECURITY && is_found) {
         return ERROR_PRIVILEGE_NOT_HELD;
     }
     switch (kind) {
@@ -271,29 +270,58 @@ HANDLE WINAPI OpenWaitableTimerW(DWORD access, BOOL inherit, LPCWSTR name) { ret
 
 /* ---- File mappings and jobs: their handles and names, which share the namespace of all the others, and nothing that they do ---- */
 
-static body other(type of) {
-    return (body){.kind = OM_HOST((uint32_t)of)};
+/* The rights of a handle to a new mapping, or none for a protection that pages of a mapping can't have. */
+ACCESS_MASK mapped_by(DWORD protect) {
+    enum { QUERY = 1, WRITE = 2, READ = 4, EXECUTE = 8 };
+    switch (protect & 0xFF) {
+    case PAGE_READONLY:
+    case PAGE_WRITECOPY: return STANDARD_RIGHTS_REQUIRED | QUERY | READ;
+    case PAGE_READWRITE: return STANDARD_RIGHTS_REQUIRED | QUERY | READ | WRITE;
+    case PAGE_EXECUTE_READ:
+    case PAGE_EXECUTE_WRITECOPY: return STANDARD_RIGHTS_REQUIRED | QUERY | READ | EXECUTE;
+    case PAGE_EXECUTE_READWRITE: return STANDARD_RIGHTS_REQUIRED | QUERY | READ | WRITE | EXECUTE;
+    default: return 0;
+    }
 }
 
+static HANDLE mapping(LPSECURITY_ATTRIBUTES attributes, DWORD protect, name n) {
+    ACCESS_MASK access = mapped_by(protect);
+    if (access == 0) {
+        n.status = ERROR_INVALID_PARAMETER;
+    }
+    return create((body){.kind = OM_HOST((uint32_t)A_SECTION)}, attributes, &n, access);
+}
+
+static const body a_job = {.kind = OM_HOST((uint32_t)A_JOB)};
+
 HANDLE WINAPI CreateFileMappingA(HANDLE file, LPSECURITY_ATTRIBUTES attributes, DWORD protect, DWORD high, DWORD low, LPCSTR name) {
-    (void)file, (void)protect, (void)high, (void)low;
-    return created_narrow(other(A_SECTION), attributes, name, SECTION_ALL_ACCESS);
+    (void)file, (void)high, (void)low;
+    return mapping(attributes, protect, narrow(name));
 }
 
 HANDLE WINAPI CreateFileMappingW(HANDLE file, LPSECURITY_ATTRIBUTES attributes, DWORD protect, DWORD high, DWORD low, LPCWSTR name) {
-    (void)file, (void)protect, (void)high, (void)low;
-    return created_wide(other(A_SECTION), attributes, name, SECTION_ALL_ACCESS);
+    (void)file, (void)high, (void)low;
+    return mapping(attributes, protect, wide(name));
 }
 
 HANDLE WINAPI CreateJobObjectA(LPSECURITY_ATTRIBUTES attributes, LPCSTR name) {
-    return created_narrow(other(A_JOB), attributes, name, JOB_OBJECT_ALL_ACCESS);
+    return created_narrow(a_job, attributes, name, JOB_OBJECT_ALL_ACCESS);
 }
 
 HANDLE WINAPI CreateJobObjectW(LPSECURITY_ATTRIBUTES attributes, LPCWSTR name) {
-    return created_wide(other(A_JOB), attributes, name, JOB_OBJECT_ALL_ACCESS);
+    return created_wide(a_job, attributes, name, JOB_OBJECT_ALL_ACCESS);
 }
 
-HANDLE WINAPI OpenFileMappingA(DWORD access, BOOL inherit, LPCSTR name) { return opened_narrow(OM_HOST((uint32_t)A_SECTION), access, inherit, name); }
-HANDLE WINAPI OpenFileMappingW(DWORD access, BOOL inherit, LPCWSTR name) { return opened_wide(OM_HOST((uint32_t)A_SECTION), access, inherit, name); }
+/* To map a copy needs no more than to read. */
+static DWORD without_copy(DWORD access) { return access == FILE_MAP_COPY ? FILE_MAP_READ : access; }
+
+HANDLE WINAPI OpenFileMappingA(DWORD access, BOOL inherit, LPCSTR name) {
+    return opened_narrow(OM_HOST((uint32_t)A_SECTION), without_copy(access), inherit, name);
+}
+
+HANDLE WINAPI OpenFileMappingW(DWORD access, BOOL inherit, LPCWSTR name) {
+    return opened_wide(OM_HOST((uint32_t)A_SECTION), without_copy(access), inherit, name);
+}
+
 HANDLE WINAPI OpenJobObjectA(DWORD access, BOOL inherit, LPCSTR name) { return opened_narrow(OM_HOST((uint32_t)A_JOB), access, inherit, name); }
 HANDLE WINAPI OpenJobObjectW(DWORD access, BOOL inherit, LPCWSTR name) { return opened_wide(OM_HOST((uint32_t)A_JOB), access, inherit, name); }
