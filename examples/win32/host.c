@@ -67,7 +67,6 @@ static void take_ended(void) {
         for (size_t i = 0; i < count; i++) {
             kept *k = (kept *)(uintptr_t)om_object_data(&om, ended[i].object.slot, ended[i].object.generation);
             if (k != NULL) {
-                om_set_object_data(&om, ended[i].object.slot, ended[i].object.generation, 0);
                 k->end(k);
             }
         }

@@ -27,7 +27,7 @@ static size_t digested(const WCHAR *text, size_t length, char *bytes) {
     return (size_t)sprintf(bytes, "%%%%%016llX%016llX", (unsigned long long)(digest >> 64), (unsigned long long)digest);
 }
 
-/* A name of the session, or of all sessions. */
+/* Writes a name of the session, or of all sessions, with its prefix. */
 static void spell(name *n, bool is_global, const WCHAR *text, size_t length) {
     size_t prefix = (size_t)sprintf(n->bytes, is_global ? "Global\\" : "Local\\");
     n->is_given = true;
@@ -61,6 +61,14 @@ static bool is_word(const WCHAR *text, size_t length, const char *word) {
     return length == strlen(word) && begins(text, length, word, false) == length;
 }
 
+static bool has_backslash(const WCHAR *text, size_t length) {
+    size_t i = 0;
+    while (i < length && text[i] != '\\') {
+        i++;
+    }
+    return i < length;
+}
+
 /* ---- kernel32: a name may begin with Global\ or Local\, and each is followed where it stands.
  * https://learn.microsoft.com/windows/win32/termserv/kernel-object-namespaces ---- */
 
@@ -89,11 +97,9 @@ static name of_text(const WCHAR *text, size_t length) {
             return n;
         }
     }
-    for (size_t i = 0; i < length; i++) {
-        if (text[i] == '\\') {
-            n.status = ERROR_PATH_NOT_FOUND;
-            return n;
-        }
+    if (has_backslash(text, length)) {
+        n.status = ERROR_PATH_NOT_FOUND; /* names aren't a tree here */
+        return n;
     }
     spell(&n, is_global, text, length);
     return n;
@@ -245,6 +251,9 @@ NTSTATUS native_name(const OBJECT_ATTRIBUTES *attributes, bool is_create, name *
     } else if (length == 1) {
         return STATUS_OBJECT_TYPE_MISMATCH; /* the root */
     } else if ((root = root_of(text, length, any_case, &directory)) == 0) {
+        return STATUS_OBJECT_PATH_NOT_FOUND;
+    }
+    if (root == length || has_backslash(text + root, length - root)) {
         return STATUS_OBJECT_PATH_NOT_FOUND;
     }
     spell(n, directory == GLOBAL_NAMES, text + root, length - root);
