@@ -29,9 +29,9 @@ static DWORD WINAPI sleep_alertably(LPVOID ready) {
     return SignalObjectAndWait(ready, event, INFINITE, TRUE);
 }
 
-static DWORD WINAPI sleep_for_good(LPVOID unused) {
-    (void)unused;
-    Sleep(INFINITE);
+/* One that is terminated elsewhere may take a lock of the C library's with it. */
+static DWORD WINAPI wait_for_good(LPVOID ready) {
+    SignalObjectAndWait(ready, event, INFINITE, FALSE);
     return 0;
 }
 
@@ -89,7 +89,9 @@ static void threads(void) {
     GetExitCodeThread(thread, &code);
     printf("%d, %u\n", calls, (unsigned)code);
     both[0] = thread;
-    both[1] = CreateThread(NULL, 0, sleep_for_good, NULL, 0, NULL);
+    both[1] = CreateThread(NULL, 0, wait_for_good, ready, 0, NULL);
+    WaitForSingleObject(ready, INFINITE);
+    Sleep(20);
     TerminateThread(both[1], 9);
     printf("both: %u, ", (unsigned)WaitForMultipleObjects(2, both, TRUE, 5000));
     GetExitCodeThread(both[1], &code);

@@ -11,7 +11,7 @@ uint32_t query(HANDLE handle, om_handle_info *info) {
 }
 
 /* Whether a handle is none, but stands for the caller's process, thread, or a token of one. */
-static bool is_pseudo(HANDLE handle) {
+bool is_pseudo(HANDLE handle) {
     return (LONG_PTR)handle < 0 && (LONG_PTR)handle >= -6;
 }
 

@@ -156,6 +156,7 @@ void drop_calls(thread *t, const void *timer);
 
 /* handles.c */
 uint32_t query(HANDLE handle, om_handle_info *info);
+bool is_pseudo(HANDLE handle);
 uint32_t same_object(HANDLE one, HANDLE other);
 uint32_t duplicate(HANDLE source, HANDLE handle, HANDLE target, ACCESS_MASK access, bool inherit, DWORD options, HANDLE *made);
 

@@ -7,8 +7,8 @@
 
 NTSTATUS NTAPI NtClose(HANDLE handle) {
     om_handle_info info;
-    if ((LONG_PTR)handle < 0 && (LONG_PTR)handle >= -6) {
-        return STATUS_SUCCESS; /* what stands for the caller itself */
+    if (is_pseudo(handle)) {
+        return STATUS_SUCCESS;
     }
     uint32_t status = om_close(&om, enter(), number_of(handle));
     bool is_protected = status == OM_ERROR_INVALID_HANDLE && query(handle, &info) == OM_SUCCESS;

@@ -25,25 +25,22 @@ uint64_t next_repeat(void) {
     return least;
 }
 
-static void end_repeat(repeat *ended) {
-    repeat **at = &repeats;
-    while (*at != ended) {
-        at = &(*at)->next;
-    }
-    *at = ended->next;
-    om_set_object_data(&om, ended->own.object.slot, ended->own.object.generation, 0);
-    om_close(&om, host.thread, ended->own.handle);
-    let_go(ended->by);
-    free(ended);
-}
-
 /* What was to come of a timer that is set anew or cancelled, or that only the host has a handle to, comes no more; a routine that is queued isn't
  * called. */
 static void drop_repeat(repeat *dropped) {
-    if (dropped != NULL) {
-        drop_calls(dropped->by, dropped);
-        end_repeat(dropped);
+    repeat **at = &repeats;
+    if (dropped == NULL) {
+        return;
     }
+    while (*at != dropped) {
+        at = &(*at)->next;
+    }
+    *at = dropped->next;
+    drop_calls(dropped->by, dropped);
+    let_go(dropped->by);
+    om_set_object_data(&om, dropped->own.object.slot, dropped->own.object.generation, 0);
+    om_close(&om, host.thread, dropped->own.handle);
+    free(dropped);
 }
 
 void end_unused_repeats(void) {
