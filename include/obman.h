@@ -118,9 +118,11 @@ extern "C" {
 
 /* How long a wait lasts, and how it ended. */
 #define OM_INFINITE 0xFFFFFFFFu
+#define OM_FOREVER 0x7FFFFFFFFFFFFFFF
 #define OM_MAXIMUM_WAIT_OBJECTS 64u
 #define OM_WAIT_OBJECT_0 0u
 #define OM_WAIT_ABANDONED_0 128u
+#define OM_WAIT_IO_COMPLETION 192u
 #define OM_WAIT_TIMEOUT 258u
 
 /* Kinds of objects, with what om_state says of one that has ended, and of one of the host's own of a type from 0 to 255; and what
@@ -149,7 +151,7 @@ extern "C" {
  * all for its slots, which come back, and uses some 3 of them while it is new. */
 #define OM_LIMITS_MOST {65536u, 65536u, 65536u, 16384u, 4294967295u, 1073741823u, 4294967295u, 2147483647u}
 
-/* The Win32 name of a number that a call answers, or of WAIT_TIMEOUT, for logs; "unknown" for another. */
+/* The Win32 name of a number that a call answers, or of WAIT_TIMEOUT or WAIT_IO_COMPLETION, for logs; "unknown" for another. */
 static inline const char *om_error_name(uint32_t number) {
     switch (number) {
     case OM_SUCCESS: return "ERROR_SUCCESS";
@@ -164,6 +166,7 @@ static inline const char *om_error_name(uint32_t number) {
     case OM_ERROR_BUSY: return "ERROR_BUSY";
     case OM_ERROR_ALREADY_EXISTS: return "ERROR_ALREADY_EXISTS";
     case OM_ERROR_FILENAME_EXCED_RANGE: return "ERROR_FILENAME_EXCED_RANGE";
+    case OM_WAIT_IO_COMPLETION: return "WAIT_IO_COMPLETION";
     case OM_WAIT_TIMEOUT: return "WAIT_TIMEOUT";
     case OM_ERROR_NO_MORE_ITEMS: return "ERROR_NO_MORE_ITEMS";
     case OM_ERROR_NOT_OWNER: return "ERROR_NOT_OWNER";
@@ -190,7 +193,12 @@ static inline uint32_t om_map_access(uint32_t kind, uint32_t mask) {
     return rights;
 }
 
-/* The NTSTATUS of a number that a call answers, or of WAIT_TIMEOUT, for a host of native calls; where a number stands for several, the first of
+/* Until when a wait of so many milliseconds lasts, as om_wait_until, om_sleep and om_signal_and_wait take it: OM_FOREVER for OM_INFINITE. */
+static inline int64_t om_due_in(uint32_t milliseconds) {
+    return milliseconds == OM_INFINITE ? OM_FOREVER : -10000 * (int64_t)milliseconds;
+}
+
+/* The NTSTATUS of a number that a call answers, or of WAIT_TIMEOUT or WAIT_IO_COMPLETION, for a host of native calls; where a number stands for several, the first of
  * the table in docs/EMBEDDING.md. STATUS_UNSUCCESSFUL (C0000001) for a number that no call of a guest is answered with. */
 static inline uint32_t om_nt_status(uint32_t number) {
     switch (number) {
@@ -203,6 +211,7 @@ static inline uint32_t om_nt_status(uint32_t number) {
     case OM_ERROR_INVALID_PARAMETER: return 0xC000000Du;
     case OM_ERROR_ALREADY_EXISTS: return 0x40000000u;
     case OM_ERROR_FILENAME_EXCED_RANGE: return 0xC0000106u;
+    case OM_WAIT_IO_COMPLETION: return 0x000000C0u;
     case OM_WAIT_TIMEOUT: return 0x00000102u;
     case OM_ERROR_NOT_OWNER: return 0xC0000046u;
     case OM_ERROR_TOO_MANY_POSTS: return 0xC0000047u;
@@ -373,7 +382,7 @@ typedef struct om_references {
 typedef struct om_answer {
     uint32_t wait;     /* its number; the thread's, where numbers come back */
     uint32_t thread;
-    uint32_t code;     /* OM_WAIT_OBJECT_0 and an index, OM_WAIT_ABANDONED_0 and an index, or OM_WAIT_TIMEOUT */
+    uint32_t code;     /* OM_WAIT_OBJECT_0 and an index, OM_WAIT_ABANDONED_0 and an index, OM_WAIT_TIMEOUT or OM_WAIT_IO_COMPLETION */
 } om_answer;
 
 /* What a pending wait is for, but for its objects. */
@@ -543,6 +552,10 @@ uint32_t om_set_event(om_manager *m, uint32_t thread, uint32_t handle);
 /* Resets an event (ResetEvent). It is refused as om_set_event is. */
 uint32_t om_reset_event(om_manager *m, uint32_t thread, uint32_t handle);
 
+/* Sets an event, and resets it (PulseEvent): who waits for it may go on, one of them where it isn't reset by hand. It is refused as
+ * om_set_event is. */
+uint32_t om_pulse_event(om_manager *m, uint32_t thread, uint32_t handle);
+
 /* Raises a semaphore's count, and says what it was (ReleaseSemaphore).
  * OM_ERROR_INVALID_PARAMETER for a count of 0 or less; OM_ERROR_INVALID_HANDLE where there is no such handle or it is no
  * semaphore's; OM_ERROR_ACCESS_DENIED without OM_MODIFY_STATE; OM_ERROR_TOO_MANY_POSTS where the maximum would be passed. */
@@ -565,7 +578,12 @@ uint32_t om_signal_host(om_manager *m, uint32_t slot, uint32_t generation, bool 
  * OM_ERROR_INVALID_HANDLE where there is no such handle or it is no timer's; OM_ERROR_ACCESS_DENIED without OM_MODIFY_STATE. */
 uint32_t om_set_timer(om_manager *m, uint32_t thread, uint32_t handle, int64_t due);
 
-/* Takes a timer's moment away; it stays as signaled as it is (CancelWaitableTimer). It is refused as om_set_timer is. */
+/* The same with a period in milliseconds (of 10,000 units each), 0 for none: each time its moment comes the timer is signaled, and due again
+ * at the first moment after now that lies whole periods behind `due`; where several have passed it is signaled once. So it lasts until it
+ * is set anew or cancelled, or ends. OM_ERROR_INVALID_PARAMETER for a period below 0; else it is refused as om_set_timer is. */
+uint32_t om_set_periodic_timer(om_manager *m, uint32_t thread, uint32_t handle, int64_t due, int32_t period);
+
+/* Takes a timer's moment away, and its period; it stays as signaled as it is (CancelWaitableTimer). It is refused as om_set_timer is. */
 uint32_t om_cancel_timer(om_manager *m, uint32_t thread, uint32_t handle);
 
 /* It is this moment now, in units of 100 ns; a new manager's is 0. Each timer that is due is signaled and lets who waits for it go
@@ -603,6 +621,25 @@ uint32_t om_next_due(om_manager *m, uint64_t *moment);
 uint32_t om_wait(om_manager *m, uint32_t thread, bool all, uint32_t milliseconds, const uint32_t *handles, size_t count,
                  uint32_t *answer);
 
+/* The same until a moment: `due` is one in units of 100 ns, or below 0 so many units from now, and OM_FOREVER is for good. Where the moment
+ * isn't after now the wait never becomes pending, as for 0 milliseconds (NtWaitForMultipleObjects). It is refused as om_wait is. */
+uint32_t om_wait_until(om_manager *m, uint32_t thread, bool all, int64_t due, const uint32_t *handles, size_t count, uint32_t *answer);
+
+/* Signals the object of one handle and waits for that of another until such a moment, as one call (SignalObjectAndWait): an event is set, a
+ * semaphore raised by 1, a mutex released. It is answered as om_wait is, for one object; the wait stands behind those that stood before
+ * the signal was given, and takes a number though it is satisfied at once. All that may refuse is looked at before anything changes:
+ * OM_ERROR_INVALID_HANDLE where there is no handle `signal`, or none `handle`; OM_ERROR_ACCESS_DENIED where that lacks OM_SYNCHRONIZE;
+ * OM_ERROR_INVALID_HANDLE where the object to signal is no event, semaphore or mutex; OM_ERROR_ACCESS_DENIED without OM_MODIFY_STATE for an
+ * event or a semaphore; OM_ERROR_TOO_MANY_POSTS where the count would pass the maximum; OM_ERROR_NOT_OWNER where the thread doesn't own
+ * the mutex; OM_ERROR_NO_SYSTEM_RESOURCES for a mutex to wait for that the thread owns as often as it may, before the call, and where no
+ * wait number is left; OM_ERROR_NOT_ENOUGH_MEMORY. */
+uint32_t om_signal_and_wait(om_manager *m, uint32_t thread, uint32_t signal, uint32_t handle, int64_t due, uint32_t *answer);
+
+/* Waits for nothing until such a moment (Sleep, NtDelayExecution): 0 with OM_WAIT_TIMEOUT where it isn't after now; else
+ * OM_ERROR_IO_PENDING with the wait's number, and its answer is OM_WAIT_TIMEOUT then.
+ * OM_ERROR_NO_SYSTEM_RESOURCES where no wait number is left; OM_ERROR_NOT_ENOUGH_MEMORY where it would be pending. */
+uint32_t om_sleep(om_manager *m, uint32_t thread, int64_t due, uint32_t *answer);
+
 /* Takes a wait's answer: 0 with its code, and the wait is over; or OM_ERROR_IO_PENDING with its number.
  * OM_ERROR_INVALID_PARAMETER where there is no such wait. */
 uint32_t om_wait_result(om_manager *m, uint32_t wait, uint32_t *answer);
@@ -616,6 +653,10 @@ uint32_t om_take_answered(om_manager *m, om_answer *answers, size_t capacity, si
  * has now.
  * OM_ERROR_INVALID_PARAMETER where no such wait is pending. */
 uint32_t om_expire(om_manager *m, uint32_t wait);
+
+/* A pending wait ends for what was queued to its thread, as an alertable one does: its answer is OM_WAIT_IO_COMPLETION. Which waits are
+ * alertable the host knows; what it queues (QueueUserAPC) is its own. It is refused as om_expire is. */
+uint32_t om_alert(om_manager *m, uint32_t wait);
 
 /* ---- For whoever runs the guests ---- */
 
@@ -667,7 +708,7 @@ uint32_t om_session_of(om_manager *m, uint32_t process, uint32_t *session);
 
 /* What a pending wait is for: its thread, whether all objects together satisfy it, its deadline, and the objects in the order of the
  * handles, so that the code of a wait for any counts in them. `capacity` places stand at `objects`, and *count says how many the wait
- * has, 1 to 64: OM_MAXIMUM_WAIT_OBJECTS places are always enough. Nothing is changed.
+ * has, 1 to 64, or 0 where it is om_sleep's: OM_MAXIMUM_WAIT_OBJECTS places are always enough. Nothing is changed.
  * OM_ERROR_INVALID_PARAMETER where no such wait is pending; OM_ERROR_INSUFFICIENT_BUFFER where the objects don't fit: then *pending
  * and *count are written, and no object. */
 uint32_t om_objects_waited_for(om_manager *m, uint32_t wait, om_pending *pending, om_object *objects, size_t capacity, size_t *count);
@@ -722,6 +763,14 @@ uint32_t om_take_record(om_manager *m, char *lines, size_t capacity, size_t *wri
  * OM_ERROR_INVALID_PARAMETER for a limit out of its range; OM_ERROR_NOT_ENOUGH_MEMORY; OM_ERROR_INSUFFICIENT_BUFFER where the
  * answers don't fit: then *written says how many bytes they need, and nothing else is written. */
 uint32_t om_script(const om_limits *limits, const char *script, size_t length, char *answers, size_t capacity, size_t *written);
+
+/* All that a manager holds, as lines that a person reads, with what is called so in scripts: the moment, each process with its threads, for
+ * what they wait and until when, and its handles; each object with its kind, name, state, counts and who waits for it; and last the threads
+ * that wait for one another for ever, each without a deadline for a mutex that another one of them owns. Its time grows with all of that.
+ * `capacity` bytes stand at `text`; *written says how many the lines have. Lines may be added, and more stand in one, in later versions.
+ * OM_ERROR_INSUFFICIENT_BUFFER where they don't fit: then *written says how many bytes they need, and nothing else is written;
+ * OM_ERROR_NOT_ENOUGH_MEMORY. */
+uint32_t om_dump(om_manager *m, char *text, size_t capacity, size_t *written);
 
 /* ---- Savestates ---- */
 

@@ -402,6 +402,7 @@ public:
     // Events, semaphores, mutexes, timers and objects of the host's own, and the time.
     status_only set_event(std::uint32_t thread, std::uint32_t handle) noexcept { return status_only(om_set_event(&m_, thread, handle)); }
     status_only reset_event(std::uint32_t thread, std::uint32_t handle) noexcept { return status_only(om_reset_event(&m_, thread, handle)); }
+    status_only pulse_event(std::uint32_t thread, std::uint32_t handle) noexcept { return status_only(om_pulse_event(&m_, thread, handle)); }
     result<std::uint32_t> release_semaphore(std::uint32_t thread, std::uint32_t handle, std::int32_t count) noexcept {
         return with<std::uint32_t>(om_release_semaphore, thread, handle, count);
     }
@@ -413,6 +414,9 @@ public:
     }
     status_only set_timer(std::uint32_t thread, std::uint32_t handle, std::int64_t due) noexcept {
         return status_only(om_set_timer(&m_, thread, handle, due));
+    }
+    status_only set_periodic_timer(std::uint32_t thread, std::uint32_t handle, std::int64_t due, std::int32_t period) noexcept {
+        return status_only(om_set_periodic_timer(&m_, thread, handle, due, period));
     }
     status_only cancel_timer(std::uint32_t thread, std::uint32_t handle) noexcept { return status_only(om_cancel_timer(&m_, thread, handle)); }
     status_only tick(std::uint64_t now) noexcept { return status_only(om_tick(&m_, now)); }
@@ -429,8 +433,16 @@ public:
     result<std::uint32_t> wait(std::uint32_t thread, std::uint32_t handle, std::uint32_t milliseconds = OM_INFINITE) noexcept {
         return with<std::uint32_t>(om_wait, thread, false, milliseconds, &handle, std::size_t{1});
     }
+    result<std::uint32_t> wait_until(std::uint32_t thread, bool all, std::int64_t due, span<const std::uint32_t> handles) noexcept {
+        return with<std::uint32_t>(om_wait_until, thread, all, due, handles.data(), handles.size());
+    }
+    result<std::uint32_t> signal_and_wait(std::uint32_t thread, std::uint32_t signal, std::uint32_t handle, std::int64_t due = OM_FOREVER) noexcept {
+        return with<std::uint32_t>(om_signal_and_wait, thread, signal, handle, due);
+    }
+    result<std::uint32_t> sleep(std::uint32_t thread, std::int64_t due) noexcept { return with<std::uint32_t>(om_sleep, thread, due); }
     result<std::uint32_t> wait_result(std::uint32_t wait) noexcept { return with<std::uint32_t>(om_wait_result, wait); }
     status_only expire(std::uint32_t wait) noexcept { return status_only(om_expire(&m_, wait)); }
+    status_only alert(std::uint32_t wait) noexcept { return status_only(om_alert(&m_, wait)); }
     bool is_pending(std::uint32_t wait) const noexcept { return om_is_pending(&m_, wait); }
 
     // What a host is told: who was answered, each taken as the walk comes to it, what ended, and when something is due next.
@@ -502,6 +514,12 @@ public:
     result<std::size_t> save(span<unsigned char> bytes) const noexcept {
         std::size_t written = 0;
         std::uint32_t status = om_save(&m_, bytes.data(), bytes.size(), &written);
+        return {status, written};
+    }
+    // All that it holds, as lines for a person, told as a savestate is.
+    result<std::size_t> dump(span<char> lines) const noexcept {
+        std::size_t written = 0;
+        std::uint32_t status = om_dump(&m_, lines.data(), lines.size(), &written);
         return {status, written};
     }
     std::size_t directory_len() const noexcept { return om_directory_len(&m_); }

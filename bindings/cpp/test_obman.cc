@@ -83,6 +83,25 @@ static void waits() {
     MUST(m.wait(thread, false, 0, numbers()).status() == OM_ERROR_INVALID_PARAMETER);
 }
 
+// Times and waits as the native calls have them.
+static void times() {
+    obman::manager m;
+    om_member a = m.spawn(1).value();
+    const std::uint32_t second = m.thread(a.process).value();
+    const std::uint32_t event = m.create_event(a.thread, {}, {}, false, false)->handle, mutex = m.create_mutex(a.thread, {}, {}, true)->handle;
+    const std::uint32_t timer = m.create_timer(a.thread, {}, {}, false)->handle, asleep = m.sleep(second, OM_FOREVER).value();
+    m.alert(asleep).value();
+    MUST(m.wait_result(asleep).value() == OM_WAIT_IO_COMPLETION && m.sleep(second, om_due_in(0)).value() == OM_WAIT_TIMEOUT);
+    const std::uint32_t wait = m.wait_until(second, false, 5, numbers{mutex}).value();
+    MUST(m.signal_and_wait(a.thread, mutex, event, 0).value() == OM_WAIT_TIMEOUT && m.wait_result(wait).value() == OM_WAIT_OBJECT_0);
+    const std::uint32_t met = m.signal_and_wait(second, mutex, event).value();
+    m.pulse_event(a.thread, event).value();
+    MUST(m.wait_result(met).value() == OM_WAIT_OBJECT_0);
+    m.set_periodic_timer(a.thread, timer, -5, 1).value();
+    m.tick(25000).value();
+    MUST(m.wait(second, timer, 0).value() == OM_WAIT_OBJECT_0 && m.next_due().value() == 30005);
+}
+
 // What a manager that is const says.
 static void looks() {
     obman::manager m;
@@ -215,6 +234,7 @@ int main() {
         ends(count, count);
     }
     waits();
+    times();
     looks();
     names();
     numbers_come_back();

@@ -40,8 +40,9 @@ GENERIC_ALL, GENERIC_EXECUTE, GENERIC_WRITE, GENERIC_READ = 0x10000000, 0x200000
 HANDLE_FLAG_INHERIT, HANDLE_FLAG_PROTECT_FROM_CLOSE = 1, 2
 DUPLICATE_CLOSE_SOURCE, DUPLICATE_SAME_ACCESS = 1, 2
 INFINITE = 0xFFFFFFFF
+FOREVER = 0x7FFFFFFFFFFFFFFF
 MAXIMUM_WAIT_OBJECTS = 64
-WAIT_OBJECT_0, WAIT_ABANDONED_0, WAIT_TIMEOUT = 0, 128, 258
+WAIT_OBJECT_0, WAIT_ABANDONED_0, WAIT_IO_COMPLETION, WAIT_TIMEOUT = 0, 128, 192, 258
 EVENT, MUTEX, SEMAPHORE, TIMER, ENDED = range(5)
 HOST = 256  # and the type of an object of the host's own
 FREED, RETIRED, HELD = range(3)
@@ -67,11 +68,11 @@ ERRORS = {
     1450: "ERROR_NO_SYSTEM_RESOURCES",
     1816: "ERROR_NOT_ENOUGH_QUOTA",
 }
-NAMES = {0: "ERROR_SUCCESS", 183: "ERROR_ALREADY_EXISTS", 258: "WAIT_TIMEOUT", 997: "ERROR_IO_PENDING", **ERRORS}
+NAMES = {0: "ERROR_SUCCESS", 183: "ERROR_ALREADY_EXISTS", 192: "WAIT_IO_COMPLETION", 258: "WAIT_TIMEOUT", 997: "ERROR_IO_PENDING", **ERRORS}
 
 
 def error_name(number):
-    """The Win32 name of a number that a call answers, or of WAIT_TIMEOUT, for logs; "unknown" for another."""
+    """The Win32 name of a number that a call answers, or of WAIT_TIMEOUT or WAIT_IO_COMPLETION, for logs; "unknown" for another."""
     return NAMES.get(number, "unknown")
 
 
@@ -90,14 +91,19 @@ def map_access(kind, mask):
     return mapped
 
 
+def due_in(milliseconds):
+    """Until when a wait of so many milliseconds lasts, as wait_until, sleep and signal_and_wait take it."""
+    return FOREVER if milliseconds == INFINITE else -10000 * milliseconds
+
+
 STATUSES = {
     0: 0, 2: 0xC0000034, 3: 0xC000003A, 5: 0xC0000022, 6: 0xC0000008, 8: 0xC0000017, 87: 0xC000000D, 183: 0x40000000, 206: 0xC0000106,
-    258: 0x102, 288: 0xC0000046, 298: 0xC0000047, 997: 0x103, 1450: 0xC000009A,
+    192: 0xC0, 258: 0x102, 288: 0xC0000046, 298: 0xC0000047, 997: 0x103, 1450: 0xC000009A,
 }  # fmt: skip
 
 
 def nt_status(number):
-    """The NTSTATUS of a number that a call answers, or of WAIT_TIMEOUT (`om_nt_status`)."""
+    """The NTSTATUS of a number that a call answers, or of WAIT_TIMEOUT or WAIT_IO_COMPLETION (`om_nt_status`)."""
     return STATUSES.get(number, 0xC0000001)
 
 
@@ -203,18 +209,24 @@ FUNCTIONS = {
     "om_resolve": (_U, [_M, _U, _U, POINTER(Object)]),
     "om_set_event": (_U, [_M, _U, _U]),
     "om_reset_event": (_U, [_M, _U, _U]),
+    "om_pulse_event": (_U, [_M, _U, _U]),
     "om_release_semaphore": (_U, [_M, _U, _U, c_int32, POINTER(_U)]),
     "om_release_mutex": (_U, [_M, _U, _U]),
     "om_signal_host": (_U, [_M, _U, _U, _B]),
     "om_set_timer": (_U, [_M, _U, _U, c_int64]),
+    "om_set_periodic_timer": (_U, [_M, _U, _U, c_int64, c_int32]),
     "om_cancel_timer": (_U, [_M, _U, _U]),
     "om_tick": (_U, [_M, c_uint64]),
     "om_advance": (_U, [_M, c_uint64]),
     "om_next_due": (_U, [_M, POINTER(c_uint64)]),
     "om_wait": (_U, [_M, _U, _B, _U, POINTER(_U), _Z, POINTER(_U)]),
+    "om_wait_until": (_U, [_M, _U, _B, c_int64, POINTER(_U), _Z, POINTER(_U)]),
+    "om_signal_and_wait": (_U, [_M, _U, _U, _U, c_int64, POINTER(_U)]),
+    "om_sleep": (_U, [_M, _U, c_int64, POINTER(_U)]),
     "om_wait_result": (_U, [_M, _U, POINTER(_U)]),
     "om_take_answered": (_U, [_M, POINTER(Answer), _Z, POINTER(_Z)]),
     "om_expire": (_U, [_M, _U]),
+    "om_alert": (_U, [_M, _U]),
     "om_card": (_U, [_M, _U, _U, POINTER(Description)]),
     "om_state": (_U, [_M, _U, _U, POINTER(State)]),
     "om_handle_state": (_U, [_M, _U, _U, POINTER(State)]),
@@ -239,6 +251,7 @@ FUNCTIONS = {
     "om_record": (_U, [_M, _B]),
     "om_take_record": (_U, [_M, POINTER(c_char), _Z, POINTER(_Z)]),
     "om_script": (_U, [POINTER(Limits), ctypes.c_char_p, _Z, POINTER(c_char), _Z, POINTER(_Z)]),
+    "om_dump": (_U, [_M, POINTER(c_char), _Z, POINTER(_Z)]),
     "om_save": (_U, [_M, c_void_p, _Z, POINTER(_Z)]),
     "om_load": (_U, [c_void_p, _Z, _M]),
     "om_reader_new": (_U, [_M, _R]),
@@ -487,6 +500,10 @@ class Manager(_Owner):
         """Resets an event."""
         _done(_c.om_reset_event(self._at, thread, handle))
 
+    def pulse_event(self, thread, handle):
+        """Sets an event, so that who waits for it may go on, and resets it."""
+        _done(_c.om_pulse_event(self._at, thread, handle))
+
     def release_semaphore(self, thread, handle, count=1):
         """Raises a semaphore's count, and says what it was."""
         return _told(c_uint32, _c.om_release_semaphore, self._at, thread, handle, count)
@@ -503,8 +520,12 @@ class Manager(_Owner):
         """Sets a timer for a moment in units of 100 ns, or below 0 for so many units from now."""
         _done(_c.om_set_timer(self._at, thread, handle, due))
 
+    def set_periodic_timer(self, thread, handle, due, period):
+        """The same with a period in milliseconds, 0 for none: it is signaled each time, and due again."""
+        _done(_c.om_set_periodic_timer(self._at, thread, handle, due, period))
+
     def cancel_timer(self, thread, handle):
-        """Takes a timer's moment away."""
+        """Takes a timer's moment away, and its period."""
         _done(_c.om_cancel_timer(self._at, thread, handle))
 
     def tick(self, now):
@@ -538,6 +559,21 @@ class Manager(_Owner):
         answer = c_uint32()
         return _waited(_c.om_wait(self._at, thread, all, milliseconds, (c_uint32 * max(1, len(handles)))(*handles), len(handles), answer), answer)
 
+    def wait_until(self, thread, handles, due=FOREVER, all=False):
+        """The same until a moment in units of 100 ns, or below 0 for so many units from now, and for good until FOREVER."""
+        answer = c_uint32()
+        return _waited(_c.om_wait_until(self._at, thread, all, due, (c_uint32 * max(1, len(handles)))(*handles), len(handles), answer), answer)
+
+    def signal_and_wait(self, thread, signal, handle, due=FOREVER):
+        """Signals the object of one handle and waits for that of another until such a moment, as one call."""
+        answer = c_uint32()
+        return _waited(_c.om_signal_and_wait(self._at, thread, signal, handle, due, answer), answer)
+
+    def sleep(self, thread, due):
+        """Waits for nothing until such a moment."""
+        answer = c_uint32()
+        return _waited(_c.om_sleep(self._at, thread, due, answer), answer)
+
     def wait_result(self, wait):
         """Takes the answer of one wait, as wait."""
         answer = c_uint32()
@@ -546,6 +582,10 @@ class Manager(_Owner):
     def expire(self, wait):
         """A pending wait's time is up."""
         _done(_c.om_expire(self._at, wait))
+
+    def alert(self, wait):
+        """A pending wait ends for what was queued to its thread, as an alertable one does."""
+        _done(_c.om_alert(self._at, wait))
 
     def is_pending(self, wait):
         """Whether a wait is pending."""
@@ -692,13 +732,20 @@ class Manager(_Owner):
 
     def save(self):
         """The whole manager as bytes, from which `load` makes it again; but for what is pinned and recorded."""
+        return self._whole(_c.om_save)
+
+    def dump(self):
+        """All that the manager holds, as lines that a person reads: processes, threads and their waits, handles, objects, deadlocks."""
+        return self._whole(_c.om_dump).decode()
+
+    def _whole(self, call):
         written, most = c_size_t(), 0
         while True:
-            saved = ctypes.create_string_buffer(most)
-            status = _c.om_save(self._at, saved, most, written)
+            told = ctypes.create_string_buffer(most)
+            status = call(self._at, told, most, written)
             if status != 122:
                 _done(status)
-                return saved.raw[: written.value]
+                return told.raw[: written.value]
             most = written.value
 
     def reader(self):

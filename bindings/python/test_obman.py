@@ -71,6 +71,24 @@ class Calls(unittest.TestCase):
             self.assertEqual((waited.all, waited.deadline), (False, None))
             self.assertEqual([m.state(o).owner for o in waited.objects], [first.thread])
 
+    def test_times_and_waits(self):
+        with obman.Manager() as m:
+            first = m.spawn(1)
+            second = m.thread(first.process)
+            event, mutex, timer = m.create_event(first.thread), m.create_mutex(first.thread, owned=True), m.create_timer(first.thread)
+            m.alert(m.sleep(second, obman.FOREVER).wait)
+            self.assertEqual([answer.code for answer in m.answers()], [obman.WAIT_IO_COMPLETION])
+            self.assertEqual(m.sleep(second, obman.due_in(0)), obman.Over(obman.WAIT_TIMEOUT))
+            wait = m.wait_until(second, [mutex.handle], 5).wait
+            self.assertEqual(m.signal_and_wait(first.thread, mutex.handle, event.handle, 0), obman.Over(obman.WAIT_TIMEOUT))
+            self.assertEqual(m.wait_result(wait), obman.Over(obman.WAIT_OBJECT_0))
+            wait = m.signal_and_wait(second, mutex.handle, event.handle, obman.due_in(obman.INFINITE)).wait
+            m.pulse_event(first.thread, event.handle)
+            self.assertEqual(m.wait_result(wait), obman.Over(obman.WAIT_OBJECT_0))
+            m.set_periodic_timer(first.thread, timer.handle, -5, 1)
+            m.tick(25_000)
+            self.assertEqual((m.wait(second, [timer.handle], milliseconds=0), m.next_due()), (obman.Over(obman.WAIT_OBJECT_0), 30_005))
+
     def test_numbers_come_back(self):
         with obman.Manager(obman.default_limits(threads=2, waits=1), reuse=True) as m:
             first = m.spawn(1)

@@ -39,8 +39,8 @@ static struct timespec clock_time(uint64_t moment) {
 
 /* The next moment at which something is due. */
 static uint64_t next_moment(void) {
-    uint64_t due, repeat = next_repeat();
-    return om_next_due(&om, &due) == OM_SUCCESS && due < repeat ? due : repeat;
+    uint64_t due;
+    return om_next_due(&om, &due) == OM_SUCCESS ? due : NEVER;
 }
 
 /* Behind each call, under the lock: wakes just those whose waits it has answered. */
@@ -75,7 +75,6 @@ static void take_ended(void) {
 
 void look_round(void) {
     wake_answered();
-    end_unused_repeats();
     take_ended();
     if (next_moment() < clock_sleeps_until) {
         pthread_cond_signal(&clock_woken);
@@ -87,8 +86,7 @@ void tell_time(void) {
     uint64_t to = now(), due;
     while ((due = next_moment()) <= to) {
         om_advance(&om, due > om_now(&om) ? due : om_now(&om));
-        repeat_due();
-        wake_answered();
+        queue_routines();
     }
     om_advance(&om, to > om_now(&om) ? to : om_now(&om));
 }
@@ -312,19 +310,6 @@ uint32_t sleep_until_answered(void) {
     }
     me->is_answered = false;
     return me->answer;
-}
-
-/* Stands for a wait of the library's for no object but a moment, which Sleep is. It ends before where a procedure call is queued for a caller who
- * is alertable. */
-void sleep_until(uint64_t moment) {
-    struct timespec t = clock_time(moment == NEVER ? clock_begins_at : moment);
-    int late = 0;
-    while (late == 0 && !me->is_alerted && !me->has_ended) {
-        late = moment == NEVER ? pthread_cond_wait(&me->woken, &lock) : pthread_cond_timedwait(&me->woken, &lock, &t);
-    }
-    if (me->has_ended) {
-        leave();
-    }
 }
 
 /* The caller runs the procedure calls that were queued for it, without the lock. */

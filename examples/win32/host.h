@@ -11,7 +11,7 @@
  *            the same by ntdll
  *
  * All that is known of objects, handles, names and waits is known to the manager `om`. What the host keeps beside it, a thread's place to sleep
- * and a timer's period, hangs on the library's own threads and objects. Each call takes the one lock by `enter` and gives it back by `done`. */
+ * and a timer's routine, hangs on the library's own threads and objects. Each call takes the one lock by `enter` and gives it back by `done`. */
 #ifndef HOST_H
 #define HOST_H
 
@@ -24,7 +24,6 @@
 #include "win32.h"
 
 #define SESSION 1u
-#define UNITS_PER_MILLISECOND 10000u
 #define NEVER UINT64_MAX
 
 /* The types of objects of the host's own. */
@@ -72,7 +71,7 @@ typedef struct thread {
     pthread_cond_t woken; /* where it sleeps */
     bool is_answered;     /* its wait, with this code */
     uint32_t answer;
-    bool is_alertable, is_alerted; /* its wait, and by a procedure call */
+    bool is_alertable; /* its wait ends for a procedure call */
     call *calls;
     bool has_ended;
     DWORD code; /* with which it has ended */
@@ -91,7 +90,6 @@ void look_round(void);
 uint32_t unlocked(uint32_t status);
 BOOL done(uint32_t status);
 _Noreturn void leave(void);
-void sleep_until(uint64_t moment);
 uint32_t sleep_until_answered(void);
 void run_calls(void);
 uint64_t now(void);
@@ -138,19 +136,15 @@ HANDLE create(body b, LPSECURITY_ATTRIBUTES attributes, const name *n, ACCESS_MA
 HANDLE opened_by(uint32_t kind, ACCESS_MASK access, BOOL inherit, const name *n);
 
 /* timers.c */
-uint64_t next_repeat(void);
-void repeat_due(void);
-void end_unused_repeats(void);
-uint32_t set_timer(uint32_t handle, int64_t due, uint32_t period, PTIMERAPCROUTINE routine, void *argument);
+void queue_routines(void);
+uint32_t set_timer(uint32_t handle, int64_t due, int32_t period, PTIMERAPCROUTINE code, void *argument);
 uint32_t cancel_timer(uint32_t handle);
 
 /* waits.c */
-uint32_t pulse(uint32_t handle);
-uint32_t wait_for(const HANDLE *handles, DWORD count, bool all, uint32_t milliseconds, bool alertable, uint32_t *code);
-uint32_t wait_for_one(HANDLE handle, uint32_t milliseconds, bool alertable, uint32_t *code);
-uint32_t signal_and_wait(HANDLE signal, HANDLE wait, uint32_t milliseconds, bool alertable, uint32_t *code);
-uint32_t sleep_for(uint64_t until, bool alertable);
-uint64_t moment_of(uint32_t milliseconds);
+uint32_t wait_for(const HANDLE *handles, DWORD count, bool all, int64_t due, bool alertable, uint32_t *code);
+uint32_t wait_for_one(HANDLE handle, int64_t due, bool alertable, uint32_t *code);
+uint32_t signal_and_wait(HANDLE signal, HANDLE handle, int64_t due, bool alertable, uint32_t *code);
+uint32_t sleep_for(int64_t due, bool alertable);
 void queue_call(thread *t, PNTAPCFUNC routine, ULONG_PTR one, ULONG_PTR two, ULONG_PTR three, const void *timer);
 void drop_calls(thread *t, const void *timer);
 

@@ -134,9 +134,9 @@ NTSTATUS NTAPI NtOpenEvent(PHANDLE opened, ACCESS_MASK access, const OBJECT_ATTR
 }
 
 NTSTATUS NTAPI NtPulseEvent(HANDLE event, PLONG previous) {
-    enter();
+    uint32_t by = enter();
     om_object_state before = state_of(event);
-    return ended_with(pulse(number_of(event)), event, previous, before.signaled);
+    return ended_with(om_pulse_event(&om, by, number_of(event)), event, previous, before.signaled);
 }
 
 NTSTATUS NTAPI NtQueryEvent(HANDLE event, ULONG what, PVOID told, ULONG length, PULONG written) {
@@ -246,7 +246,7 @@ NTSTATUS NTAPI NtQueryTimer(HANDLE timer, ULONG what, PVOID told, ULONG length, 
     return told_in_full(status, length, written);
 }
 
-NTSTATUS NTAPI NtSetTimer(HANDLE timer, const LARGE_INTEGER *due, PTIMER_APC_ROUTINE routine, PVOID argument, BOOLEAN resume, ULONG period,
+NTSTATUS NTAPI NtSetTimer(HANDLE timer, const LARGE_INTEGER *due, PTIMER_APC_ROUTINE routine, PVOID argument, BOOLEAN resume, LONG period,
                           PBOOLEAN previous) {
     (void)resume;
     enter();
@@ -261,17 +261,9 @@ NTSTATUS NTAPI NtSetTimer(HANDLE timer, const LARGE_INTEGER *due, PTIMER_APC_ROU
 
 /* ---- Waits, and procedure calls ---- */
 
-/* Stands for waits of the library's until a moment: so many milliseconds, and no less. */
-static uint32_t milliseconds_until(const LARGE_INTEGER *until) {
-    if (until == NULL) {
-        return INFINITE;
-    }
-    uint64_t moment = (uint64_t)until->QuadPart, units = moment > now() ? moment - now() : 0;
-    if (until->QuadPart < 0) {
-        units = 0 - moment;
-    }
-    uint64_t milliseconds = (units + UNITS_PER_MILLISECOND - 1) / UNITS_PER_MILLISECOND;
-    return milliseconds < INFINITE ? (uint32_t)milliseconds : INFINITE - 1;
+/* Until when a wait lasts: a moment, or below 0 so many units from now. */
+static int64_t due_at(const LARGE_INTEGER *until) {
+    return until == NULL ? OM_FOREVER : until->QuadPart;
 }
 
 /* Ends a call that answers with a wait's code, which is a status. */
@@ -282,11 +274,7 @@ static NTSTATUS waited(uint32_t status, uint32_t code) {
 
 NTSTATUS NTAPI NtDelayExecution(BOOLEAN alertable, const LARGE_INTEGER *until) {
     enter();
-    uint64_t moment = until == NULL ? NEVER : (uint64_t)until->QuadPart;
-    if (until != NULL && until->QuadPart < 0) {
-        moment = now() - moment;
-    }
-    return waited(OM_SUCCESS, sleep_for(moment, alertable));
+    return waited(OM_SUCCESS, sleep_for(due_at(until), alertable));
 }
 
 NTSTATUS NTAPI NtQuerySystemTime(PLARGE_INTEGER time) {
@@ -314,7 +302,7 @@ NTSTATUS NTAPI NtQueueApcThread(HANDLE handle, PNTAPCFUNC routine, ULONG_PTR one
 NTSTATUS NTAPI NtSignalAndWaitForSingleObject(HANDLE signal, HANDLE wait, BOOLEAN alertable, const LARGE_INTEGER *until) {
     uint32_t code = 0;
     enter();
-    uint32_t status = signal_and_wait(signal, wait, milliseconds_until(until), alertable, &code);
+    uint32_t status = signal_and_wait(signal, wait, due_at(until), alertable, &code);
     return waited(status, code);
 }
 
@@ -328,14 +316,14 @@ NTSTATUS NTAPI NtTestAlert(void) {
 NTSTATUS NTAPI NtWaitForMultipleObjects(ULONG count, const HANDLE *handles, BOOLEAN any, BOOLEAN alertable, const LARGE_INTEGER *until) {
     uint32_t code = 0;
     enter();
-    uint32_t status = wait_for(handles, count, !any, milliseconds_until(until), alertable, &code);
+    uint32_t status = wait_for(handles, count, !any, due_at(until), alertable, &code);
     return waited(status, code);
 }
 
 NTSTATUS NTAPI NtWaitForSingleObject(HANDLE handle, BOOLEAN alertable, const LARGE_INTEGER *until) {
     uint32_t code = 0;
     enter();
-    uint32_t status = wait_for_one(handle, milliseconds_until(until), alertable, &code);
+    uint32_t status = wait_for_one(handle, due_at(until), alertable, &code);
     return waited(status, code);
 }
 

@@ -174,11 +174,7 @@ HANDLE WINAPI CreateEventExW(LPSECURITY_ATTRIBUTES attributes, LPCWSTR name, DWO
 HANDLE WINAPI OpenEventA(DWORD access, BOOL inherit, LPCSTR name) { return opened_narrow(OM_EVENT, access, inherit, name); }
 HANDLE WINAPI OpenEventW(DWORD access, BOOL inherit, LPCWSTR name) { return opened_wide(OM_EVENT, access, inherit, name); }
 
-BOOL WINAPI PulseEvent(HANDLE event) {
-    enter();
-    return done(pulse(number_of(event)));
-}
-
+BOOL WINAPI PulseEvent(HANDLE event) { return done(om_pulse_event(&om, enter(), number_of(event))); }
 BOOL WINAPI ResetEvent(HANDLE event) { return done(om_reset_event(&om, enter(), number_of(event))); }
 BOOL WINAPI SetEvent(HANDLE event) { return done(om_set_event(&om, enter(), number_of(event))); }
 

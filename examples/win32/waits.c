@@ -6,12 +6,11 @@
 
 /* ---- Procedure calls. https://learn.microsoft.com/windows/win32/sync/asynchronous-procedure-calls ---- */
 
-/* Stands for a wait of the library's that such a call ends: one that is alertable is expired, and its thread runs its calls in the place of the
- * timeout. One that was answered already stays so. */
+/* A wait that is alertable ends for such a call. One that was answered already stays so. */
 static void alert(thread *t) {
-    if (t->is_alertable && (om_wait_of(&om, t->number) == 0 || om_expire(&om, t->number) == OM_SUCCESS)) {
-        t->is_alerted = true;
-        pthread_cond_signal(&t->woken);
+    uint32_t wait = t->is_alertable ? om_wait_of(&om, t->number) : 0;
+    if (wait != 0) {
+        om_alert(&om, wait);
     }
 }
 
@@ -42,43 +41,40 @@ void drop_calls(thread *t, const void *timer) {
     }
 }
 
-/* The code of a wait that the caller's procedure calls have ended, which it runs now. */
-static uint32_t ended_by_calls(void) {
-    me->is_alerted = false;
-    run_calls();
-    return WAIT_IO_COMPLETION;
+/* ---- Waits. They last until a moment as the library takes it. ---- */
+
+/* What satisfies a wait at once goes before a call that is queued, and that before the moment. */
+static int64_t until(int64_t due, bool alertable) {
+    return alertable && me->calls != NULL ? 0 : due;
 }
 
-/* ---- Waits ---- */
-
-/* Under the lock, which the caller has again when its wait is over: 0 and the wait's code, or why it is refused. What satisfies the wait at once goes
- * before a call that is queued, and that before a timeout of 0. */
-static uint32_t wait_by_numbers(const uint32_t *handles, size_t count, bool all, uint32_t milliseconds, bool alertable, uint32_t *code) {
-    tell_time();
-    bool has_calls = alertable && me->calls != NULL;
-    uint32_t status = om_wait(&om, me->number, all, has_calls ? 0 : milliseconds, handles, count, code);
+/* Under the lock, which the caller has again when its wait is over: 0 and the wait's code, or why it is refused. */
+static uint32_t waited_for(uint32_t status, bool alertable, uint32_t *code) {
     look_round();
-    if (status == OM_SUCCESS && has_calls && *code == OM_WAIT_TIMEOUT) {
-        *code = ended_by_calls();
-    } else if (status == OM_ERROR_IO_PENDING) {
+    if (status == OM_ERROR_IO_PENDING) {
         me->is_alertable = alertable;
         *code = sleep_until_answered();
         me->is_alertable = false;
-        if (me->is_alerted) {
-            *code = ended_by_calls();
-        }
         status = OM_SUCCESS;
+    }
+    if (status == OM_SUCCESS && alertable && me->calls != NULL && (*code == WAIT_TIMEOUT || *code == WAIT_IO_COMPLETION)) {
+        *code = WAIT_IO_COMPLETION;
+        run_calls();
     }
     return status;
 }
 
 /* One handle may be what stands for the caller itself: it waits by a handle of its own for that. */
-uint32_t wait_for_one(HANDLE handle, uint32_t milliseconds, bool alertable, uint32_t *code) {
+static uint32_t wait_behind(const HANDLE *signal, HANDLE handle, int64_t due, bool alertable, uint32_t *code) {
     bool is_process = handle == GetCurrentProcess(), is_own = is_process || handle == GetCurrentThread();
     uint32_t status = is_own ? given(is_process ? &me->of->own : &me->own, me->of, SYNCHRONIZE, false, &handle) : OM_SUCCESS;
     uint32_t number = number_of(handle);
     if (status == OM_SUCCESS) {
-        status = wait_by_numbers(&number, 1, false, milliseconds, alertable, code);
+        tell_time();
+        due = until(due, alertable);
+        status = signal == NULL ? om_wait_until(&om, me->number, false, due, &number, 1, code)
+                                : om_signal_and_wait(&om, me->number, number_of(*signal), number, due, code);
+        status = waited_for(status, alertable, code);
         if (is_own) {
             om_close(&om, me->number, number);
         }
@@ -86,7 +82,15 @@ uint32_t wait_for_one(HANDLE handle, uint32_t milliseconds, bool alertable, uint
     return status;
 }
 
-uint32_t wait_for(const HANDLE *handles, DWORD count, bool all, uint32_t milliseconds, bool alertable, uint32_t *code) {
+uint32_t wait_for_one(HANDLE handle, int64_t due, bool alertable, uint32_t *code) {
+    return wait_behind(NULL, handle, due, alertable, code);
+}
+
+uint32_t signal_and_wait(HANDLE signal, HANDLE handle, int64_t due, bool alertable, uint32_t *code) {
+    return wait_behind(&signal, handle, due, alertable, code);
+}
+
+uint32_t wait_for(const HANDLE *handles, DWORD count, bool all, int64_t due, bool alertable, uint32_t *code) {
     uint32_t numbers[MAXIMUM_WAIT_OBJECTS];
     if (count > MAXIMUM_WAIT_OBJECTS) {
         return OM_ERROR_INVALID_PARAMETER;
@@ -94,49 +98,16 @@ uint32_t wait_for(const HANDLE *handles, DWORD count, bool all, uint32_t millise
     for (DWORD i = 0; i < count; i++) {
         numbers[i] = number_of(handles[i]);
     }
-    return wait_by_numbers(numbers, count, all, milliseconds, alertable, code);
+    tell_time();
+    return waited_for(om_wait_until(&om, me->number, all, until(due, alertable), numbers, count, code), alertable, code);
 }
 
-/* Stands for a call of the library's: a set and a reset, between which no other call comes, wake who waits and leave nobody else a signal. */
-uint32_t pulse(uint32_t handle) {
-    uint32_t status = om_set_event(&om, me->number, handle);
-    return status != OM_SUCCESS ? status : om_reset_event(&om, me->number, handle);
-}
-
-/* Stands for a call of the library's: a signal and a wait, between which no other call comes. Both handles are looked at before. */
-uint32_t signal_and_wait(HANDLE signal, HANDLE wait, uint32_t milliseconds, bool alertable, uint32_t *code) {
-    om_handle_info signaled, waited;
-    uint32_t status = query(signal, &signaled), before;
-    if (status != OM_SUCCESS || (status = query(wait, &waited)) != OM_SUCCESS) {
-        return status;
-    }
-    if ((waited.access & SYNCHRONIZE) == 0) {
-        return OM_ERROR_ACCESS_DENIED;
-    }
-    switch (signaled.kind) {
-    case OM_EVENT: status = om_set_event(&om, me->number, number_of(signal)); break;
-    case OM_MUTEX: status = om_release_mutex(&om, me->number, number_of(signal)); break;
-    case OM_SEMAPHORE: status = om_release_semaphore(&om, me->number, number_of(signal), 1, &before); break;
-    default: status = OM_ERROR_INVALID_HANDLE;
-    }
-    look_round();
-    return status != OM_SUCCESS ? status : wait_for_one(wait, milliseconds, alertable, code);
-}
-
-/* The moment so many milliseconds from now. */
-uint64_t moment_of(uint32_t milliseconds) {
-    return milliseconds == INFINITE ? NEVER : now() + (uint64_t)milliseconds * UNITS_PER_MILLISECOND;
-}
-
-/* Under the lock: WAIT_IO_COMPLETION, or 0 when the moment has come. */
-uint32_t sleep_for(uint64_t until, bool alertable) {
-    if (alertable && me->calls != NULL) {
-        return ended_by_calls();
-    }
-    me->is_alertable = alertable;
-    sleep_until(until);
-    me->is_alertable = false;
-    return me->is_alerted ? ended_by_calls() : 0;
+/* 0 when the moment has come, or WAIT_IO_COMPLETION. */
+uint32_t sleep_for(int64_t due, bool alertable) {
+    uint32_t code = WAIT_TIMEOUT;
+    tell_time();
+    waited_for(om_sleep(&om, me->number, until(due, alertable), &code), alertable, &code);
+    return code == WAIT_TIMEOUT ? 0 : code;
 }
 
 /* Ends a call that answers with a wait's code. */
@@ -165,7 +136,7 @@ DWORD WINAPI QueueUserAPC(PAPCFUNC routine, HANDLE handle, ULONG_PTR argument) {
 DWORD WINAPI SignalObjectAndWait(HANDLE signal, HANDLE wait, DWORD milliseconds, BOOL alertable) {
     uint32_t code = 0;
     enter();
-    uint32_t status = signal_and_wait(signal, wait, milliseconds, alertable, &code);
+    uint32_t status = signal_and_wait(signal, wait, om_due_in(milliseconds), alertable, &code);
     return waited(status, code);
 }
 
@@ -173,7 +144,7 @@ void WINAPI Sleep(DWORD milliseconds) { SleepEx(milliseconds, FALSE); }
 
 DWORD WINAPI SleepEx(DWORD milliseconds, BOOL alertable) {
     enter();
-    uint32_t code = sleep_for(moment_of(milliseconds), alertable);
+    uint32_t code = sleep_for(om_due_in(milliseconds), alertable);
     unlocked(OM_SUCCESS);
     if (milliseconds == 0) {
         sched_yield();
@@ -188,7 +159,7 @@ DWORD WINAPI WaitForMultipleObjects(DWORD count, const HANDLE *handles, BOOL all
 DWORD WINAPI WaitForMultipleObjectsEx(DWORD count, const HANDLE *handles, BOOL all, DWORD milliseconds, BOOL alertable) {
     uint32_t code = 0;
     enter();
-    uint32_t status = wait_for(handles, count, all, milliseconds, alertable, &code);
+    uint32_t status = wait_for(handles, count, all, om_due_in(milliseconds), alertable, &code);
     return waited(status, code);
 }
 
@@ -197,6 +168,6 @@ DWORD WINAPI WaitForSingleObject(HANDLE handle, DWORD milliseconds) { return Wai
 DWORD WINAPI WaitForSingleObjectEx(HANDLE handle, DWORD milliseconds, BOOL alertable) {
     uint32_t code = 0;
     enter();
-    uint32_t status = wait_for_one(handle, milliseconds, alertable, &code);
+    uint32_t status = wait_for_one(handle, om_due_in(milliseconds), alertable, &code);
     return waited(status, code);
 }

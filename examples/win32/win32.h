@@ -410,7 +410,7 @@ NTSTATUS NTAPI NtCancelTimer(HANDLE timer, PBOOLEAN previous);
 NTSTATUS NTAPI NtCreateTimer(PHANDLE made, ACCESS_MASK access, const OBJECT_ATTRIBUTES *attributes, TIMER_TYPE type);
 NTSTATUS NTAPI NtOpenTimer(PHANDLE opened, ACCESS_MASK access, const OBJECT_ATTRIBUTES *attributes);
 NTSTATUS NTAPI NtQueryTimer(HANDLE timer, ULONG what, PVOID told, ULONG length, PULONG written);
-NTSTATUS NTAPI NtSetTimer(HANDLE timer, const LARGE_INTEGER *due, PTIMER_APC_ROUTINE routine, PVOID argument, BOOLEAN resume, ULONG period,
+NTSTATUS NTAPI NtSetTimer(HANDLE timer, const LARGE_INTEGER *due, PTIMER_APC_ROUTINE routine, PVOID argument, BOOLEAN resume, LONG period,
                           PBOOLEAN previous);
 
 /* ---- ntdll: waits, and procedure calls. A moment is since 1601, or below 0 so many units of 100 ns from now; no moment is for ever. ---- */

@@ -320,16 +320,28 @@ static void close_handle(thread *by, const line *call) {
 /* The moment that a timer is set to: below 0 it is from now. */
 static uint64_t moment_of(int64_t due) { return due < 0 ? all.now + (0 - (uint64_t)due) : (uint64_t)due; }
 
+/* A timer has come: with a period it is due again, at the first moment behind now that lies whole periods behind. */
+static void come(object *timer) {
+    timer->is_due = timer->period > 0;
+    if (timer->is_due)
+        timer->due += ((all.now - timer->due) / timer->period + 1) * timer->period;
+}
+
 static void set_timer(thread *by, line *call) {
     uint64_t due = moment_of(call->moment);
     entry *timer = entry_of(home_of(by), call->handles[0]);
+    object *of;
     desk *at;
 
     call->initial = due <= all.now;
     at = ask_thread(by, call);
     if (at->error == 0 && timer && timer->slot != UNKNOWN) {
-        all.objects[timer->slot].is_due = due > all.now;
-        all.objects[timer->slot].due = due;
+        of = &all.objects[timer->slot];
+        of->is_due = true;
+        of->due = due;
+        of->period = (uint64_t)call->integers[1] * 10000;
+        if (call->initial)
+            come(of);
     }
     if (call->initial)
         Sleep(all.settle);
@@ -345,24 +357,32 @@ static void cancel_timer(thread *by, const line *call) {
     print_done(at, "done");
 }
 
-static void wait_for(thread *by, const line *call) {
-    desk *at = ask_thread(by, call);
+static void wait_for(thread *by, line *call) {
+    uint64_t until = call->has_moment ? moment_of(call->moment) : all.now + (uint64_t)call->timeout * 10000;
+    bool is_met = call->verb == VERB_SIGNALWAIT;
+    desk *at;
     entry *waited;
 
+    if (call->has_moment)
+        call->timeout = until > all.now;
+    at = ask_thread(by, call);
+    if (is_met)
+        Sleep(all.settle);
     if (!at->pending) {
         print_number(at, "code");
+        all.waits_given += is_met && at->error == 0;
         return;
     }
     Sleep(all.settle / 2);
     by->wait = ++all.waits_given;
     by->is_pending = true;
     by->has_deadline = call->timeout != INFINITE;
-    by->deadline = all.now + (uint64_t)call->timeout * 10000;
+    by->deadline = until;
     for (by->count = 0; by->count < call->count; by->count++) {
         waited = entry_of(home_of(by), call->handles[by->count]);
         by->slots[by->count] = waited ? waited->slot : UNKNOWN;
     }
-    printf("pending w%" PRIu32 "\n", by->wait);
+    printf("%s w%" PRIu32 "\n", is_met ? "signaled" : "pending", by->wait);
 }
 
 /* Whether a thread would change a host's object, which Windows refuses of an object that is no event, mutex and so on. */
@@ -372,6 +392,8 @@ static bool is_foreign(thread *by, const line *call) {
     switch (call->verb) {
     case VERB_SET:
     case VERB_RESET:
+    case VERB_PULSE:
+    case VERB_SIGNALWAIT:
     case VERB_RELEASE:
     case VERB_UNLOCK:
     case VERB_SETTIMER:
@@ -400,7 +422,9 @@ static void play_call(line *call) {
     case VERB_RELEASE: print_number(ask_thread(by, call), "previous"); break;
     case VERB_SETTIMER: set_timer(by, call); break;
     case VERB_CANCEL: cancel_timer(by, call); break;
-    case VERB_WAIT: wait_for(by, call); break;
+    case VERB_WAIT:
+    case VERB_SIGNALWAIT:
+    case VERB_SLEEP: wait_for(by, call); break;
     default: print_done(ask_thread(by, call), "done"); break;
     }
 }
@@ -440,6 +464,23 @@ static void play_expire(const line *call) {
         printf("expired w%" PRIu32 "\n", call->wait);
 }
 
+/* (the worker tells each end by a procedure call as that of a wait whose time was up) */
+static void play_alerted(thread *of) {
+    of->seat.at->value = WAIT_IO_COMPLETION;
+    puts("done");
+}
+
+static void play_alert(const line *call) {
+    thread *of = waiter(call->wait);
+
+    if (!of)
+        puts("?");
+    else if (is_over(of, all.settle) || !expire(of))
+        puts("error 87");
+    else
+        play_alerted(of);
+}
+
 static bool is_due(const object *of) { return of->is_there && of->is_due && of->due <= all.now; }
 
 /* The timer that is due first, at the moment that it is or before it. */
@@ -465,7 +506,7 @@ static void tick(const line *call) {
     }
     all.now = (uint64_t)call->moment;
     while ((at = first_due()) != UNKNOWN) {
-        all.objects[at].is_due = false;
+        come(&all.objects[at]);
         by = holder_of(at, &real);
         if (by) {
             ask_clerk(by, VERB_TICK, 0, real);
@@ -538,6 +579,7 @@ static void play(line *call) {
     case VERB_TICK: tick(call); break;
     case VERB_RESULT: result(call); break;
     case VERB_EXPIRE: play_expire(call); break;
+    case VERB_ALERT: play_alert(call); break;
     case VERB_ENDTHREAD: play_endthread(call); break;
     case VERB_EXIT: play_exit(call); break;
     case VERB_COUNT: count(call); break;

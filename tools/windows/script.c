@@ -13,7 +13,7 @@ typedef struct {
    n, g, f a session, the mask of flags and the flags; i a count; V and D a moment and a due time; M rights; a, e, o, c
    the words for a reset, for an event's and a mutex's first state, and for what a child inherits; k a kind, or y,
    the type of a host's object; O the options of a create; N those of an open; X what a duplicate has behind its thread;
-   W a wait's mode and timeout. */
+   L how long a wait lasts, W its mode before that. */
 static const struct {
     const char *word;
     enum verb verb;
@@ -35,15 +35,20 @@ static const struct {
     {"setflags", VERB_SETFLAGS, KIND_EVENT, "thgf"},
     {"set", VERB_SET, KIND_EVENT, "th"},
     {"reset", VERB_RESET, KIND_EVENT, "th"},
+    {"pulse", VERB_PULSE, KIND_EVENT, "th"},
     {"release", VERB_RELEASE, KIND_EVENT, "thi"},
     {"unlock", VERB_UNLOCK, KIND_EVENT, "th"},
     {"signal", VERB_SIGNAL, KIND_EVENT, "Se"},
     {"settimer", VERB_SETTIMER, KIND_EVENT, "thD"},
+    {"setperiod", VERB_SETTIMER, KIND_EVENT, "thDi"},
     {"cancel", VERB_CANCEL, KIND_EVENT, "th"},
     {"tick", VERB_TICK, KIND_EVENT, "V"},
     {"wait", VERB_WAIT, KIND_EVENT, "tWH"},
+    {"signalwait", VERB_SIGNALWAIT, KIND_EVENT, "thLh"},
+    {"sleep", VERB_SLEEP, KIND_EVENT, "tL"},
     {"result", VERB_RESULT, KIND_EVENT, "w"},
     {"expire", VERB_EXPIRE, KIND_EVENT, "w"},
+    {"alert", VERB_ALERT, KIND_EVENT, "w"},
     {"endthread", VERB_ENDTHREAD, KIND_EVENT, "t"},
     {"exit", VERB_EXIT, KIND_EVENT, "p"},
     {"count", VERB_COUNT, KIND_EVENT, "S"},
@@ -201,14 +206,17 @@ static bool duplicate(rest *of, line *read) {
     return true;
 }
 
-static bool mode(rest *of, line *read) {
-    if (!either(of, "any", "all", &read->all))
-        return false;
-    if (!take(of, "inf"))
-        return numbered(of, 0, &read->timeout);
-    read->timeout = UINT32_MAX;
-    return true;
+static bool limit(rest *of, line *read) {
+    if (take(of, "inf")) {
+        read->timeout = UINT32_MAX;
+        return true;
+    }
+    read->has_moment = of->more && of->at < of->end && *of->at == '@';
+    of->at += read->has_moment;
+    return read->has_moment ? signed_number(of, 19, INT64_MAX, &read->moment) : numbered(of, 0, &read->timeout);
 }
+
+static bool mode(rest *of, line *read) { return either(of, "any", "all", &read->all) && limit(of, read); }
 
 static bool type(rest *of, line *read) { return numbered(of, 'k', &read->type) && read->type < 256; }
 
@@ -245,6 +253,7 @@ static bool part(char letter, rest *of, line *read) {
     case 'y': return read->is_host = type(of, read);
     case 'k': return kind(of, read);
     case 'O': return options(of, read);
+    case 'L': return limit(of, read);
     case 'N': read->inherit = take(of, "inherit"); return name(of, read);
     case 'X': return duplicate(of, read);
     default: return mode(of, read);

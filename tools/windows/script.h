@@ -34,6 +34,10 @@ enum verb {
     VERB_COUNT,
     VERB_REAP,
     VERB_SIGNAL,
+    VERB_PULSE,
+    VERB_SIGNALWAIT,
+    VERB_SLEEP,
+    VERB_ALERT,
     VERB_DIR,
     VERB_PIN,
     VERB_UNPIN,
@@ -52,15 +56,16 @@ typedef struct {
     bool inherit; /* the option, and that a child inherits */
     bool manual; /* a manual reset */
     bool initial; /* set or owned from the first */
-    int32_t integers[2]; /* a semaphore's counts; a release's */
+    int32_t integers[2]; /* a semaphore's counts; behind a nought a release's, or a timer's period */
     bool has_access, has_grant, has_name;
     uint32_t access, grant;
     char name[MOST_BYTES + 1];
     bool has_target, same, close_source;
     uint32_t source, target; /* the processes of a duplicate */
     uint32_t mask, flags;
-    int64_t moment; /* of a tick; of a timer, below 0 from now */
+    int64_t moment; /* of a tick; of a timer or the end of a wait, below 0 from now */
     bool all;
+    bool has_moment; /* in the place of a timeout */
     uint32_t timeout;
     uint32_t count; /* of handles */
     uint32_t handles[MOST_HANDLES];

@@ -38,7 +38,7 @@ typedef struct {
     bool is_there, is_due, is_host;
     uint32_t generation, handles;
     uint64_t path; /* 0 without a name */
-    uint64_t due;
+    uint64_t due, period; /* of a timer; 0 for none */
 } object;
 
 extern struct tables {

@@ -173,11 +173,21 @@ static BOOL release(desk *at) {
     return is_done;
 }
 
-static BOOL set_timer(HANDLE timer, bool is_due) {
+/* A period that can be is the script's. */
+static BOOL set_timer(HANDLE timer, bool is_due, int32_t period) {
     LARGE_INTEGER due;
 
     due.QuadPart = is_due ? 0 : FAR_FROM_NOW;
-    return SetWaitableTimer(timer, &due, 0, NULL, NULL, FALSE);
+    return SetWaitableTimer(timer, &due, period < 0 ? period : 0, NULL, NULL, FALSE);
+}
+
+/* A wait for as many objects as there are, the last of those that the line names. */
+static DWORD wait_so(const desk *at, DWORD time, BOOL alertable) {
+    DWORD count = at->asked.verb == VERB_SIGNALWAIT ? 1 : at->asked.count;
+
+    if (at->asked.verb == VERB_SLEEP)
+        return time == 0 ? WAIT_TIMEOUT : SleepEx(time, alertable);
+    return WaitForMultipleObjectsEx(count, at->real + (at->asked.count - count), at->asked.all, time, alertable);
 }
 
 /* A wait is tried once without waiting, so that it is known whether it blocks, and only then does it: nobody else makes
@@ -187,11 +197,11 @@ static void wait_for(const seat *here) {
     DWORD code;
 
     SleepEx(0, TRUE);
-    code = WaitForMultipleObjectsEx(at->asked.count, at->real, at->asked.all, 0, FALSE);
+    code = at->asked.verb == VERB_SIGNALWAIT ? SignalObjectAndWait(at->real[0], at->real[1], 0, FALSE) : wait_so(at, 0, FALSE);
     if (code == WAIT_TIMEOUT && at->asked.timeout != 0) {
         at->pending = true;
         SetEvent(here->done);
-        code = WaitForMultipleObjectsEx(at->asked.count, at->real, at->asked.all, INFINITE, TRUE);
+        code = wait_so(at, INFINITE, TRUE);
     }
     at->error = code == WAIT_FAILED ? GetLastError() : 0;
     at->value = code == WAIT_IO_COMPLETION ? WAIT_TIMEOUT : code;
@@ -211,9 +221,10 @@ static void make_call(const seat *here) {
     case VERB_SETFLAGS: told(at, SetHandleInformation(at->real[0], at->asked.mask, at->asked.flags)); break;
     case VERB_SET: told(at, SetEvent(at->real[0])); break;
     case VERB_RESET: told(at, ResetEvent(at->real[0])); break;
+    case VERB_PULSE: told(at, PulseEvent(at->real[0])); break;
     case VERB_RELEASE: told(at, release(at)); break;
     case VERB_UNLOCK: told(at, ReleaseMutex(at->real[0])); break;
-    case VERB_SETTIMER: told(at, set_timer(at->real[0], at->asked.initial)); break;
+    case VERB_SETTIMER: told(at, set_timer(at->real[0], at->asked.initial, at->asked.integers[1])); break;
     case VERB_CANCEL: told(at, CancelWaitableTimer(at->real[0])); break;
     default: wait_for(here); break;
     }
@@ -274,12 +285,12 @@ static void count_handles(desk *at) {
 static void fire(desk *at) {
     HANDLE self = GetCurrentProcess(), other;
 
-    told(at, set_timer(at->real[0], true));
+    told(at, set_timer(at->real[0], true, 0));
     if (at->error != ERROR_ACCESS_DENIED)
         return;
     if (!DuplicateHandle(self, at->real[0], self, &other, TIMER_MODIFY_STATE, FALSE, 0))
         return;
-    told(at, set_timer(other, true));
+    told(at, set_timer(other, true, 0));
     CloseHandle(other);
 }
 

@@ -79,6 +79,17 @@ pub const DUPLICATE_CLOSE_SOURCE: u32 = 1;
 pub const DUPLICATE_SAME_ACCESS: u32 = 2;
 /// The milliseconds of a wait without end.
 pub const INFINITE: u32 = u32::MAX;
+/// The moment until which a wait lasts for good.
+pub const FOREVER: i64 = 0x7FFF_FFFF_FFFF_FFFF;
+
+/// Until when a wait of so many milliseconds lasts, as [`Manager::wait_until`], [`Manager::sleep`] and [`Manager::signal_and_wait`] take it.
+pub fn due_in(milliseconds: u32) -> i64 {
+    if milliseconds == INFINITE {
+        FOREVER
+    } else {
+        -10_000 * i64::from(milliseconds)
+    }
+}
 /// The most bytes of a recorded line, with its line feed.
 pub const LINE_MOST: u32 = 4098;
 /// Which release this binding is of, 1.2.0: two decimal digits each for the second number and the third.
@@ -153,11 +164,12 @@ impl fmt::Display for Error {
 
 impl std::error::Error for Error {}
 
-/// The Win32 name of a number that a call answers, or of `WAIT_TIMEOUT`, for logs; "unknown" for another.
+/// The Win32 name of a number that a call answers, or of `WAIT_TIMEOUT` or `WAIT_IO_COMPLETION`, for logs; "unknown" for another.
 pub fn error_name(number: u32) -> &'static str {
     match number {
         0 => "ERROR_SUCCESS",
         183 => "ERROR_ALREADY_EXISTS",
+        192 => "WAIT_IO_COMPLETION",
         258 => "WAIT_TIMEOUT",
         997 => "ERROR_IO_PENDING",
         _ => Error::ALL.iter().find(|error| error.number() == number).map_or("unknown", |error| error.name()),
@@ -178,7 +190,7 @@ pub fn map_access(kind: u32, mask: u32) -> u32 {
     generic.iter().filter(|(bit, _)| mask & bit != 0).fold(mask & 0x0FFF_FFFF, |rights, (_, of_kind)| rights | of_kind)
 }
 
-/// The NTSTATUS of a number that a call answers, or of `WAIT_TIMEOUT` (`om_nt_status`).
+/// The NTSTATUS of a number that a call answers, or of `WAIT_TIMEOUT` or `WAIT_IO_COMPLETION` (`om_nt_status`).
 pub fn nt_status(number: u32) -> u32 {
     match number {
         0 => 0x0000_0000,
@@ -190,6 +202,7 @@ pub fn nt_status(number: u32) -> u32 {
         87 => 0xC000_000D,
         183 => 0x4000_0000,
         206 => 0xC000_0106,
+        192 => 0x0000_00C0,
         258 => 0x0000_0102,
         288 => 0xC000_0046,
         298 => 0xC000_0047,
@@ -314,23 +327,27 @@ pub enum Outcome {
     Abandoned(u32),
     /// Its time was up.
     TimedOut,
+    /// An alert ended it.
+    Alerted,
 }
 
 impl Outcome {
     fn of(code: u32) -> Outcome {
         match code {
             258 => Outcome::TimedOut,
+            192 => Outcome::Alerted,
             128.. => Outcome::Abandoned(code - 128),
             _ => Outcome::Signaled(code),
         }
     }
 
-    /// The number that Win32 has for it: `WAIT_OBJECT_0`, `WAIT_ABANDONED_0` and an index, or `WAIT_TIMEOUT`.
+    /// The number that Win32 has for it: `WAIT_OBJECT_0`, `WAIT_ABANDONED_0` and an index, `WAIT_TIMEOUT` or `WAIT_IO_COMPLETION`.
     pub fn code(self) -> u32 {
         match self {
             Outcome::Signaled(index) => index,
             Outcome::Abandoned(index) => 128 + index,
             Outcome::TimedOut => 258,
+            Outcome::Alerted => 192,
         }
     }
 }
@@ -503,6 +520,22 @@ pub struct Name {
     pub session: u32,
     /// The name without its prefix.
     pub base: Vec<u8>,
+}
+
+/// What a call writes into a room, which is made as long as the call says that it needs.
+fn whole(mut call: impl FnMut(&mut Vec<u8>, &mut usize) -> u32) -> Result<Vec<u8>, Error> {
+    let mut told: Vec<u8> = Vec::new();
+    loop {
+        let mut written = 0;
+        let status = call(&mut told, &mut written);
+        if status == Error::InsufficientBuffer.number() {
+            told.resize(written, 0);
+            continue;
+        }
+        done(status)?;
+        told.truncate(written);
+        return Ok(told);
+    }
 }
 
 fn done(status: u32) -> Result<(), Error> {
@@ -738,6 +771,11 @@ impl Manager {
         done(unsafe { sys::om_reset_event(&mut self.m, thread, handle) })
     }
 
+    /// Sets an event, so that who waits for it may go on, and resets it.
+    pub fn pulse_event(&mut self, thread: u32, handle: u32) -> Result<(), Error> {
+        done(unsafe { sys::om_pulse_event(&mut self.m, thread, handle) })
+    }
+
     /// Raises a semaphore's count, and says what it was.
     pub fn release_semaphore(&mut self, thread: u32, handle: u32, count: i32) -> Result<u32, Error> {
         told(|before| unsafe { sys::om_release_semaphore(&mut self.m, thread, handle, count, before) })
@@ -758,7 +796,12 @@ impl Manager {
         done(unsafe { sys::om_set_timer(&mut self.m, thread, handle, due) })
     }
 
-    /// Takes a timer's moment away.
+    /// The same with a period in milliseconds, 0 for none: it is signaled each time, and due again.
+    pub fn set_periodic_timer(&mut self, thread: u32, handle: u32, due: i64, period: i32) -> Result<(), Error> {
+        done(unsafe { sys::om_set_periodic_timer(&mut self.m, thread, handle, due, period) })
+    }
+
+    /// Takes a timer's moment away, and its period.
     pub fn cancel_timer(&mut self, thread: u32, handle: u32) -> Result<(), Error> {
         done(unsafe { sys::om_cancel_timer(&mut self.m, thread, handle) })
     }
@@ -802,6 +845,23 @@ impl Manager {
         })
     }
 
+    /// The same until a moment in units of 100 ns, or below 0 for so many units from now, and for good until [`FOREVER`].
+    pub fn wait_until(&mut self, thread: u32, all: bool, due: i64, handles: &[u32]) -> Result<Waited, Error> {
+        waited(|answer| unsafe {
+            sys::om_wait_until(&mut self.m, thread, all, due, handles.as_ptr(), handles.len(), answer)
+        })
+    }
+
+    /// Signals the object of one handle and waits for that of another until such a moment, as one call.
+    pub fn signal_and_wait(&mut self, thread: u32, signal: u32, handle: u32, due: i64) -> Result<Waited, Error> {
+        waited(|answer| unsafe { sys::om_signal_and_wait(&mut self.m, thread, signal, handle, due, answer) })
+    }
+
+    /// Waits for nothing until such a moment.
+    pub fn sleep(&mut self, thread: u32, due: i64) -> Result<Waited, Error> {
+        waited(|answer| unsafe { sys::om_sleep(&mut self.m, thread, due, answer) })
+    }
+
     /// Takes the answer of one wait.
     pub fn wait_result(&mut self, wait: u32) -> Result<Waited, Error> {
         waited(|answer| unsafe { sys::om_wait_result(&mut self.m, wait, answer) })
@@ -810,6 +870,11 @@ impl Manager {
     /// A pending wait's time is up.
     pub fn expire(&mut self, wait: u32) -> Result<(), Error> {
         done(unsafe { sys::om_expire(&mut self.m, wait) })
+    }
+
+    /// A pending wait ends for what was queued to its thread, as an alertable one does.
+    pub fn alert(&mut self, wait: u32) -> Result<(), Error> {
+        done(unsafe { sys::om_alert(&mut self.m, wait) })
     }
 
     /// Whether a wait is pending.
@@ -1028,17 +1093,13 @@ impl Manager {
 
     /// The whole manager as bytes, from which [`load`](Manager::load) makes it again; but for what is pinned and recorded.
     pub fn save(&mut self) -> Result<Vec<u8>, Error> {
-        let mut saved: Vec<u8> = Vec::new();
-        loop {
-            let mut written = 0;
-            let status = unsafe { sys::om_save(&mut self.m, saved.as_mut_ptr().cast(), saved.len(), &mut written) };
-            if status == Error::InsufficientBuffer.number() {
-                saved.resize(written, 0);
-                continue;
-            }
-            done(status)?;
-            return Ok(saved);
-        }
+        whole(|bytes, written| unsafe { sys::om_save(&mut self.m, bytes.as_mut_ptr().cast(), bytes.len(), written) })
+    }
+
+    /// All that the manager holds, as lines that a person reads: processes, threads and their waits, handles, objects, deadlocks.
+    pub fn dump(&mut self) -> Result<String, Error> {
+        let told = whole(|text, written| unsafe { sys::om_dump(&mut self.m, text.as_mut_ptr().cast(), text.len(), written) })?;
+        Ok(String::from_utf8_lossy(&told).into_owned())
     }
 
     /// A reader, which pins objects on any thread without this manager.

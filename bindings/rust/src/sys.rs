@@ -173,6 +173,7 @@ extern "C" {
     pub fn om_resolve(m: *mut om_manager, process: u32, handle: u32, object: *mut om_object) -> u32;
     pub fn om_set_event(m: *mut om_manager, thread: u32, handle: u32) -> u32;
     pub fn om_reset_event(m: *mut om_manager, thread: u32, handle: u32) -> u32;
+    pub fn om_pulse_event(m: *mut om_manager, thread: u32, handle: u32) -> u32;
     pub fn om_release_semaphore(
         m: *mut om_manager,
         thread: u32,
@@ -183,6 +184,7 @@ extern "C" {
     pub fn om_release_mutex(m: *mut om_manager, thread: u32, handle: u32) -> u32;
     pub fn om_signal_host(m: *mut om_manager, slot: u32, generation: u32, signaled: bool) -> u32;
     pub fn om_set_timer(m: *mut om_manager, thread: u32, handle: u32, due: i64) -> u32;
+    pub fn om_set_periodic_timer(m: *mut om_manager, thread: u32, handle: u32, due: i64, period: i32) -> u32;
     pub fn om_cancel_timer(m: *mut om_manager, thread: u32, handle: u32) -> u32;
     pub fn om_tick(m: *mut om_manager, now: u64) -> u32;
     pub fn om_advance(m: *mut om_manager, now: u64) -> u32;
@@ -196,6 +198,24 @@ extern "C" {
         count: usize,
         answer: *mut u32,
     ) -> u32;
+    pub fn om_wait_until(
+        m: *mut om_manager,
+        thread: u32,
+        all: bool,
+        due: i64,
+        handles: *const u32,
+        count: usize,
+        answer: *mut u32,
+    ) -> u32;
+    pub fn om_signal_and_wait(
+        m: *mut om_manager,
+        thread: u32,
+        signal: u32,
+        handle: u32,
+        due: i64,
+        answer: *mut u32,
+    ) -> u32;
+    pub fn om_sleep(m: *mut om_manager, thread: u32, due: i64, answer: *mut u32) -> u32;
     pub fn om_wait_result(m: *mut om_manager, wait: u32, answer: *mut u32) -> u32;
     pub fn om_take_answered(
         m: *mut om_manager,
@@ -204,6 +224,7 @@ extern "C" {
         count: *mut usize,
     ) -> u32;
     pub fn om_expire(m: *mut om_manager, wait: u32) -> u32;
+    pub fn om_alert(m: *mut om_manager, wait: u32) -> u32;
     pub fn om_card(m: *mut om_manager, slot: u32, generation: u32, description: *mut om_description) -> u32;
     pub fn om_state(m: *mut om_manager, slot: u32, generation: u32, state: *mut om_object_state) -> u32;
     pub fn om_handle_state(m: *mut om_manager, process: u32, handle: u32, state: *mut om_object_state) -> u32;
@@ -265,6 +286,7 @@ extern "C" {
         capacity: usize,
         written: *mut usize,
     ) -> u32;
+    pub fn om_dump(m: *mut om_manager, text: *mut u8, capacity: usize, written: *mut usize) -> u32;
     pub fn om_save(m: *mut om_manager, bytes: *mut c_void, capacity: usize, written: *mut usize) -> u32;
     pub fn om_load(bytes: *const c_void, length: usize, m: *mut om_manager) -> u32;
     pub fn om_reader_new(m: *mut om_manager, r: *mut om_reader) -> u32;

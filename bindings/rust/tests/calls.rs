@@ -49,6 +49,36 @@ fn who_waits_for_whom_is_told() -> Result<(), Error> {
 }
 
 #[test]
+fn times_and_waits_are_those_of_windows() -> Result<(), Error> {
+    let mut m = Manager::new(&Limits::default())?;
+    let first = m.spawn(1)?;
+    let second = m.thread(first.process)?;
+    let event = m.create_event(first.thread, &Create::default(), false, false)?.opening();
+    let mutex = m.create_mutex(first.thread, &Create::default(), true)?.opening();
+    let timer = m.create_timer(first.thread, &Create::default(), false)?.opening();
+    let asleep = pending(m.sleep(second, obman::FOREVER)?);
+    m.alert(asleep)?;
+    assert_eq!(m.answers().collect::<Vec<_>>(), [Answer { wait: asleep, thread: second, outcome: Outcome::Alerted }]);
+    assert_eq!(m.sleep(second, obman::due_in(0))?, Waited::Over(Outcome::TimedOut));
+    let wait = pending(m.wait_until(second, false, 5, &[mutex.handle])?);
+    assert_eq!(m.signal_and_wait(first.thread, mutex.handle, event.handle, 0)?, Waited::Over(Outcome::TimedOut));
+    assert_eq!(m.wait_result(wait)?, Waited::Over(Outcome::Signaled(0)));
+    assert_eq!(m.signal_and_wait(first.thread, mutex.handle, event.handle, 0), Err(Error::NotOwner));
+    let wait = pending(m.signal_and_wait(second, mutex.handle, event.handle, obman::due_in(INFINITE))?);
+    m.pulse_event(first.thread, event.handle)?;
+    assert_eq!(m.wait_result(wait)?, Waited::Over(Outcome::Signaled(0)));
+    assert_eq!(m.wait_until(first.thread, true, -1, &[mutex.handle])?, Waited::Over(Outcome::Signaled(0)));
+    m.set_periodic_timer(first.thread, timer.handle, -5, 1)?;
+    assert_eq!(m.set_periodic_timer(first.thread, timer.handle, 5, -1), Err(Error::InvalidParameter));
+    m.tick(25_000)?;
+    assert_eq!((m.wait(second, false, 0, &[timer.handle])?, m.next_due()), (Waited::Over(Outcome::Signaled(0)), Some(30_005)));
+    let mut again = Manager::load(&m.save()?)?;
+    again.tick(30_005)?;
+    assert_eq!((again.wait(second, false, 0, &[timer.handle])?, again.next_due()), (Waited::Over(Outcome::Signaled(0)), Some(40_005)));
+    Ok(())
+}
+
+#[test]
 fn numbers_come_back() -> Result<(), Error> {
     let mut m = Manager::new_reusing(&Limits { threads: 2, waits: 1, ..Limits::default() })?;
     let first = m.spawn(1)?;

@@ -1,13 +1,14 @@
 //! Rows of calls, among them each that takes memory.
 use crate::ask::{Line, PLAIN};
 use ob_manager::CallOf::{
-    Child, CloseHandle, Counts, Duplicate, Expire, MakeEvent, MakeHost, MakeMutex, MakeSemaphore,
-    MakeTimer, OpenNamed, Reap, ReleaseMutex, ReleaseSemaphore, SetEvent, SetTimer, SignalHost,
-    Spawn, StartThread, Tick, WaitFor, WaitResult,
+    Alert, Child, CloseHandle, Counts, Duplicate, Expire, MakeEvent, MakeHost, MakeMutex,
+    MakeSemaphore, MakeTimer, OpenNamed, PulseEvent, Reap, ReleaseMutex, ReleaseSemaphore,
+    SetEvent, SetPeriodicTimer, SetTimer, SignalAndWait, SignalHost, Sleep, Spawn, StartThread,
+    Tick, WaitFor, WaitResult,
 };
 use ob_manager::Reply::{
     Closed, Code, CountsAre, Done, Duplicated, Exists, Expired, Made, Opened, Pending, Previous,
-    Reaped, Refused, Spawned, Started, Ticked,
+    Reaped, Refused, Signaled, Spawned, Started, Ticked,
 };
 use ob_manager::{Make, Mode, Timeout};
 use ob_rights::{Fault, Kind, Rights};
@@ -223,6 +224,38 @@ const HOST_OBJECTS: &[Line<'static>] = &[
     (SignalHost { id: THIRD, signaled: true }, Refused(Fault::Handle)),
 ];
 
+/// Waits for nothing, with a signal and until a moment, those that an alert ends, an event that is pulsed, and a timer
+/// with a period.
+#[rattlefmt::skip]
+const TIMES: &[Line<'static>] = &[
+    (Spawn { session: 1 }, Spawned { process: 1, thread: 1 }),
+    (StartThread { process: 1 }, Started { thread: 2 }),
+    (MakeEvent { thread: 1, make: LONG, manual: false, set: false }, Made { handle: 4, id: FIRST }),
+    (MakeMutex { thread: 1, make: PLAIN, owned: true }, Made { handle: 8, id: SECOND }),
+    (Sleep { thread: 1, timeout: Timeout::Zero }, Code { code: 258 }),
+    (Sleep { thread: 2, timeout: Timeout::Until(-5) }, Pending { wait: 1 }),
+    (Alert { wait: 1 }, Done),
+    (Alert { wait: 1 }, Refused(Fault::Parameter)),
+    (WaitResult { wait: 1 }, Code { code: 192 }),
+    (WaitFor { thread: 2, mode: Mode::Any, timeout: Timeout::Until(7), handles: &[8] }, Pending { wait: 2 }),
+    (SignalAndWait { thread: 1, signal: 8, timeout: Timeout::Zero, handle: 4 }, Code { code: 258 }),
+    (WaitResult { wait: 2 }, Code { code: 0 }),
+    (SignalAndWait { thread: 1, signal: 8, timeout: Timeout::Infinite, handle: 4 }, Refused(Fault::NotOwner)),
+    (SignalAndWait { thread: 1, signal: 4, timeout: Timeout::Infinite, handle: 4 }, Code { code: 0 }),
+    (SignalAndWait { thread: 2, signal: 8, timeout: Timeout::Millis(1), handle: 4 }, Signaled { wait: 5 }),
+    (PulseEvent { thread: 1, handle: 4 }, Done),
+    (WaitResult { wait: 5 }, Code { code: 0 }),
+    (WaitFor { thread: 1, mode: Mode::Any, timeout: Timeout::Zero, handles: &[4] }, Code { code: 258 }),
+    (MakeTimer { thread: 1, make: PLAIN, manual: false }, Made { handle: 12, id: THIRD }),
+    (SetPeriodicTimer { thread: 1, handle: 12, due: 10, period: -1 }, Refused(Fault::Parameter)),
+    (SetPeriodicTimer { thread: 1, handle: 12, due: 10, period: 1 }, Done),
+    (Tick { now: 30_000 }, Ticked { now: 30_000 }),
+    (WaitFor { thread: 1, mode: Mode::Any, timeout: Timeout::Zero, handles: &[12] }, Code { code: 0 }),
+    (WaitFor { thread: 1, mode: Mode::Any, timeout: Timeout::Until(30_000), handles: &[12] }, Code { code: 258 }),
+    (Tick { now: 30_010 }, Ticked { now: 30_010 }),
+    (WaitFor { thread: 1, mode: Mode::Any, timeout: Timeout::Until(0), handles: &[12] }, Code { code: 0 }),
+];
+
 /// All rows.
 pub const ROWS: &[&[Line<'static>]] = &[
     NAMED_EVENT_WAITS,
@@ -233,4 +266,5 @@ pub const ROWS: &[&[Line<'static>]] = &[
     GRANTS_ACROSS_PROCESSES,
     TIMERS,
     HOST_OBJECTS,
+    TIMES,
 ];

@@ -4,6 +4,7 @@ mod dues;
 mod filling;
 mod names;
 mod numbers;
+mod periods;
 mod pinning;
 mod pins;
 mod playing;

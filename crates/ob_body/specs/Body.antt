@@ -95,10 +95,10 @@ abbrev pub owner_of : Body → Option ℕ
 owner_of (Mutex m) = m.owner
 owner_of body = None
 
--- a timer set to a moment, cancelled, and at a moment that has come; other bodies stay
-abbrev pub after_arm : ℕ → ℕ → Body → Body
-after_arm due now (Timer t) = Timer (timer.after_arm due now t)
-after_arm due now body = body
+-- a timer set to a moment with a period, cancelled, and at a moment that has come; other bodies stay
+abbrev pub after_arm : ℕ → ℕ → ℕ → Body → Body
+after_arm due now period (Timer t) = Timer (timer.after_arm due now period t)
+after_arm due now period body = body
 
 abbrev pub after_disarm : Body → Body
 after_disarm (Timer t) = Timer (timer.after_disarm t)

@@ -1,5 +1,5 @@
 -- Bodies as bytes: a tag for the kind, and what each kind has.
-use Rattle.std.specs.Prelude.{ℕ, zero, suc, ◌<◌, ◌^◌, nat_lt, nat_le, ◌==◌, ◌&&◌, not, Bool, true, List, ◌∷◌, Option, Some, None, Err, if◌then◌else◌}
+use Rattle.std.specs.Prelude.{◌≡◌, ℕ, zero, suc, ◌<◌, ◌^◌, nat_lt, nat_le, ◌==◌, ◌&&◌, not, Bool, true, List, ◌∷◌, ◌++◌, Option, Some, None, Err, if◌then◌else◌}
 use Rattle.std.specs.Int.{w32, w64, to_le_bytes}
 use Rattle.ob_codec.specs.declared.fault.TextFault.TheVariants.{Tag}
 use Rattle.ob_codec.specs.Reading.{Read, as_at, both_at, flag_at, number_at, option_at, some_at, tagged_at}
@@ -12,8 +12,7 @@ use Rattle.ob_body.specs.MutexState.{MutexState}
 use Rattle.ob_body.specs.MutexState as mutex
 use Rattle.ob_body.specs.SemaphoreState.{SemaphoreState}
 use Rattle.ob_body.specs.SemaphoreState as semaphore
-use Rattle.ob_body.specs.TimerState.{TimerState}
-use Rattle.ob_body.specs.TimerState as timer
+use Rattle.ob_body.specs.TimerState.{TimerState, is_possible}
 
 -- a number of four bytes
 abbrev pub is_four : ℕ → Type 0
@@ -52,28 +51,45 @@ abbrev pub HostFits : HostObject → Type 0
 HostFits h = (h.object_type < 256) × EventFits h.event
 
 -- a timer: whether it is reset by hand, whether it is signaled, its due moment
-abbrev pub may_be_set : Bool → Option ℕ → Bool
-may_be_set signaled None = true
-may_be_set signaled (Some due) = not signaled
-
-abbrev pub timer_of : Bool × (Bool × Option ℕ) → Option TimerState
-timer_of p = if may_be_set p.1.0 p.1.1 then Some (record {
-  manual = p.0;
-  signaled = p.1.0;
-  due = p.1.1;
-}) else None
-
 abbrev pub timer_parts : TimerState → Bool × (Bool × Option ℕ)
 timer_parts t = (t.manual, (t.signaled, t.due))
+
+abbrev pub PartsFit : Bool × (Bool × Option ℕ) → Type 0
+PartsFit = BothFit Any (BothFit Any (OptionFits (λ n. n < 2 ^ 64)))
 
 abbrev pub timer_text : TimerState → List ℕ
 timer_text t = both flag (both flag (option (to_le_bytes w64))) (timer_parts t)
 
-abbrev pub timer_at : List ℕ → Read TimerState
-timer_at = some_at timer_of (both_at flag_at (both_at flag_at (option_at (number_at w64))))
+abbrev pub parts_at : List ℕ → Read (Bool × (Bool × Option ℕ))
+parts_at = both_at flag_at (both_at flag_at (option_at (number_at w64)))
+
+abbrev pub timer_of : ℕ → Bool × (Bool × Option ℕ) → Option TimerState
+timer_of period p = if is_possible p.1.0 p.1.1 period then Some (record {
+  manual = p.0;
+  signaled = p.1.0;
+  due = p.1.1;
+  period = period;
+}) else None
 
 abbrev pub TimerFits : TimerState → Type 0
-TimerFits t = OptionFits (λ n. n < 2 ^ 64) t.due × timer.IsPossible t.signaled t.due
+TimerFits t = PartsFit (timer_parts t) × (t.period < 2 ^ 32) × (is_possible t.signaled t.due t.period ≡ true)
+
+-- so a timer without a period is read
+abbrev pub timer_at : List ℕ → Read TimerState
+timer_at = some_at (timer_of 0) parts_at
+
+-- and so one with a period, whose milliseconds stand behind the rest, in four bytes
+abbrev pub periodic_parts : TimerState → (Bool × (Bool × Option ℕ)) × ℕ
+periodic_parts t = (timer_parts t, t.period)
+
+abbrev pub periodic_text : TimerState → List ℕ
+periodic_text t = timer_text t ++ to_le_bytes w32 t.period
+
+abbrev pub periodic_of : (Bool × (Bool × Option ℕ)) × ℕ → Option TimerState
+periodic_of p = if p.1 == 0 then None else timer_of p.1 p.0
+
+abbrev pub periodic_at : List ℕ → Read TimerState
+periodic_at = some_at periodic_of (both_at parts_at (number_at w32))
 
 -- a semaphore: its count, its maximum
 abbrev pub may_count : ℕ → ℕ → Bool
@@ -118,19 +134,19 @@ mutex_at = some_at mutex_of (both_at (option_at (number_at w32)) (both_at (numbe
 abbrev pub MutexFits : MutexState → Type 0
 MutexFits m = OptionFits is_four m.owner × mutex.IsPossible m.owner m.recursion m.abandoned
 
--- the tag of each kind, and what stands behind it
+-- the tag of each kind, and what stands behind it: a timer with a period has a tag of its own
 abbrev pub tag_of : Body → ℕ
 tag_of (body.Event e) = 0
 tag_of (body.Mutex m) = 1
 tag_of (body.Semaphore s) = 2
-tag_of (body.Timer t) = 3
+tag_of (body.Timer t) = if t.period == 0 then 3 else 5
 tag_of (body.Host h) = 4
 
 abbrev pub parts_text : Body → List ℕ
 parts_text (body.Event e) = event_text e
 parts_text (body.Mutex m) = mutex_text m
 parts_text (body.Semaphore s) = semaphore_text s
-parts_text (body.Timer t) = timer_text t
+parts_text (body.Timer t) = if t.period == 0 then timer_text t else periodic_text t
 parts_text (body.Host h) = host_text h
 
 abbrev pub body_text : Body → List ℕ
@@ -142,7 +158,8 @@ body_in (suc zero) rest = as_at body.Mutex mutex_at rest
 body_in (suc (suc zero)) rest = as_at body.Semaphore semaphore_at rest
 body_in (suc (suc (suc zero))) rest = as_at body.Timer timer_at rest
 body_in (suc (suc (suc (suc zero)))) rest = as_at body.Host host_at rest
-body_in (suc (suc (suc (suc (suc t))))) rest = Err Tag
+body_in (suc (suc (suc (suc (suc zero))))) rest = as_at body.Timer periodic_at rest
+body_in (suc (suc (suc (suc (suc (suc t)))))) rest = Err Tag
 
 abbrev pub body_at : List ℕ → Read Body
 body_at = tagged_at body_in

@@ -1,10 +1,13 @@
 -- Bodies are read as they were spelled.
-use Rattle.std.proofs.Common.{◌≡◌, ℕ, zero, suc, ◌<◌, ◌^◌, ◌&&◌, not, Bool, true, cond, leb, ltb, List, ◌++◌, Option, Some, None, Ok, refl, ap, subst, arith, eq-eqb}
+use Rattle.std.proofs.Common.{◌≡◌, ℕ, zero, suc, ◌<◌, ◌^◌, ◌&&◌, not, Bool, true, false, cond, leb, ltb, List, ◌++◌, Option, Some, None, Ok, refl, sym, ap, subst, ◌∙◌, eqb, arith, eq-eqb}
+use Rattle.std.specs.Int.{w64, to_le_bytes}
 use Rattle.std.proofs.lemmas.Bool.{and_from, and_parts, eqb-true, le-leb, leb-true, lt-ltb, ltb-true, not-true}
 use Rattle.std.proofs.lemmas.Option.{cond_some}
 use Rattle.ob_codec.specs.Codecs.{as_codec, both_codec, flag_codec, form_takes, option_codec, some_codec, tagged_codec, u32_codec, u64_codec}
 use Rattle.ob_codec.specs.Laws.{IsCodec, Takes}
-use Rattle.ob_codec.specs.Spelling.{Any, AreBytes, BothFit, OptionFits}
+use Rattle.ob_codec.specs.Reading.{Read, as_at}
+use Rattle.ob_codec.specs.Spelling.{Any, AreBytes, BothFit, OptionFits, both, flag, option}
+use Rattle.ob_codec.specs.Steps.{bind_ok, ok_is}
 use Rattle.ob_body.specs.declared.body.Body.{Body}
 use Rattle.ob_body.specs.declared.body.Body.TheVariants.{Event, Mutex, Semaphore, Timer, Host}
 use Rattle.ob_body.specs.declared.event.Event as states
@@ -12,9 +15,8 @@ use Rattle.ob_body.specs.declared.host_object.HostObject.{HostObject}
 use Rattle.ob_body.specs.MutexState.{MutexState}
 use Rattle.ob_body.specs.MutexState as mutex
 use Rattle.ob_body.specs.SemaphoreState.{SemaphoreState}
-use Rattle.ob_body.specs.TimerState.{TimerState}
-use Rattle.ob_body.specs.TimerState as timer
-use Rattle.ob_body.specs.Spelling.{BodyFits, EventFits, HostFits, MutexFits, SemaphoreFits, TimerFits, body_at, body_in, body_text, event_at, event_of, event_parts, event_text, host_at, host_of, host_parts, host_text, is_four, may_be_set, may_count, may_own, mutex_at, mutex_of, mutex_parts, mutex_text, parts_text, semaphore_at, semaphore_of, semaphore_parts, semaphore_text, tag_of, timer_at, timer_of, timer_parts, timer_text}
+use Rattle.ob_body.specs.TimerState.{TimerState, is_possible}
+use Rattle.ob_body.specs.Spelling.{BodyFits, EventFits, HostFits, MutexFits, SemaphoreFits, TimerFits, body_at, body_in, body_text, event_at, event_of, event_parts, event_text, host_at, host_of, host_parts, host_text, is_four, PartsFit, may_count, may_own, mutex_at, mutex_of, mutex_parts, mutex_text, parts_text, semaphore_at, semaphore_of, semaphore_parts, semaphore_text, tag_of, parts_at, periodic_at, periodic_of, periodic_parts, periodic_text, timer_at, timer_of, timer_parts, timer_text}
 
 pub event_codec : IsCodec event_text event_at EventFits
 event_codec = as_codec event_of event_parts (λ _. refl) (λ _. refl) (both_codec flag_codec flag_codec)
@@ -34,30 +36,58 @@ host-back p h fits e =
 pub host_codec : IsCodec host_text host_at HostFits
 host_codec = some_codec host_of host_parts HostFits host-there host-back (both_codec u32_codec event_codec)
 
-set-true : (signaled : Bool) (due : Option ℕ) → timer.IsPossible signaled due → may_be_set signaled due ≡ true
-set-true signaled None can = refl
-set-true signaled (Some due) can = ap not can
+parts_codec : IsCodec (both flag (both flag (option (to_le_bytes w64)))) parts_at PartsFit
+parts_codec = both_codec flag_codec (both_codec flag_codec (option_codec u64_codec))
 
-set-possible : (signaled : Bool) (due : Option ℕ) → may_be_set signaled due ≡ true → timer.IsPossible signaled due
-set-possible signaled None e = tt
-set-possible signaled (Some due) e = not-true signaled e
+timer-back : (p : Bool × (Bool × Option ℕ)) (period : ℕ) (t : TimerState) → PartsFit p → period < 2 ^ 32
+    → timer_of period p ≡ Some t → (timer_parts t ≡ p) × TimerFits t × (t.period ≡ period)
+timer-back p period t fits small e =
+    let made : TimerState = record { manual = p.0; signaled = p.1.0; due = p.1.1; period = period } in
+    let g = cond_some (is_possible p.1.0 p.1.1 period) made t e in
+    subst (λ (z : TimerState). (timer_parts z ≡ p) × TimerFits z × (z.period ≡ period)) g.1
+    (refl, (fits, small, g.0), refl)
 
-abbrev FlagsFit : Bool × (Bool × Option ℕ) → Type 0
-FlagsFit = BothFit Any (BothFit Any (OptionFits (λ n. n < 2 ^ 64)))
+timer-there : (t : TimerState) → TimerFits t → timer_of t.period (timer_parts t) ≡ Some t
+timer-there t fits = ap (λ (b : Bool). cond b (Some t) None) fits.2
 
-timer-there : (t : TimerState) → TimerFits t → (timer_of (timer_parts t) ≡ Some t) × FlagsFit (timer_parts t)
-timer-there t fits = (ap (λ (b : Bool). cond b (Some t) None) (set-true t.signaled t.due fits.1), (tt, (tt, fits.0)))
+-- a timer without a period
+abbrev OnceFits : TimerState → Type 0
+OnceFits t = TimerFits t × (t.period ≡ 0)
 
-timer-back : (p : Bool × (Bool × Option ℕ)) (t : TimerState) → FlagsFit p → timer_of p ≡ Some t
-    → (timer_parts t ≡ p) × TimerFits t
-timer-back p t fits e =
-    let made : TimerState = record { manual = p.0; signaled = p.1.0; due = p.1.1 } in
-    let g = cond_some (may_be_set p.1.0 p.1.1) made t e in
-    subst (λ (z : TimerState). (timer_parts z ≡ p) × TimerFits z) g.1 (refl, (fits.1.1, set-possible p.1.0 p.1.1 g.0))
+once-there : (t : TimerState) → OnceFits t → (timer_of 0 (timer_parts t) ≡ Some t) × PartsFit (timer_parts t)
+once-there t fits = (ap (λ (n : ℕ). timer_of n (timer_parts t)) (sym fits.1) ∙ timer-there t fits.0, fits.0.0)
 
-pub timer_codec : IsCodec timer_text timer_at TimerFits
-timer_codec = some_codec timer_of timer_parts TimerFits timer-there timer-back
-    (both_codec flag_codec (both_codec flag_codec (option_codec u64_codec)))
+once-back : (p : Bool × (Bool × Option ℕ)) (t : TimerState) → PartsFit p → timer_of 0 p ≡ Some t
+    → (timer_parts t ≡ p) × OnceFits t
+once-back p t fits e = let b = timer-back p 0 t fits (omega arith) e in (b.0, (b.1, b.2))
+
+once_codec : IsCodec timer_text timer_at OnceFits
+once_codec = some_codec (timer_of 0) timer_parts OnceFits once-there once-back parts_codec
+
+-- a timer with one
+abbrev AgainFits : TimerState → Type 0
+AgainFits t = TimerFits t × (eqb t.period 0 ≡ false)
+
+again-there : (t : TimerState) → AgainFits t
+    → (periodic_of (periodic_parts t) ≡ Some t) × BothFit PartsFit is_four (periodic_parts t)
+again-there t fits = (
+  ap (λ (b : Bool). cond b None (timer_of t.period (timer_parts t))) fits.1 ∙ timer-there t fits.0,
+  (fits.0.0, fits.0.1),
+)
+
+some_else : {A : Type 0} (b : Bool) (x : Option A) (y : A) → cond b None x ≡ Some y → (b ≡ false) × (x ≡ Some y)
+some_else true x y e = absurd cc
+some_else false x y e = (refl, e)
+
+again-back : (p : (Bool × (Bool × Option ℕ)) × ℕ) (t : TimerState) → BothFit PartsFit is_four p
+    → periodic_of p ≡ Some t → (periodic_parts t ≡ p) × AgainFits t
+again-back p t fits e =
+    let g = some_else (eqb p.1 0) (timer_of p.1 p.0) t e in
+    let b = timer-back p.0 p.1 t fits.0 fits.1 g.1 in
+    (λ i. (b.0 i, b.2 i), (b.1, ap (λ (n : ℕ). eqb n 0) b.2 ∙ g.0))
+
+again_codec : IsCodec periodic_text periodic_at AgainFits
+again_codec = some_codec periodic_of periodic_parts AgainFits again-there again-back (both_codec parts_codec u32_codec)
 
 semaphore-there : (s : SemaphoreState) → SemaphoreFits s
     → (semaphore_of (semaphore_parts s) ≡ Some s) × BothFit is_four is_four (semaphore_parts s)
@@ -110,16 +140,16 @@ own-small : (owner : Option ℕ) (recursion : ℕ) (abandoned : Bool) → mutex.
 own-small None recursion abandoned can = omega arith
 own-small (Some owner) recursion abandoned can = let most = can.1 in omega arith
 
-abbrev PartsFit : Option ℕ × (ℕ × Bool) → Type 0
-PartsFit = BothFit (OptionFits is_four) (BothFit is_four Any)
+abbrev OwnerFits : Option ℕ × (ℕ × Bool) → Type 0
+OwnerFits = BothFit (OptionFits is_four) (BothFit is_four Any)
 
-mutex-there : (m : MutexState) → MutexFits m → (mutex_of (mutex_parts m) ≡ Some m) × PartsFit (mutex_parts m)
+mutex-there : (m : MutexState) → MutexFits m → (mutex_of (mutex_parts m) ≡ Some m) × OwnerFits (mutex_parts m)
 mutex-there m fits = (
   ap (λ (b : Bool). cond b (Some m) None) (own-true m.owner m.recursion m.abandoned fits.1),
   (fits.0, (own-small m.owner m.recursion m.abandoned fits.1, tt)),
 )
 
-mutex-back : (p : Option ℕ × (ℕ × Bool)) (m : MutexState) → PartsFit p → mutex_of p ≡ Some m
+mutex-back : (p : Option ℕ × (ℕ × Bool)) (m : MutexState) → OwnerFits p → mutex_of p ≡ Some m
     → (mutex_parts m ≡ p) × MutexFits m
 mutex-back p m fits e =
     let made : MutexState = record { owner = p.0; recursion = p.1.0; abandoned = p.1.1 } in
@@ -130,6 +160,40 @@ pub mutex_codec : IsCodec mutex_text mutex_at MutexFits
 mutex_codec = some_codec mutex_of mutex_parts MutexFits mutex-there mutex-back
     (both_codec (option_codec u32_codec) (both_codec u32_codec flag_codec))
 
+-- a timer is read by its tag
+timer-again : (d : TimerState) (rest : List ℕ) → TimerFits d
+    → body_in (tag_of (Timer d)) (parts_text (Timer d) ++ rest) ≡ Ok (Timer d, rest)
+unfolding body_in
+timer-again d rest fits = by (eqb d.period 0) refl
+  where
+    by : (b : Bool) → eqb d.period 0 ≡ b
+        → body_in (cond b 3 5) (cond b (timer_text d) (periodic_text d) ++ rest) ≡ Ok (Timer d, rest)
+    by true none = rw (once_codec.again d rest (fits, eqb-true d.period 0 none)) refl
+    by false some = rw (again_codec.again d rest (fits, some)) refl
+
+timer-takes : {spell : TimerState → List ℕ} {read : List ℕ → Read TimerState} {Fits : TimerState → Type 0}
+    → IsCodec spell read Fits → (t : ℕ)
+    → ((d : TimerState) → Fits d → TimerFits d × (parts_text (Timer d) ≡ spell d) × (tag_of (Timer d) ≡ t))
+    → (bytes : List ℕ) (x : Body) (rest : List ℕ) → AreBytes bytes → as_at Timer read bytes ≡ Ok (x, rest)
+    → Takes bytes (parts_text x) rest × BodyFits x × (tag_of x ≡ t)
+timer-takes {read = read} is t of bytes x rest fits e =
+    let b = bind_ok (read bytes) (λ (y : TimerState × List ℕ). Ok (Timer y.0, y.1)) (x, rest) e in
+    let k = is.takes bytes b.0.0 b.0.1 fits b.1 in
+    let o = of b.0.0 k.1 in
+    subst (λ (z : Body × List ℕ). Takes bytes (parts_text z.0) z.1 × BodyFits z.0 × (tag_of z.0 ≡ t))
+    (ok_is (Timer b.0.0, b.0.1) (x, rest) b.2)
+    (subst (λ (w : List ℕ). Takes bytes w b.0.1) (sym o.1) k.0, o.0, o.2)
+
+once-tagged : (d : TimerState) → OnceFits d
+    → TimerFits d × (parts_text (Timer d) ≡ timer_text d) × (tag_of (Timer d) ≡ 3)
+once-tagged d fits = let none = eq-eqb d.period 0 fits.1 in
+    (fits.0, ap (λ (b : Bool). cond b (timer_text d) (periodic_text d)) none, ap (λ (b : Bool). cond b 3 5) none)
+
+again-tagged : (d : TimerState) → AgainFits d
+    → TimerFits d × (parts_text (Timer d) ≡ periodic_text d) × (tag_of (Timer d) ≡ 5)
+again-tagged d fits =
+    (fits.0, ap (λ (b : Bool). cond b (timer_text d) (periodic_text d)) fits.1, ap (λ (b : Bool). cond b 3 5) fits.1)
+
 one-again : (t : ℕ) (x : Body) (rest : List ℕ) → tag_of x ≡ t → BodyFits x
     → body_in t (parts_text x ++ rest) ≡ Ok (x, rest)
 unfolding body_in
@@ -139,8 +203,8 @@ one-again t (Mutex m) rest is fits = subst (λ (n : ℕ). body_in n (mutex_text 
     (rw (mutex_codec.again m rest fits) refl)
 one-again t (Semaphore s) rest is fits = subst (λ (n : ℕ). body_in n (semaphore_text s ++ rest)
     ≡ Ok (Semaphore s, rest)) is (rw (semaphore_codec.again s rest fits) refl)
-one-again t (Timer d) rest is fits = subst (λ (n : ℕ). body_in n (timer_text d ++ rest) ≡ Ok (Timer d, rest)) is
-    (rw (timer_codec.again d rest fits) refl)
+one-again t (Timer d) rest is fits = subst (λ (n : ℕ). body_in n (parts_text (Timer d) ++ rest) ≡ Ok (Timer d, rest))
+    is (timer-again d rest fits)
 one-again t (Host h) rest is fits = subst (λ (n : ℕ). body_in n (host_text h ++ rest) ≡ Ok (Host h, rest)) is
     (rw (host_codec.again h rest fits) refl)
 
@@ -150,9 +214,10 @@ unfolding body_in
 one-takes zero = form_takes _ _ _ event_codec 0 Event (λ _. refl) (λ _ fits. fits) (λ _. refl)
 one-takes (suc zero) = form_takes _ _ _ mutex_codec 1 Mutex (λ _. refl) (λ _ fits. fits) (λ _. refl)
 one-takes (suc (suc zero)) = form_takes _ _ _ semaphore_codec 2 Semaphore (λ _. refl) (λ _ fits. fits) (λ _. refl)
-one-takes (suc (suc (suc zero))) = form_takes _ _ _ timer_codec 3 Timer (λ _. refl) (λ _ fits. fits) (λ _. refl)
+one-takes (suc (suc (suc zero))) = timer-takes once_codec 3 once-tagged
 one-takes (suc (suc (suc (suc zero)))) = form_takes _ _ _ host_codec 4 Host (λ _. refl) (λ _ fits. fits) (λ _. refl)
-one-takes (suc (suc (suc (suc (suc t))))) = λ bytes x rest fits e. absurd cc
+one-takes (suc (suc (suc (suc (suc zero))))) = timer-takes again_codec 5 again-tagged
+one-takes (suc (suc (suc (suc (suc (suc t)))))) = λ bytes x rest fits e. absurd cc
 
 pub body_codec : IsCodec body_text body_at BodyFits
 body_codec = tagged_codec tag_of parts_text body_in BodyFits (λ t. record { again = one-again t; takes = one-takes t })

@@ -1,5 +1,5 @@
 -- What a waitable timer is.
-use Rattle.std.specs.Prelude.{◌≡◌, ℕ, Bool, false, Option, Some, None}
+use Rattle.std.specs.Prelude.{ℕ, nat_lt, ◌==◌, ◌||◌, Bool, not, Option, Some, None}
 
 pub record TimerState : Type 0 where
   -- whether it stays signaled until it is set again
@@ -8,8 +8,11 @@ pub record TimerState : Type 0 where
   pub signaled : Bool
   -- the moment at which it becomes signaled, if it is set
   pub due : Option ℕ
+  -- how long after that moment it becomes so again, and so on, in milliseconds; 0 where it doesn't
+  pub period : ℕ
 
--- while it is set it isn't signaled: setting it takes the signal away, and its moment takes itself away
-abbrev pub IsPossible : Bool → Option ℕ → Type 0
-IsPossible signaled None = Unit {0}
-IsPossible signaled (Some due) = signaled ≡ false
+-- whether it can be: one that isn't set has no period; one that is set without a period isn't signaled, since setting
+-- it takes the signal away, and its moment takes itself away
+abbrev pub is_possible : Bool → Option ℕ → ℕ → Bool
+is_possible signaled None period = period == 0
+is_possible signaled (Some due) period = nat_lt 0 period || not signaled

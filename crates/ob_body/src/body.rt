@@ -1,12 +1,13 @@
 ghost use Rattle.std.specs.Prelude.{◌≡◌, ◌<◌, ◌≤◌, true, false, None, IsSome};
 ghost use Rattle.ob_body.specs.Body as spec;
 ghost use Rattle.ob_body.specs.Mutex as mutex;
+ghost use Rattle.ob_body.specs.Timer.{is_due};
 
 use crate::event::Event;
 use crate::host_object::HostObject;
 use crate::mutex::{Mutex, RECURSION_MAX};
 use crate::semaphore::{COUNT_MAX, Semaphore};
-use crate::timer::Timer;
+use crate::timer::{LAST_MOMENT, Timer};
 use ob_rights::{Fault, Kind};
 
 /// What an object is now. Threads are numbered from 1.
@@ -59,7 +60,7 @@ impl Body {
     ///
     /// [CreateWaitableTimer]: https://learn.microsoft.com/windows/win32/api/synchapi/nf-synchapi-createwaitabletimerw
     pub fn new_timer(manual: bool) -> Body
-        ensures { result ≡ Body.Timer (record { manual = manual; signaled = false; due = None }) }
+        ensures { result ≡ Body.Timer (record { manual = manual; signaled = false; due = None; period = 0 }) }
     {
         Body::Timer(Timer::new(manual))
     }
@@ -225,21 +226,23 @@ impl Body {
         }
     }
 
-    /// Sets a timer to a moment, in units of 100 ns: it is nonsignaled until then, and signaled at once where the
-    /// moment isn't after `now` ([SetWaitableTimer]).
+    /// Sets a timer to a moment, in units of 100 ns, and to a period, in milliseconds, 0 for none: it is nonsignaled until
+    /// then, and signaled at once where the moment isn't after `now` ([SetWaitableTimer]). With a period it becomes
+    /// signaled again a period after its moment, and so on.
     ///
     /// [SetWaitableTimer]: https://learn.microsoft.com/windows/win32/api/synchapi/nf-synchapi-setwaitabletimer
-    pub fn arm(&mut self, due: u64, now: u64)
+    pub fn arm(&mut self, due: u64, now: u64, period: u32)
         requires timer { spec.kind_of self.old ≡ Kind.Timer }
-        ensures { self.new ≡ spec.after_arm due now self.old }
+        requires last { now ≤ LAST_MOMENT }
+        ensures { self.new ≡ spec.after_arm due now period self.old }
     {
         match self {
-            Body::Timer(timer) => timer.arm(due, now),
+            Body::Timer(timer) => timer.arm(due, now, period),
             _ => unreachable!(),
         }
     }
 
-    /// Takes a timer's due moment away; it stays as signaled as it is ([CancelWaitableTimer]).
+    /// Takes a timer's due moment and its period away; it stays as signaled as it is ([CancelWaitableTimer]).
     ///
     /// [CancelWaitableTimer]: https://learn.microsoft.com/windows/win32/api/synchapi/nf-synchapi-cancelwaitabletimer
     pub fn disarm(&mut self)
@@ -252,12 +255,15 @@ impl Body {
         }
     }
 
-    /// Signals a timer that is due at `now` or before, which is then set no longer ([Waitable Timer Objects]).
+    /// Signals a timer that is due at `now` or before. It is then due again by its period, at the first such moment
+    /// after `now`, so that it doesn't drift; without a period it is set no longer ([Waitable Timer Objects]).
     ///
     /// [Waitable Timer Objects]: https://learn.microsoft.com/windows/win32/sync/waitable-timer-objects
     pub fn fire(&mut self, now: u64)
         requires timer { spec.kind_of self.old ≡ Kind.Timer }
-        ensures { self.new ≡ spec.after_fire now self.old }
+        requires last { now ≤ LAST_MOMENT }
+        ensures value { self.new ≡ spec.after_fire now self.old }
+        ensures undue { is_due now (spec.due_of self.new) ≡ false }
     {
         match self {
             Body::Timer(timer) => timer.fire(now),

@@ -18,4 +18,4 @@ pub use event::Event;
 pub use host_object::HostObject;
 pub use mutex::{Mutex, RECURSION_MAX};
 pub use semaphore::{COUNT_MAX, Semaphore};
-pub use timer::Timer;
+pub use timer::{LAST_MOMENT, Timer};

@@ -1,4 +1,4 @@
-// Bodies as bytes: a tag for the kind, and what each kind has.
+// Bodies as bytes: a tag for the kind, and what each kind has. A timer with a period has a tag of its own.
 ghost use Rattle.ob_body.specs.Spelling.{BodyFits, EventFits, HostFits};
 ghost use Rattle.ob_body.specs.Spelling as spelling;
 ghost use Rattle.ob_body.specs.SpellingLaws.{body_codec, event_codec, host_codec};
@@ -82,8 +82,12 @@ impl Spelled for Body {
                 semaphore.write(out)
             }
             Body::Timer(timer) => {
-                out.push(3)?;
-                timer.write(out)
+                if timer.period() == 0 {
+                    out.push(3)?;
+                    return timer.write(out);
+                }
+                out.push(5)?;
+                timer.write_periodic(out)
             }
             Body::Host(host) => {
                 out.push(4)?;
@@ -114,6 +118,10 @@ impl Spelled for Body {
             4 => {
                 let host = HostObject::read(alloc, from)?;
                 Ok(Body::Host(host))
+            }
+            5 => {
+                let timer = Timer::read_periodic(alloc, from)?;
+                Ok(Body::Timer(timer))
             }
             _ => Err(ReadFault::Text(TextFault::Tag)),
         }

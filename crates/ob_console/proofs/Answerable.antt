@@ -20,15 +20,15 @@ use Rattle.ob_manager.specs.declared.call.CallOf.TheVariants as calls
 use Rattle.ob_manager.specs.declared.reply.Reply.{Reply}
 use Rattle.ob_manager.specs.declared.reply.Reply.TheVariants.{Reaped, Refused}
 use Rattle.ob_manager.specs.Outcomes.{Outcome, ◌>>=◌, or_refuse, refuse_if}
-use Rattle.ob_manager.specs.Checks.{caller, found, body_of, granted, positive}
+use Rattle.ob_manager.specs.Checks.{caller, found, body_of, granted, natural, positive}
 use Rattle.ob_manager.specs.Creating.{open_named}
 use Rattle.ob_manager.specs.Handles.{close, handle_flags, set_handle_flags}
 use Rattle.ob_manager.specs.Copying.{duplicate}
 use Rattle.ob_manager.specs.Waiting as waiting
-use Rattle.ob_manager.specs.Waiting.{wait, wait_result}
+use Rattle.ob_manager.specs.Waiting.{alert, signal_and_wait, sleep, wait, wait_result}
 use Rattle.ob_manager.specs.Ending.{end_thread, exit}
-use Rattle.ob_manager.specs.Signaling.{modified, modify_state, set_event, reset_event, release_semaphore, release_mutex, host_of, signal_host}
-use Rattle.ob_manager.specs.Timing.{set_timer, cancel_timer, tick}
+use Rattle.ob_manager.specs.Signaling.{modified, modify_state, pulse_event, set_event, reset_event, release_semaphore, release_mutex, host_of, signal_host}
+use Rattle.ob_manager.specs.Timing.{set_timer, set_periodic_timer, cancel_timer, tick}
 use Rattle.ob_manager.specs.Counting.{counts}
 use Rattle.ob_manager.specs.Reaping.{IfReap, if_ended, reap}
 use Rattle.ob_manager.specs.Steps.{Step, does, outcome_of, takes_memory, final, KeeperAfter}
@@ -193,6 +193,9 @@ can_answer w (calls.SetEvent thread handle) pins =
 can_answer w (calls.ResetEvent thread handle) pins =
     answered w (calls.ResetEvent thread handle) (reset_event w.state thread handle) (λ P. tt) (λ reply. refl)
     (rests_behind w.keeper (modified w.state thread handle kind.Event) _ (λ object. refl))
+can_answer w (calls.PulseEvent thread handle) pins =
+    answered w (calls.PulseEvent thread handle) (pulse_event w.state thread handle) (λ P. tt) (λ reply. refl)
+    (rests_behind w.keeper (modified w.state thread handle kind.Event) _ (λ object. refl))
 can_answer w (calls.ReleaseSemaphore thread handle count) pins =
     answered w (calls.ReleaseSemaphore thread handle count) (release_semaphore w.state thread handle count)
     (λ P. tt) (λ reply. refl)
@@ -214,6 +217,12 @@ can_answer w (calls.SignalHost id signaled) pins =
 can_answer w (calls.SetTimer thread handle due) pins =
     answered w (calls.SetTimer thread handle due) (set_timer w.state thread handle due) (λ P. tt) (λ reply. refl)
     (rests_behind w.keeper (modified w.state thread handle kind.Timer) _ (λ object. refl))
+can_answer w (calls.SetPeriodicTimer thread handle due period) pins =
+    answered w (calls.SetPeriodicTimer thread handle due period) (set_periodic_timer w.state thread handle due period)
+    (λ P. tt) (λ reply. refl)
+    (rests_behind w.keeper (caller w.state thread) _ (λ process. rests_behind w.keeper
+    (or_refuse (natural period) fault.Parameter) _ (λ millis. rests_behind w.keeper
+    (modified w.state thread handle kind.Timer) _ (λ object. refl))))
 can_answer w (calls.CancelTimer thread handle) pins =
     answered w (calls.CancelTimer thread handle) (cancel_timer w.state thread handle) (λ P. tt) (λ reply. refl)
     (rests_behind w.keeper (modified w.state thread handle kind.Timer) _ (λ object. refl))
@@ -223,10 +232,19 @@ can_answer w (calls.WaitFor thread mode timeout handles) pins =
     answered w (calls.WaitFor thread mode timeout handles) (wait w.state thread mode timeout handles) (λ P. tt)
     (λ reply. refl)
     (search arith)
+can_answer w (calls.SignalAndWait thread signal timeout handle) pins =
+    refused w (calls.SignalAndWait thread signal timeout handle) (signal_and_wait w.state thread signal timeout handle)
+    (λ P. tt) refl (λ reply. refl)
+can_answer w (calls.Sleep thread timeout) pins =
+    answered w (calls.Sleep thread timeout) (sleep w.state thread timeout) (λ P. tt) (λ reply. refl)
+    (search arith)
 can_answer w (calls.WaitResult number) pins = answered w (calls.WaitResult number) (wait_result w.state number)
     (λ P. tt) (λ reply. refl)
     (search arith)
 can_answer w (calls.Expire number) pins = answered w (calls.Expire number) (waiting.expire w.state number)
+    (λ P. tt) (λ reply. refl)
+    (search arith)
+can_answer w (calls.Alert number) pins = answered w (calls.Alert number) (alert w.state number)
     (λ P. tt) (λ reply. refl)
     (search arith)
 can_answer w (calls.EndThread thread) pins = answered w (calls.EndThread thread) (end_thread w.state thread)

@@ -19,6 +19,8 @@ pub struct Options {
     pub load: Option<String>,
     /// The path to which the state behind the script is saved, if it is.
     pub save: Option<String>,
+    /// Whether all that the manager holds behind the script is told.
+    pub dump: bool,
 }
 
 /// An option that takes a number: its name, its least and its greatest, and what the help says of it.
@@ -160,6 +162,7 @@ pub fn read_options(alloc: Global, args: Vec<String>) -> Result<Options, Options
             lanes: given(&matches, LANES, 0)?,
             load: path_of(alloc, &matches, "load")?,
             save: path_of(alloc, &matches, "save")?,
+            dump: matches.get_flag("dump"),
         }),
         Err(error) => Err(fault_of(alloc, &error)),
     }
@@ -232,9 +235,13 @@ fn command<'a>(alloc: Global) -> Result<Command<'a>, AllocError> {
         .arg(flag(
             alloc,
             "more",
-            "Lines for objects of the host's own, too: host, signal, and open of one. Without it these are bad",
+            "More lines are read, too: for objects of the host's own, moments, periods, sleep, pulse, signalwait and alert",
         ))?
-        .arg(number(alloc, LANES)?.conflicts_with("save")?)?
+        .arg(
+            number(alloc, LANES)?
+                .conflicts_with("save")?
+                .conflicts_with("dump")?,
+        )?
         .arg(path(
             alloc,
             "load",
@@ -245,6 +252,12 @@ fn command<'a>(alloc: Global) -> Result<Command<'a>, AllocError> {
             alloc,
             "save",
             "Where the state is saved once the script is answered to its end. No --lanes beside it",
+        ))?
+        .arg(flag(
+            alloc,
+            "dump",
+            "Behind the answers, what the manager holds: processes, threads and their waits, handles, objects, deadlocks. \
+             No --lanes beside it",
         ))
 }
 

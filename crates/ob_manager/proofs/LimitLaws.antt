@@ -10,6 +10,8 @@ use Rattle.ob_rights.specs.declared.fault.Fault.{Fault}
 use Rattle.ob_rights.specs.declared.fault.Fault.TheVariants as fault
 use Rattle.ob_rights.specs.declared.kind.Kind.{Kind}
 use Rattle.ob_rights.specs.declared.rights.Rights.{Rights}
+use Rattle.ob_body.specs.declared.body.Body.{Body}
+use Rattle.ob_body.specs.declared.body.Body.TheVariants.{Event}
 use Rattle.ob_tables.specs.declared.entry.Entry.{Entry}
 use Rattle.ob_waits.specs.declared.wait.Mode.{Mode}
 use Rattle.ob_waits.specs.declared.wait.WaitState.{WaitState}
@@ -19,6 +21,7 @@ use Rattle.ob_store.specs.State.{State, Whole, with_child, with_process}
 use Rattle.ob_store.specs.Directory.{directory_of}
 use Rattle.ob_store.specs.Ends.{thread_ended, threads_ended, process_ended, after_thread_end}
 use Rattle.ob_store.specs.Processes.{is_of}
+use Rattle.ob_store.specs.Waiting.{cut_short, taken_at}
 use Rattle.ob_manager.specs.Calls.{Call}
 use Rattle.ob_manager.specs.declared.call.CallOf.TheVariants as calls
 use Rattle.ob_manager.specs.Makings.{Making}
@@ -31,6 +34,7 @@ use Rattle.ob_manager.specs.Checks.{caller, found}
 use Rattle.ob_manager.specs.Creating.{create, created, named_object, new_event, new_handle, new_host, new_mutex, new_object, new_semaphore, new_timer}
 use Rattle.ob_manager.specs.Copying.{copied_to, is_stuck, is_wrong, leaves, with_source, without_source}
 use Rattle.ob_manager.specs.Reaping.{reap}
+use Rattle.ob_manager.specs.Signaling.{reset_at}
 use Rattle.ob_manager.specs.Waiting.{deadline_in, is_zero, pending, satisfied, shown, unsatisfied, wait_on}
 use Rattle.ob_manager.specs.Steps.{Step, does, closes, lacks, final, outcome_of}
 
@@ -95,7 +99,7 @@ create_keeps s t m what = search (then_keeps, created_keeps)
 
 unsatisfied_keeps : (s : State) (t : ℕ) (mode : Mode) (timeout : Timeout) (ids : List Id)
     → KeepsLimits s.limits (unsatisfied s t mode timeout ids)
-unsatisfied_keeps s t mode timeout ids = by (is_zero timeout)
+unsatisfied_keeps s t mode timeout ids = by (is_zero s.clock timeout)
   where
     becomes : KeepsLimits s.limits (pending s t mode (deadline_in s.clock timeout) ids)
     becomes = search (then_keeps)
@@ -117,6 +121,14 @@ wait_keeps s t mode timeout ids = search (then_keeps, either_keeps)
 shown_limits : (s : State) (n : ℕ) (stands : WaitState) → (shown s n stands).state.limits ≡ s.limits
 shown_limits s n Pending = refl
 shown_limits s n (Answered code) = refl
+
+-- an event that is reset, and a wait that is left
+reset_limits : (s : State) (id : Id) (b : Option Body) → (reset_at s id b).limits ≡ s.limits
+reset_limits s id (Some (Event e)) = refl
+reset_limits s id b = refl
+
+met_limits : (at_once : Bool) (s : State) (n : ℕ) → (taken_at (cut_short at_once s n) n).limits ≡ s.limits
+met_limits at_once s n = search (cond_limits)
 
 copied_keeps : (s : State) (e : Entry) (target : Option ℕ) (mask : Rights) (inherit : Bool) (options : ℕ)
     → KeepsLimits s.limits (copied_to s e target mask inherit options)
@@ -157,6 +169,9 @@ outcome_keeps s (calls.Duplicate t source h target mask inherit options) reply =
     (copied_keeps s e target mask inherit options))))))
 outcome_keeps s (calls.ReleaseSemaphore t h count) reply = search (then_keeps) depth 8
 outcome_keeps s (calls.WaitFor t mode timeout handles) reply = search (then_keeps, wait_keeps)
+outcome_keeps s (calls.PulseEvent t h) reply = search (then_keeps, reset_limits)
+outcome_keeps s (calls.SignalAndWait t signal timeout h) reply = search (then_keeps, met_limits) depth 8
+outcome_keeps s (calls.Sleep t timeout) reply = search (then_keeps, wait_keeps)
 outcome_keeps s (calls.WaitResult n) reply = search (then_keeps, shown_limits)
 outcome_keeps s (calls.EndThread t) reply = search (then_keeps, left_limits)
 outcome_keeps s (calls.Exit p) reply = search (then_keeps, threads_limits)

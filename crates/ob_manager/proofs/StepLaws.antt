@@ -10,7 +10,7 @@ use Rattle.ob_rights.specs.declared.rights.Rights.{Rights}
 use Rattle.ob_rights.specs.Rights.{within}
 use Rattle.ob_tables.specs.declared.entry.Entry.{Entry}
 use Rattle.ob_body.specs.declared.body.Body.{Body}
-use Rattle.ob_body.specs.declared.body.Body.TheVariants.{Host, Mutex, Semaphore}
+use Rattle.ob_body.specs.declared.body.Body.TheVariants.{Event, Host, Mutex, Semaphore}
 use Rattle.ob_body.specs.Body.{kind_of, post_answer, unlock_answer}
 use Rattle.ob_body.specs.Mutex as mutex
 use Rattle.ob_body.specs.Semaphore as semaphore
@@ -32,7 +32,7 @@ use Rattle.ob_manager.specs.Signaling.{host_of, if_host, modified}
 use Rattle.ob_manager.specs.Creating.{create, created, name_in, named_object, new_event, new_handle, new_host, new_mutex, new_object, new_semaphore, new_timer, own_name, room_for, semaphore_of}
 use Rattle.ob_manager.specs.Copying.{admitted, asked_rights, copied_to, copy_rights, is_stuck, is_wrong, keeps_rights, leaves, with_source, without_source}
 use Rattle.ob_manager.specs.Reaping.{if_ended}
-use Rattle.ob_manager.specs.Waiting.{all_found, deadline_in, is_zero, objects_of, pending, satisfied, shown, unsatisfied, wait_on}
+use Rattle.ob_manager.specs.Waiting.{after_signal, all_found, deadline_in, is_zero, objects_of, pending, satisfied, shown, told_at, unsatisfied, wait_on}
 use Rattle.ob_manager.specs.declared.waiting.Timeout.{Timeout}
 use Rattle.ob_waits.specs.declared.wait.Mode.{Mode}
 use Rattle.ob_waits.specs.declared.wait.WaitState.{WaitState}
@@ -180,7 +180,7 @@ objects_wants s p handles = search (then_wants, all_wants, refuse_wants)
 
 unsatisfied_answers : (s : State) (t : ℕ) (mode : Mode) (timeout : Timeout) (ids : List Id)
     → answers (unsatisfied s t mode timeout ids) ≡ false
-unsatisfied_answers s t mode timeout ids = by (is_zero timeout)
+unsatisfied_answers s t mode timeout ids = by (is_zero s.clock timeout)
   where
     becomes : answers (pending s t mode (deadline_in s.clock timeout) ids) ≡ false
     becomes = search (andThen, refuse_wants)
@@ -201,6 +201,16 @@ wait_answers s t mode timeout ids = search (andThen, refuse_wants, ready_answers
 shown_answers : (s : State) (n : ℕ) (stands : WaitState) → is_lack (shown s n stands).reply ≡ false
 shown_answers s n Pending = refl
 shown_answers s n (Answered code) = refl
+
+signal_wants : (t : ℕ) (e : Entry) (b : Option Body) → wants (after_signal t e b) ≡ false
+signal_wants t e (Some (Event x)) = search (then_wants, refuse_wants)
+signal_wants t e (Some (Semaphore x)) = search (then_wants, refuse_wants, post_wants)
+signal_wants t e (Some (Mutex x)) = search (then_wants, unlock_wants)
+signal_wants t e b = refl
+
+told_answers : (name : ℕ) (stands : Option WaitState) → is_lack (told_at name stands) ≡ false
+told_answers name (Some (Answered code)) = refl
+told_answers name stands = refl
 
 asked_wants : (e : Entry) (mask : Rights) (o : Option Object) → wants (asked_rights e mask o) ≡ false
 asked_wants e mask None = refl
@@ -252,6 +262,8 @@ outcome_answers s (calls.Duplicate t source h target mask inherit options) reply
     (copied_answers s e target mask inherit options))))))
 outcome_answers s (calls.ReleaseSemaphore t h count) reply =
     search (andThen, caller_wants, or_wants, found_wants, kind_wants, refuse_wants, post_wants) depth 8
+outcome_answers s (calls.SignalAndWait t signal timeout h) reply =
+    search (andThen, caller_wants, found_wants, refuse_wants, signal_wants, told_answers) depth 8
 outcome_answers s call reply =
     search (
       andThen,

@@ -225,7 +225,7 @@ slots_apart s ids named there none = record {
 }
 
 pub waitable : (s : State) (mode : Mode) (ids : List Id) → IsNamed s.objects s.tables s.waits
-    → ((i : ℕ) → i < length ids → 0 < handles_of s (get_or ids i nowhere)) → 0 < length ids → length ids ≤ 64
+    → ((i : ℕ) → i < length ids → 0 < handles_of s (get_or ids i nowhere)) → (mode ≡ All → 0 < length ids) → length ids ≤ 64
     → is_for_one_twice mode ids ≡ false → IsWaitable mode ids
 waitable s Any ids named there some few none = record { not_empty = some; at_most = few; once = λ e. absurd (cc) }
 waitable s All ids named there some few none = record {

@@ -154,7 +154,7 @@ new_semaphore initial max = do
 abbrev pub new_timer : Bool → New
 new_timer manual = record {
   descr = timer_descr manual;
-  body = body.Timer (record { manual = manual; signaled = false; due = None });
+  body = body.Timer (record { manual = manual; signaled = false; due = None; period = 0 });
 }
 
 -- an object of the host's own, which a descriptor tells as an event

@@ -39,6 +39,17 @@ set_event s thread handle = modify s thread handle kind.Event after_set
 abbrev pub reset_event : State → ℕ → ℕ → Result Outcome Fault
 reset_event s thread handle = modify s thread handle kind.Event after_reset
 
+-- an event is set, the waits settle, and then it is reset
+abbrev pub reset_at : State → Id → Option Body → State
+reset_at s id (Some (body.Event e)) = settled (with_body s id (after_reset (body.Event e)))
+reset_at s id other = s
+
+abbrev pub pulse_event : State → ℕ → ℕ → Result Outcome Fault
+pulse_event s thread handle = do
+  object ← modified s thread handle kind.Event
+  let set = settled (with_body s object.0 (after_set object.1))
+  Ok (record { reply = Done; state = reset_at set object.0 (slice_index_or set.bodies object.0.slot None) })
+
 abbrev pub release_semaphore : State → ℕ → ℕ → ℤ → Result Outcome Fault
 release_semaphore s thread handle count = do
   process ← caller s thread

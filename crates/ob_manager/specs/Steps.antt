@@ -17,12 +17,12 @@ use Rattle.ob_manager.specs.Processes.{spawn, child, thread}
 use Rattle.ob_manager.specs.Creating.{create_event, create_host, create_mutex, create_semaphore, create_timer, open_named, takes_place}
 use Rattle.ob_manager.specs.Handles.{close, handle_flags, set_handle_flags}
 use Rattle.ob_manager.specs.Copying.{duplicate, is_copy}
-use Rattle.ob_manager.specs.Signaling.{set_event, reset_event, release_semaphore, release_mutex, signal_host}
-use Rattle.ob_manager.specs.Timing.{set_timer, cancel_timer, tick}
+use Rattle.ob_manager.specs.Signaling.{set_event, reset_event, pulse_event, release_semaphore, release_mutex, signal_host}
+use Rattle.ob_manager.specs.Timing.{set_timer, set_periodic_timer, cancel_timer, tick}
 use Rattle.ob_manager.specs.Counting.{counts}
 use Rattle.ob_manager.specs.Ending.{end_thread, exit}
 use Rattle.ob_manager.specs.Reaping.{reap}
-use Rattle.ob_manager.specs.Waiting.{becomes_pending, expire, wait, wait_result}
+use Rattle.ob_manager.specs.Waiting.{alert, becomes_pending, expire, signal_and_wait, sleep, wait, wait_result}
 
 -- what became of a slot, as a reply says it; other replies say nothing of a slot
 abbrev pub reclaim_in : Reply → Reclaim
@@ -49,21 +49,26 @@ outcome_of s (calls.GetFlags thread handle) reply = handle_flags s thread handle
 outcome_of s (calls.SetFlags thread handle mask flags) reply = set_handle_flags s thread handle mask flags
 outcome_of s (calls.SetEvent thread handle) reply = set_event s thread handle
 outcome_of s (calls.ResetEvent thread handle) reply = reset_event s thread handle
+outcome_of s (calls.PulseEvent thread handle) reply = pulse_event s thread handle
 outcome_of s (calls.ReleaseSemaphore thread handle count) reply = release_semaphore s thread handle count
 outcome_of s (calls.ReleaseMutex thread handle) reply = release_mutex s thread handle
 outcome_of s (calls.SignalHost id signaled) reply = signal_host s id signaled
 outcome_of s (calls.SetTimer thread handle due) reply = set_timer s thread handle due
+outcome_of s (calls.SetPeriodicTimer thread handle due period) reply = set_periodic_timer s thread handle due period
 outcome_of s (calls.CancelTimer thread handle) reply = cancel_timer s thread handle
 outcome_of s (calls.Tick now) reply = tick s now
 outcome_of s (calls.WaitFor thread mode timeout handles) reply = wait s thread mode timeout handles
+outcome_of s (calls.SignalAndWait thread signal timeout handle) reply = signal_and_wait s thread signal timeout handle
+outcome_of s (calls.Sleep thread timeout) reply = sleep s thread timeout
 outcome_of s (calls.WaitResult number) reply = wait_result s number
 outcome_of s (calls.Expire number) reply = expire s number
+outcome_of s (calls.Alert number) reply = alert s number
 outcome_of s (calls.EndThread thread) reply = end_thread s thread
 outcome_of s (calls.Exit process) reply = exit s process
 outcome_of s (calls.Reap slot) reply = reap s slot (reclaim_in reply)
 outcome_of s (calls.Counts id) reply = counts s id
 
--- whether a call takes memory, which may be wanting: a wait only where it becomes pending, an open or a duplicate only
+-- whether a call takes memory, which may be wanting: a wait or a sleep only where it becomes pending, an open or a duplicate only
 -- where no value was given back; a call that isn't named takes none
 abbrev pub takes_memory : State → Call → Bool
 takes_memory s (calls.Spawn session) = true
@@ -78,6 +83,8 @@ takes_memory s (calls.OpenNamed thread kind mask inherit text) = takes_place s (
 takes_memory s (calls.Duplicate thread source handle target mask inherit options) =
     is_copy (duplicate s thread source handle target mask inherit options) && takes_place s target
 takes_memory s (calls.WaitFor thread mode timeout handles) = becomes_pending (wait s thread mode timeout handles)
+takes_memory s (calls.SignalAndWait thread signal timeout handle) = true
+takes_memory s (calls.Sleep thread timeout) = becomes_pending (sleep s thread timeout)
 takes_memory s call = false
 
 -- the reply and the state of an outcome; a refusal changes nothing

@@ -152,6 +152,13 @@ pub enum CallOf<M, T, H> {
         /// The handle.
         handle: u32,
     },
+    /// `Manager::pulse_event`.
+    PulseEvent {
+        /// The calling thread.
+        thread: u32,
+        /// The handle.
+        handle: u32,
+    },
     /// `Manager::release_semaphore`.
     ReleaseSemaphore {
         /// The calling thread.
@@ -184,6 +191,17 @@ pub enum CallOf<M, T, H> {
         /// When it is due, in units of 100 ns: a moment, or below 0 so many units from now.
         due: i64,
     },
+    /// `Manager::set_periodic_timer`.
+    SetPeriodicTimer {
+        /// The calling thread.
+        thread: u32,
+        /// The handle.
+        handle: u32,
+        /// When it is due, as of `SetTimer`.
+        due: i64,
+        /// The period in milliseconds, 0 for none.
+        period: i32,
+    },
     /// `Manager::cancel_timer`.
     CancelTimer {
         /// The calling thread.
@@ -207,6 +225,24 @@ pub enum CallOf<M, T, H> {
         /// What it waits for.
         handles: H,
     },
+    /// `Manager::signal_and_wait`.
+    SignalAndWait {
+        /// The calling thread.
+        thread: u32,
+        /// The handle whose object is signaled.
+        signal: u32,
+        /// How long it waits.
+        timeout: Timeout,
+        /// What it waits for.
+        handle: u32,
+    },
+    /// `Manager::sleep`.
+    Sleep {
+        /// The calling thread.
+        thread: u32,
+        /// How long it waits.
+        timeout: Timeout,
+    },
     /// `Manager::wait_result`.
     WaitResult {
         /// The wait.
@@ -214,6 +250,11 @@ pub enum CallOf<M, T, H> {
     },
     /// `Manager::expire`.
     Expire {
+        /// The wait.
+        wait: u32,
+    },
+    /// `Manager::alert`.
+    Alert {
         /// The wait.
         wait: u32,
     },
@@ -306,6 +347,7 @@ impl<M, T, H> CallOf<M, T, H> {
             },
             CallOf::SetEvent { thread, handle } => CallOf::SetEvent { thread, handle },
             CallOf::ResetEvent { thread, handle } => CallOf::ResetEvent { thread, handle },
+            CallOf::PulseEvent { thread, handle } => CallOf::PulseEvent { thread, handle },
             CallOf::ReleaseSemaphore {
                 thread,
                 handle,
@@ -326,10 +368,34 @@ impl<M, T, H> CallOf<M, T, H> {
                 handle,
                 due,
             },
+            CallOf::SetPeriodicTimer {
+                thread,
+                handle,
+                due,
+                period,
+            } => CallOf::SetPeriodicTimer {
+                thread,
+                handle,
+                due,
+                period,
+            },
             CallOf::CancelTimer { thread, handle } => CallOf::CancelTimer { thread, handle },
             CallOf::Tick { now } => CallOf::Tick { now },
+            CallOf::SignalAndWait {
+                thread,
+                signal,
+                timeout,
+                handle,
+            } => CallOf::SignalAndWait {
+                thread,
+                signal,
+                timeout,
+                handle,
+            },
+            CallOf::Sleep { thread, timeout } => CallOf::Sleep { thread, timeout },
             CallOf::WaitResult { wait } => CallOf::WaitResult { wait },
             CallOf::Expire { wait } => CallOf::Expire { wait },
+            CallOf::Alert { wait } => CallOf::Alert { wait },
             CallOf::EndThread { thread } => CallOf::EndThread { thread },
             CallOf::Exit { process } => CallOf::Exit { process },
             CallOf::Reap { slot } => CallOf::Reap { slot },

@@ -54,17 +54,24 @@ impl<K: PinKeeper> Manager<K> {
                 handles::set_handle_flags(&mut self.store, *thread, *handle, *mask, *flags),
             CallOf::SetEvent { thread, handle } => signaling::set_event(&mut self.store, *thread, *handle),
             CallOf::ResetEvent { thread, handle } => signaling::reset_event(&mut self.store, *thread, *handle),
+            CallOf::PulseEvent { thread, handle } => signaling::pulse_event(&mut self.store, *thread, *handle),
             CallOf::ReleaseSemaphore { thread, handle, count } =>
                 signaling::release_semaphore(&mut self.store, *thread, *handle, *count),
             CallOf::ReleaseMutex { thread, handle } => signaling::release_mutex(&mut self.store, *thread, *handle),
             CallOf::SignalHost { id, signaled } => signaling::signal_host(&mut self.store, *id, *signaled),
             CallOf::SetTimer { thread, handle, due } => timing::set_timer(&mut self.store, *thread, *handle, *due),
+            CallOf::SetPeriodicTimer { thread, handle, due, period } =>
+                timing::set_periodic_timer(&mut self.store, *thread, *handle, *due, *period),
             CallOf::CancelTimer { thread, handle } => timing::cancel_timer(&mut self.store, *thread, *handle),
             CallOf::Tick { now } => timing::tick(&mut self.store, *now),
             CallOf::WaitFor { thread, mode, timeout, handles } =>
                 waiting::wait(&mut self.store, *thread, *mode, *timeout, handles.as_slice()),
+            CallOf::SignalAndWait { thread, signal, timeout, handle } =>
+                waiting::signal_and_wait(&mut self.store, *thread, *signal, *timeout, *handle),
+            CallOf::Sleep { thread, timeout } => waiting::sleep(&mut self.store, *thread, *timeout),
             CallOf::WaitResult { wait } => waiting::wait_result(&mut self.store, *wait),
             CallOf::Expire { wait } => waiting::expire(&mut self.store, *wait),
+            CallOf::Alert { wait } => waiting::alert(&mut self.store, *wait),
             CallOf::EndThread { thread } => ending::end_thread(&mut self.store, *thread),
             CallOf::Exit { process } => ending::exit(&mut self.store, *process),
             CallOf::Reap { slot } => reaping::reap(&mut self.store, *slot),
@@ -115,6 +122,7 @@ pub(crate) fn reply_of(answer: Result<Reply, Fault>) -> Reply
         Ok(Reply::Previous { count }) => Reply::Previous { count },
         Ok(Reply::Code { code }) => Reply::Code { code },
         Ok(Reply::Pending { wait }) => Reply::Pending { wait },
+        Ok(Reply::Signaled { wait }) => Reply::Signaled { wait },
         Ok(Reply::Expired { wait }) => Reply::Expired { wait },
         Ok(Reply::Ticked { now }) => Reply::Ticked { now },
         Ok(Reply::Ended { thread }) => Reply::Ended { thread },

@@ -420,6 +420,18 @@ impl<K: PinKeeper> Manager<K> {
         self.call(&Ask::ReleaseMutex { thread, handle })
     }
 
+    /// Sets an event and resets it: `Done` ([PulseEvent]). Who waits may be satisfied by it, one of them where the event
+    /// isn't reset by hand; it is nonsignaled behind the call.
+    ///
+    /// Refused as [`set_event`](Manager::set_event) is.
+    ///
+    /// [PulseEvent]: https://learn.microsoft.com/windows/win32/api/winbase/nf-winbase-pulseevent
+    pub fn pulse_event(&mut self, thread: u32, handle: u32) -> Reply
+        ensures { Step self.old (calls.PulseEvent thread handle) result self.new }
+    {
+        self.call(&Ask::PulseEvent { thread, handle })
+    }
+
     /// Signals an object of the host's own, or resets it: `Done`. It is the host's call, which needs no handle, no
     /// thread and no right.
     ///
@@ -448,7 +460,27 @@ impl<K: PinKeeper> Manager<K> {
         })
     }
 
-    /// Takes a timer's due moment away; it stays as signaled as it is: `Done` ([CancelWaitableTimer]). It is refused as
+    /// Sets a timer with a period in milliseconds, of 10,000 units of time each, 0 for none: `Done` ([SetWaitableTimer]).
+    /// Each time its moment comes it is signaled, and due again at the first moment after that of the tick which lies
+    /// whole periods behind the moment it was due: it never drifts, and where several have passed it is signaled once. It
+    /// goes on so until it is set anew or cancelled, or ends.
+    ///
+    /// Refused with 87 where the thread isn't live, 170 where it waits, 87 for a period below 0, and then as
+    /// [`set_timer`](Manager::set_timer).
+    ///
+    /// [SetWaitableTimer]: https://learn.microsoft.com/windows/win32/api/synchapi/nf-synchapi-setwaitabletimer
+    pub fn set_periodic_timer(&mut self, thread: u32, handle: u32, due: i64, period: i32) -> Reply
+        ensures { Step self.old (calls.SetPeriodicTimer thread handle due period) result self.new }
+    {
+        self.call(&Ask::SetPeriodicTimer {
+            thread,
+            handle,
+            due,
+            period,
+        })
+    }
+
+    /// Takes a timer's due moment away, and its period; it stays as signaled as it is: `Done` ([CancelWaitableTimer]). It is refused as
     /// [`set_timer`](Manager::set_timer) is.
     ///
     /// [CancelWaitableTimer]: https://learn.microsoft.com/windows/win32/api/synchapi/nf-synchapi-cancelwaitabletimer
@@ -495,6 +527,49 @@ impl<K: PinKeeper> Manager<K> {
         })
     }
 
+    /// Signals the object of one handle and waits for that of another, as one call ([SignalObjectAndWait]): an event is
+    /// set, a semaphore raised by 1, a mutex released. `Code` where the wait is satisfied then, and `Code` with 258 where
+    /// it may not last; otherwise `Signaled` with the number of the wait, which is pending. The wait stands behind those
+    /// that stood before the signal was given; it takes a number though it is satisfied at once (*profile*).
+    ///
+    /// All that may refuse is looked at before anything changes: 87 where the thread isn't live, 170 where it waits, 6
+    /// where there is no such handle, of which the one to signal is looked at first; 5 without the right SYNCHRONIZE to
+    /// wait; 6 where the object to signal is no event, semaphore or mutex, 5 without MODIFY_STATE for an event or a
+    /// semaphore, 298 where the count would pass the maximum, 288 where the thread doesn't own the mutex; 1450 for a mutex
+    /// to wait for that the thread owns as often as the limit lets before the call, and where each wait number was given;
+    /// and then 8 for want of memory.
+    ///
+    /// [SignalObjectAndWait]: https://learn.microsoft.com/windows/win32/api/synchapi/nf-synchapi-signalobjectandwait
+    pub fn signal_and_wait(
+        &mut self,
+        thread: u32,
+        signal: u32,
+        timeout: Timeout,
+        handle: u32,
+    ) -> Reply
+        ensures { Step self.old (calls.SignalAndWait thread signal timeout handle) result self.new }
+    {
+        self.call(&Ask::SignalAndWait {
+            thread,
+            signal,
+            timeout,
+            handle,
+        })
+    }
+
+    /// Waits for nothing until its time is up ([Sleep]): `Code` with 258 where it may not last, and otherwise `Pending`
+    /// with the number of the wait, which is answered with 258 then.
+    ///
+    /// Refused with 87 where the thread isn't live, 170 where it waits, 1450 where each wait number was given, and then
+    /// with 8 for want of memory.
+    ///
+    /// [Sleep]: https://learn.microsoft.com/windows/win32/api/synchapi/nf-synchapi-sleep
+    pub fn sleep(&mut self, thread: u32, timeout: Timeout) -> Reply
+        ensures { Step self.old (calls.Sleep thread timeout) result self.new }
+    {
+        self.call(&Ask::Sleep { thread, timeout })
+    }
+
     /// Takes the code of an answered wait: `Code`. The wait is then over, and its thread may wait again. Where the wait
     /// isn't answered yet the reply is `Pending` (*profile*).
     ///
@@ -512,6 +587,18 @@ impl<K: PinKeeper> Manager<K> {
         ensures { Step self.old (calls.Expire wait) result self.new }
     {
         self.call(&Ask::Expire { wait })
+    }
+
+    /// Ends a pending wait whose thread is to run what was queued to it, as an alertable wait ends ([Wait Functions]):
+    /// `Done`, and the wait's code is 192, `WAIT_IO_COMPLETION`. Which waits are alertable the caller knows.
+    ///
+    /// Refused with 87 where no such wait is pending.
+    ///
+    /// [Wait Functions]: https://learn.microsoft.com/windows/win32/sync/wait-functions
+    pub fn alert(&mut self, wait: u32) -> Reply
+        ensures { Step self.old (calls.Alert wait) result self.new }
+    {
+        self.call(&Ask::Alert { wait })
     }
 
     /// Whether a wait is pending.

@@ -47,8 +47,8 @@ pub enum Reply {
     },
     /// The handle was closed.
     Closed,
-    /// An event or an object of the host's own was set or reset, a mutex released, a timer set or cancelled, or the flags
-    /// of a handle were set.
+    /// An event was set, reset or pulsed, an object of the host's own signaled or reset, a mutex released, a timer set or
+    /// cancelled, a wait ended by an alert, or the flags of a handle were set.
     Done,
     /// The flags of a handle.
     Flags {
@@ -65,12 +65,18 @@ pub enum Reply {
     /// [Wait Functions]: https://learn.microsoft.com/windows/win32/sync/wait-functions
     Code {
         /// For any, the index of the object that satisfied it, from 0, and 128 more where that is an abandoned mutex;
-        /// for all, 0, or 128 where one is an abandoned mutex (*profile*); 258 where its time was up.
+        /// for all, 0, or 128 where one is an abandoned mutex (*profile*); 258 where its time was up, 192 where an alert
+        /// ended it.
         code: u32,
     },
     /// A wait isn't satisfied yet.
     Pending {
         /// Its number, from 1.
+        wait: u32,
+    },
+    /// An object was signaled, and the wait that came with it isn't satisfied yet.
+    Signaled {
+        /// The number of the wait, from 1.
         wait: u32,
     },
     /// A pending wait's time was up.

@@ -1,6 +1,6 @@
 ghost use Rattle.std.specs.Prelude.{◌≡◌, IfOk, None, Some, true, slice_index_or};
 ghost use Rattle.ob_body.specs.Body as spec;
-ghost use Rattle.ob_manager.specs.Signaling.{release_mutex, release_semaphore, reset_event, set_event, signal_host};
+ghost use Rattle.ob_manager.specs.Signaling.{pulse_event, release_mutex, release_semaphore, reset_event, set_event, signal_host};
 ghost use Rattle.ob_manager.specs.Signaling.{host_of};
 ghost use Rattle.ob_manager.specs.Steps.{Gives};
 
@@ -43,6 +43,25 @@ pub fn reset_event<K: PinKeeper>(
     let event = body_of(store, entry.id, Kind::Event)?;
     granted(Rights::MODIFY_STATE, entry)?;
     store.reset(entry.id, event);
+    Ok(Reply::Done)
+}
+
+/// Sets an event, so that waits are satisfied, and resets it.
+pub fn pulse_event<K: PinKeeper>(
+    store: &mut Store<K>,
+    thread: u32,
+    handle: u32,
+) -> Result<Reply, Fault>
+    ensures { Gives result store.old store.new (pulse_event store.old.state thread handle) }
+{
+    let process = caller(store, thread)?;
+    let entry = found(store, process, handle)?;
+    let event = body_of(store, entry.id, Kind::Event)?;
+    granted(Rights::MODIFY_STATE, entry)?;
+    store.set(entry.id, event);
+    if let Some(Body::Event(event)) = store.body(entry.id) {
+        store.reset(entry.id, Body::Event(event));
+    }
     Ok(Reply::Done)
 }
 

@@ -1,5 +1,5 @@
 ghost use Rattle.std.specs.Prelude.{[], ◌∷◌, ℕ, ◌≡◌, ◌≢◌, ◌==◌, ◌<◌, ◌≤◌, Err, IfErr, IfOk, IsSome, None};
-ghost use Rattle.std.specs.Prelude.{Ok, OnOk, Some, false, length, slice_index_or, true};
+ghost use Rattle.std.specs.Prelude.{Ok, OnOk, Some, is_ok, false, length, slice_index_or, true};
 ghost use Rattle.std.specs.Cmp.Lexicographic.{pointwise};
 ghost use Rattle.std.specs.Cmp.Rules.{comparing};
 ghost use Rattle.std.specs.List.{list_any};
@@ -8,7 +8,11 @@ ghost use Rattle.ob_waits.specs.Waits as waits;
 ghost use Rattle.ob_waits.specs.Waits.{nowhere, number_of};
 ghost use Rattle.ob_store.specs.State.{handles_of};
 ghost use Rattle.ob_store.specs.Waiting.{wait_number};
-ghost use Rattle.ob_manager.specs.Waiting.{becomes_pending, collected, deadline_in, expire, has_twice, have_room};
+ghost use Rattle.ob_manager.specs.Waiting.{after_signal, alert, becomes_pending, collected, deadline_in, expire, has_twice};
+ghost use Rattle.ob_manager.specs.Waiting.{give_and_wait, have_room, lasts_until, signal_and_wait, signaled, sleep, told_at};
+ghost use Rattle.ob_store.specs.Waiting.{are_waits_given};
+ghost use Rattle.ob_waits.specs.Form.{IsAfter};
+ghost use Rattle.ob_store.specs.Kept.{Yields};
 ghost use Rattle.ob_manager.specs.Waiting.{is_for_one_twice, is_misshapen, is_zero, lacks_synchronize, objects_of};
 ghost use Rattle.ob_manager.specs.Waiting.{same_handle, wait, wait_on, wait_result};
 ghost use Rattle.ob_manager.specs.Checks.{caller};
@@ -16,13 +20,15 @@ ghost use Rattle.ob_manager.specs.Steps.{Gives, GivesOrLacks};
 ghost use Rattle.pin_core.specs.Holds.{same_id};
 ghost use Rattle.ob_manager.specs.Rising.{listed, place_of_handle, place_of_object, rise};
 
-use crate::checks::{caller, found};
+use crate::checks::{caller, found, granted};
 use crate::reply::Reply;
+use crate::timing::moment_of;
 use arrayvec::ArrayVec;
-use ob_rights::{Fault, Rights, within};
+use ob_body::Body;
+use ob_rights::{Fault, Kind, Rights, within};
 use ob_store::{LAST_MOMENT, Store};
 use ob_tables::Entry;
-use ob_waits::{MAXIMUM_WAIT_OBJECTS, Mode, WAIT_TIMEOUT, WaitState};
+use ob_waits::{MAXIMUM_WAIT_OBJECTS, Mode, WAIT_IO_COMPLETION, WAIT_TIMEOUT, WaitState};
 use pin_core::{Id, same_id};
 use pin_words::PinKeeper;
 use std::alloc::{AllocError, Global};
@@ -39,6 +45,9 @@ pub enum Timeout {
     /// For so many milliseconds, of 10,000 units of time each: 0 is not at all, 4,294,967,295 until the wait is
     /// satisfied.
     Millis(u32),
+    /// Until a moment, in units of 100 ns, or below 0 for so many units from now; not at all where the moment isn't
+    /// after now.
+    Until(i64),
 }
 
 /// Handles that somebody waits for. A contract sees them as the list that they are.
@@ -316,13 +325,15 @@ fn have_room<K: PinKeeper>(store: &Store<K>, thread: u32, ids: &[Id]) -> bool
 }
 
 /// Whether a wait never becomes pending.
-fn is_zero(timeout: Timeout) -> bool
-    ensures { result ≡ is_zero timeout }
+fn is_zero(now: u64, timeout: Timeout) -> bool
+    requires { now ≤ LAST_MOMENT }
+    ensures { result ≡ is_zero now timeout }
 {
     match timeout {
         Timeout::Zero => true,
         Timeout::Infinite => false,
         Timeout::Millis(millis) => millis == 0,
+        Timeout::Until(due) => moment_of(now, due) <= now,
     }
 }
 
@@ -333,8 +344,24 @@ fn deadline_in(now: u64, timeout: Timeout) -> Option<u64>
 {
     match timeout {
         Timeout::Millis(millis) if millis < u32::MAX => Some(now + 10_000 * u64::from(millis)),
+        Timeout::Until(due) => {
+            let moment = moment_of(now, due);
+            if now < moment { Some(moment) } else { None }
+        }
         _ => None,
     }
+}
+
+/// Until when a wait lasts: what never becomes pending has no deadline.
+fn lasts_until(now: u64, timeout: Timeout) -> Option<u64>
+    requires { now ≤ LAST_MOMENT }
+    ensures value { result ≡ lasts_until now timeout }
+    ensures ahead { IsAfter now result }
+{
+    if is_zero(now, timeout) {
+        return None;
+    }
+    deadline_in(now, timeout)
 }
 
 /// Waits for objects: takes what satisfies the wait now, or lets it become pending.
@@ -346,7 +373,7 @@ fn wait_on<K: PinKeeper>(
     timeout: Timeout,
     ids: &[Id],
 ) -> Result<Reply, Fault>
-    requires not_empty { 0 < length ids.now }
+    requires not_empty { mode ≡ Mode.All → 0 < length ids.now }
     requires at_most { length ids.now ≤ 64 }
     requires alone { number_of thread store.old.state.waits ≡ None }
     requires live { IsSome (slice_index_or store.old.state.threads thread None) }
@@ -367,7 +394,7 @@ fn wait_on<K: PinKeeper>(
     if let Some(code) = store.take_now(thread, mode, ids) {
         return Ok(Reply::Code { code });
     }
-    if is_zero(timeout) {
+    if is_zero(store.now(), timeout) {
         return Ok(Reply::Code { code: WAIT_TIMEOUT });
     }
     let deadline = deadline_in(store.now(), timeout);
@@ -473,6 +500,126 @@ pub fn expire<K: PinKeeper>(store: &mut Store<K>, wait: u32) -> Result<Reply, Fa
     if !is_pending(store, wait) {
         return Err(Fault::Parameter);
     }
-    store.expire(wait);
+    store.end_wait(wait, WAIT_TIMEOUT);
     Ok(Reply::Expired { wait })
+}
+
+/// Ends a pending wait as an alert does.
+pub fn alert<K: PinKeeper>(store: &mut Store<K>, wait: u32) -> Result<Reply, Fault>
+    ensures { Gives result store.old store.new (alert store.old.state wait) }
+{
+    if !is_pending(store, wait) {
+        return Err(Fault::Parameter);
+    }
+    store.end_wait(wait, WAIT_IO_COMPLETION);
+    Ok(Reply::Done)
+}
+
+/// Has a thread wait for nothing, until its time is up.
+#[inline(never)]
+pub fn sleep<K: PinKeeper>(
+    store: &mut Store<K>,
+    thread: u32,
+    timeout: Timeout,
+) -> Result<Reply, Fault>
+    ensures gives { GivesOrLacks result store.old store.new (sleep store.old.state thread timeout) }
+    ensures memory { result ≡ Err Fault.Memory → becomes_pending (sleep store.old.state thread timeout) ≡ true }
+{
+    caller(store, thread)?;
+    wait_on(store, thread, Mode::Any, timeout, &[])
+}
+
+/// Makes of a body what a signal does: an event is set, a semaphore raised by 1, a mutex released.
+fn signal(thread: u32, entry: Entry, body: &mut Body) -> Result<(), Fault>
+    ensures value { signaled result body.new ≡ after_signal thread entry (Some body.old) }
+    ensures yields { OnOk result ((clock : ℕ) → Yields clock body.old body.new) }
+    ensures refusal { IfErr result (λ fault. fault ≢ Fault.Memory) }
+{
+    match body.kind() {
+        Kind::Event => {
+            granted(Rights::MODIFY_STATE, entry)?;
+            body.set();
+        }
+        Kind::Semaphore => {
+            granted(Rights::MODIFY_STATE, entry)?;
+            body.post(1)?;
+        }
+        Kind::Mutex => body.unlock(thread)?,
+        _ => return Err(Fault::Handle),
+    }
+    Ok(())
+}
+
+/// What the wait of a signal and a wait is answered with, or that it is pending.
+fn told_at(wait: u32, stands: Option<WaitState>) -> Reply
+    ensures { result ≡ told_at wait stands }
+{
+    match stands {
+        Some(WaitState::Answered(code)) => Reply::Code { code },
+        _ => Reply::Signaled { wait },
+    }
+}
+
+/// Gives an object the body by which it is signaled as a thread begins to wait for another.
+fn give_and_wait<K: PinKeeper>(
+    store: &mut Store<K>,
+    thread: u32,
+    timeout: Timeout,
+    waited: Id,
+    signaled: Id,
+    before: Body,
+    after: Body,
+) -> Result<Reply, Fault>
+    requires room { have_room store.old.state thread (waited ∷ []) ≡ true }
+    requires alone { number_of thread store.old.state.waits ≡ None }
+    requires live { IsSome (slice_index_or store.old.state.threads thread None) }
+    requires handled { 0 < handles_of store.old.state waited }
+    requires bodied { slice_index_or store.old.state.bodies signaled.slot None ≡ Some before }
+    requires yields { Yields store.old.state.clock before after }
+    ensures gives { GivesOrLacks result store.old store.new (give_and_wait store.old.state thread timeout waited signaled after) }
+    ensures memory { result ≡ Err Fault.Memory → are_waits_given store.old.state ≡ false }
+{
+    let at_once = is_zero(store.now(), timeout);
+    let deadline = lasts_until(store.now(), timeout);
+    let (wait, stands) = store.signal_and_wait(
+        thread, waited, at_once, deadline, signaled, before, after,
+    )?;
+    Ok(told_at(wait, stands))
+}
+
+/// Signals the object of one handle and has the thread wait for that of another, as one call.
+#[inline(never)]
+pub fn signal_and_wait<K: PinKeeper>(
+    store: &mut Store<K>,
+    thread: u32,
+    to_signal: u32,
+    timeout: Timeout,
+    handle: u32,
+) -> Result<Reply, Fault>
+    ensures gives { GivesOrLacks result store.old store.new
+        (signal_and_wait store.old.state thread to_signal timeout handle) }
+    ensures memory { result ≡ Err Fault.Memory
+        → is_ok (signal_and_wait store.old.state thread to_signal timeout handle) ≡ true }
+{
+    let process = caller(store, thread)?;
+    let signaled = found(store, process, to_signal)?;
+    let waited = found(store, process, handle)?;
+    if lacks_synchronize(waited) {
+        return Err(Fault::Access);
+    }
+    let before = store.body(signaled.id).ok_or(Fault::Handle)?;
+    let mut after = before;
+    signal(thread, signaled, &mut after)?;
+    if !have_room(store, thread, &[waited.id]) {
+        return Err(Fault::Limit);
+    }
+    give_and_wait(
+        store,
+        thread,
+        timeout,
+        waited.id,
+        signaled.id,
+        before,
+        after,
+    )
 }

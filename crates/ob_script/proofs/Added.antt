@@ -1,13 +1,17 @@
 -- The lines that `--more` adds are bad without it, and each other line is what it is without it.
-use Rattle.std.proofs.Common.{◌≡◌, ◌⊎◌, inl, inr, ℕ, List, [], ◌∷◌, Bool, true, false, Option, Some, None, refl, codes, length, if◌then◌else◌, nat_lt, ◌==◌, ◌||◌}
+use Rattle.std.proofs.Common.{arith, ◌≡◌, ◌⊎◌, inl, inr, ℕ, List, [], ◌∷◌, Bool, true, false, Option, Some, None, refl, codes, length, if◌then◌else◌, nat_lt, ◌==◌, ◌||◌}
 use Rattle.std.specs.Prelude.{slice_index}
 use Rattle.std.specs.Str.{bytes_eq}
+use Rattle.std.proofs.lemmas.Bool.{cases_eq}
+use Rattle.std.proofs.lemmas.Bool.Decides.{nat_tests}
 use Rattle.ob_rights.specs.declared.kind.Kind.{Kind}
 use Rattle.ob_rights.specs.declared.kind.Kind.TheVariants.{Event, Mutex, Semaphore, Timer}
+use Rattle.ob_manager.specs.declared.waiting.Timeout.{Timeout}
+use Rattle.ob_manager.specs.declared.waiting.Timeout.TheVariants.{Infinite}
 use Rattle.ob_manager.specs.Calls.{Call}
 use Rattle.ob_script.specs.Commands.{Command, Bad}
-use Rattle.ob_script.specs.Words.{kind_of, words_of, ◌>>=◌}
-use Rattle.ob_script.specs.Grammar.{asked, command_of, command_of_text, command_of_words, open_of, text_of}
+use Rattle.ob_script.specs.Words.{kind_of, labelled, number_of, words_of, ◌>>=◌}
+use Rattle.ob_script.specs.Grammar.{asked, command_of, command_of_text, command_of_words, limit_of, mode_of, open_of, text_of, timeout_of, wait_of}
 
 abbrev IsAdded : Command → Command → Type 0
 IsAdded before after = (before ≡ Bad) ⊎ (after ≡ before)
@@ -46,12 +50,40 @@ open_added (thread ∷ []) = inl refl
 open_added (thread ∷ kind ∷ []) = inl refl
 open_added (thread ∷ kind ∷ mask ∷ words) = then_added _ _ _ (λ thread. kind_added kind _)
 
+-- an at-sign is no digit
+no_number : (rest : List ℕ) → number_of (64 ∷ rest) ≡ None
+no_number rest = grind (arith, nat_tests)
+
+limit_added : (word : List ℕ) (f : Timeout → Option Call)
+    → IsAdded (asked (limit_of false word >>= f)) (asked (limit_of true word >>= f))
+limit_added [] f = inr refl
+limit_added (first ∷ rest) f = elim (cases_eq first 64) [
+  | inl same ↦ inl (grind (arith, nat_tests, same, no_number rest))
+  | inr other ↦ inr (grind (arith, nat_tests, other))
+]
+
+timeout_added : (word : List ℕ) (f : Timeout → Option Call)
+    → IsAdded (asked (timeout_of false word >>= f)) (asked (timeout_of true word >>= f))
+timeout_added word f = by (bytes_eq word (codes "inf"))
+  where
+    by : (b : Bool) → IsAdded (asked ((if b then Some Infinite else limit_of false word) >>= f))
+        (asked ((if b then Some Infinite else limit_of true word) >>= f))
+    by true = inr refl
+    by false = limit_added word f
+
+wait_added : (words : List (List ℕ)) → IsAdded (asked (wait_of false words)) (asked (wait_of true words))
+wait_added [] = inl refl
+wait_added (thread ∷ []) = inl refl
+wait_added (thread ∷ mode ∷ []) = inl refl
+wait_added (thread ∷ mode ∷ timeout ∷ words) =
+    then_added (labelled 116 thread) _ _ (λ thread. then_added (mode_of mode) _ _ (λ mode. timeout_added timeout _))
+
 words_added : (words : List (List ℕ)) → IsAdded (command_of_words false words) (command_of_words true words)
 words_added [] = inl refl
 words_added (verb ∷ words) =
     chosen (bytes_eq verb (codes "close")) _ _ _ _ (inr refl)
     (chosen (bytes_eq verb (codes "set")) _ _ _ _ (inr refl)
-    (chosen (bytes_eq verb (codes "wait")) _ _ _ _ (inr refl)
+    (chosen (bytes_eq verb (codes "wait")) _ _ _ _ (wait_added words)
     (chosen (bytes_eq verb (codes "count")) _ _ _ _ (inr refl)
     (chosen (bytes_eq verb (codes "event")) _ _ _ _ (inr refl)
     (chosen (bytes_eq verb (codes "reset")) _ _ _ _ (inr refl)

@@ -1,11 +1,11 @@
 -- A call is answered as its line is.
-use Rattle.std.proofs.Common.{◌≡◌, ℕ, Bool, Option, None, Result, Ok, slice_index_or, if◌then◌else◌, ◌↔◌, arith}
+use Rattle.std.proofs.Common.{◌≡◌, sym, ℕ, Bool, Option, None, Result, Ok, slice_index_or, if◌then◌else◌, ◌↔◌, arith}
 use Rattle.ob_rights.specs.declared.rights.Rights.{Rights}
 use Rattle.ob_manager.specs.declared.reply.Reply.{Reply}
 use Rattle.ob_rights.specs.declared.fault.Fault.{Fault}
 use Rattle.ob_rights.specs.declared.fault.Fault.TheVariants as fault
 use Rattle.ob_tables.specs.declared.entry.Entry.{Entry}
-use Rattle.ob_manager.specs.declared.waiting.Timeout.TheVariants.{Zero, Infinite, Millis}
+use Rattle.ob_manager.specs.declared.waiting.Timeout.TheVariants.{Zero, Infinite, Millis, Until}
 use Rattle.ob_manager.specs.Calls.{Call}
 use Rattle.ob_manager.specs.declared.call.CallOf.TheVariants as calls
 use Rattle.ob_manager.specs.Copying.{is_stuck, is_wrong, keeps_rights, leaves, with_source, without_source}
@@ -44,12 +44,31 @@ carries a b alike w v reply (lacks takes ok is same) = search arith
 itself : (call : Call) → Alike call call
 itself call = search arith
 
+flipped : (a b : Call) → Alike a b → Alike b a
+flipped a b alike = record {
+  outcome = λ s reply. sym (alike.outcome s reply);
+  memory = λ s. sym (alike.memory s);
+  duplicates = sym alike.duplicates;
+}
+
 said_alike : (call : Call) → Alike (as_said call) call
 said_alike (calls.Duplicate thread source handle target mask inherit options) = search arith
 said_alike (calls.WaitFor thread mode Zero handles) = search arith
 said_alike (calls.WaitFor thread mode Infinite handles) = itself _
 said_alike (calls.WaitFor thread mode (Millis millis) handles) = itself _
+said_alike (calls.WaitFor thread mode (Until due) handles) = itself _
+said_alike (calls.SignalAndWait thread signal Zero handle) = search arith
+said_alike (calls.SignalAndWait thread signal Infinite handle) = itself _
+said_alike (calls.SignalAndWait thread signal (Millis millis) handle) = itself _
+said_alike (calls.SignalAndWait thread signal (Until due) handle) = itself _
+said_alike (calls.Sleep thread Zero) = search arith
+said_alike (calls.Sleep thread Infinite) = itself _
+said_alike (calls.Sleep thread (Millis millis)) = itself _
+said_alike (calls.Sleep thread (Until due)) = itself _
 said_alike call = itself call
 
 pub answered_alike : (w v : Whole) (call : Call) (reply : Reply) → Step w (as_said call) reply v ↔ Step w call reply v
-answered_alike w v call reply = search (arith, carries, said_alike)
+answered_alike w v call reply = (
+  carries (as_said call) call (said_alike call) w v reply,
+  carries call (as_said call) (flipped _ _ (said_alike call)) w v reply,
+)

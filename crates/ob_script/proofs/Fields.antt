@@ -13,16 +13,16 @@ use Rattle.ob_rights.specs.declared.rights.Rights.{Rights}
 use Rattle.ob_waits.specs.declared.wait.Mode.{Mode}
 use Rattle.ob_waits.specs.declared.wait.Mode.TheVariants.{Any, All}
 use Rattle.ob_manager.specs.declared.waiting.Timeout.{Timeout}
-use Rattle.ob_manager.specs.declared.waiting.Timeout.TheVariants.{Zero, Infinite, Millis}
+use Rattle.ob_manager.specs.declared.waiting.Timeout.TheVariants.{Zero, Infinite, Millis, Until}
 use Rattle.ob_manager.specs.Makings.{Making}
 use Rattle.ob_manager.specs.Copying.{closes, keeps_rights}
 use Rattle.ob_script.specs.Words.{words_of, joined, begins_with, behind, labelled, number_of, id_of, mask_of, kind_of, type_of, either_of, are_handles, handles_in, ◌>>=◌}
-use Rattle.ob_script.specs.Grammar.{masked, text_of_words, name_of, named, make_of, target_of, access_of, closing_of, mode_of, timeout_of}
+use Rattle.ob_script.specs.Grammar.{masked, text_of_words, name_of, named, make_of, target_of, access_of, closing_of, mode_of, limit_of, timeout_of}
 use Rattle.ob_script.specs.Fitting.{FitsKind, FitsMake, FitsTarget, FitsTimeout, FitHandles}
 use Rattle.ob_script.specs.Writing.{label, id_word, mask_word, either_word, word_if, mask_words, text_words, name_words, make_words, kind_word, mode_word, timeout_word, target_word}
 use Rattle.ob_script.proofs.Cuts.{words_joined}
-use Rattle.ob_script.proofs.Numerals.{reads_number, reads_mask}
-use Rattle.ob_script.proofs.Spaces.{is_word, AreWords, read_words, reads_front, word_append, decimal_word, hex_word}
+use Rattle.ob_script.proofs.Numerals.{digit_is, reads_due, reads_number, reads_mask}
+use Rattle.ob_script.proofs.Spaces.{is_word, AreWords, read_words, reads_front, word_append, decimal_word, hex_word, signed_word}
 
 -- the next value is read, and what is made of it
 pub read_next : {A B : Type 0} (read : Option A) (value : A) (make : A → Option B) → read ≡ Some value
@@ -189,24 +189,33 @@ not_inf : (ds : List ℕ) → IsNumeral 10 ds → bytes_eq ds (codes "inf") ≡ 
 not_inf [] is = absurd (omega arith)
 not_inf (c ∷ cs) is = search arith
 
-reads_millis : (n : ℕ) → n ≤ 4294967295 → timeout_of (decimal n) ≡ Some (Millis n)
-reads_millis n fits = search (arith, not_inf, decimal_is_IsNumeral, reads_number)
+-- nor begin with an at-sign
+limit_digits : (ds : List ℕ) → IsNumeral 10 ds
+    → limit_of true ds ≡ (number_of ds >>= (λ millis. Some (Millis millis)))
+limit_digits [] is = absurd (omega (arith, is.0))
+limit_digits (c ∷ cs) is = search (arith, digit_is, is.1.0)
+
+reads_millis : (n : ℕ) → n ≤ 4294967295 → timeout_of true (decimal n) ≡ Some (Millis n)
+reads_millis n fits = search (arith, not_inf, limit_digits, decimal_is_IsNumeral, reads_number)
 
 abbrev pub said_timeout : Timeout → Timeout
 said_timeout Zero = Millis 0
 said_timeout Infinite = Infinite
 said_timeout (Millis millis) = Millis millis
+said_timeout (Until due) = Until due
 
 pub reads_timeout : (timeout : Timeout) → FitsTimeout timeout
-    → timeout_of (timeout_word timeout) ≡ Some (said_timeout timeout)
+    → timeout_of true (timeout_word timeout) ≡ Some (said_timeout timeout)
 reads_timeout Zero fits = reads_millis 0 (omega arith)
 reads_timeout Infinite fits = refl
 reads_timeout (Millis millis) fits = reads_millis millis fits
+reads_timeout (Until due) fits = ap (λ read. read >>= (λ d. Some (Until d))) (reads_due due fits)
 
 pub timeout_is_word : (timeout : Timeout) → is_word (timeout_word timeout) ≡ true
 timeout_is_word Zero = decimal_word 0
 timeout_is_word Infinite = refl
 timeout_is_word (Millis millis) = decimal_word millis
+timeout_is_word (Until due) = signed_word due
 
 pub reads_handles : (handles : List ℕ) → FitHandles handles
     → (are_handles (map (label 104) handles) ≡ true) × (handles_in (map (label 104) handles) ≡ handles)

@@ -23,7 +23,7 @@ use Rattle.ob_manager.specs.Timing.{tick}
 use Rattle.ob_manager.specs.Waiting.{wait}
 use Rattle.ob_manager.specs.Steps.{Step, does, closes as closes_source, lacks, KeeperAfter, final, outcome_of}
 use Rattle.ob_script.specs.Fitting.{Fits, FitsKind, FitsMake, FitsTarget, FitsTimeout, FitHandles}
-use Rattle.ob_script.specs.Writing.{label, either_word, word_if, name_words, make_words, handle_words, words_for, can_be_said, line_of, mask_word, kind_word}
+use Rattle.ob_script.specs.Writing.{label, either_word, word_if, name_words, make_words, handle_words, words_for, can_be_said, line_of, mask_word, kind_word, timeout_word}
 use Rattle.ob_script.proofs.Short.{IsShort, AreShort, no_feed, have_line, number_short, label_short, id_short, signed_short, mask_short, known_short, kind_short, mode_short, timeout_short, target_short, access_short, handles_short, append_short, if_short, masks_short, make_few}
 
 -- a chain of tests fails where its first part does, and where all that follows does
@@ -311,6 +311,10 @@ fails s (calls.ResetEvent thread handle) reply fits none =
     absurd (have_line 260 (calls.ResetEvent thread handle) refl
     (handle_short (codes "reset") thread handle [] (word (codes "reset") (omega arith) refl) fits.0 fits.1 tt)
     (omega arith) none)
+fails s (calls.PulseEvent thread handle) reply fits none =
+    absurd (have_line 260 (calls.PulseEvent thread handle) refl
+    (handle_short (codes "pulse") thread handle [] (word (codes "pulse") (omega arith) refl) fits.0 fits.1 tt)
+    (omega arith) none)
 fails s (calls.ReleaseSemaphore thread handle count) reply fits none =
     absurd (have_line 260 (calls.ReleaseSemaphore thread handle count) refl
     (handle_short (codes "release") thread handle (signed_decimal count ∷ [])
@@ -336,6 +340,14 @@ fails s (calls.SetTimer thread handle due) reply fits none =
     (search arith) fits.0 fits.1
     (signed_short 260 wide 9223372036854775808 due (omega arith) fits.2, tt))
     (omega arith) none)
+fails s (calls.SetPeriodicTimer thread handle due period) reply fits none =
+    absurd (have_line 260 (calls.SetPeriodicTimer thread handle due period) refl
+    (handle_short (codes "setperiod") thread handle (signed_decimal due ∷ signed_decimal period ∷ [])
+    (search arith) fits.0 fits.1 (
+      signed_short 260 wide 9223372036854775808 due (omega arith) fits.2,
+      (signed_short 260 wide 2147483648 period (omega arith) fits.3, tt),
+    ))
+    (omega arith) none)
 fails s (calls.CancelTimer thread handle) reply fits none =
     absurd (have_line 260 (calls.CancelTimer thread handle) refl
     (handle_short (codes "cancel") thread handle [] (search arith) fits.0 fits.1 tt)
@@ -343,12 +355,27 @@ fails s (calls.CancelTimer thread handle) reply fits none =
 fails s (calls.Tick now) reply fits none = tick_fails s now none
 fails s (calls.WaitFor thread mode timeout handles) reply fits none =
     wait_fails s thread mode timeout handles fits.0 fits.1 fits.2 none
+fails s (calls.SignalAndWait thread signal timeout handle) reply fits none =
+    absurd (have_line 260 (calls.SignalAndWait thread signal timeout handle) refl
+    (handle_short (codes "signalwait") thread signal (timeout_word timeout ∷ label 104 handle ∷ [])
+    (search arith) fits.0 fits.1
+    (timeout_short 260 wide timeout fits.2, (label_short 260 wide 104 handle refl fits.3, tt)))
+    (omega arith) none)
+fails s (calls.Sleep thread timeout) reply fits none =
+    absurd (have_line 260 (calls.Sleep thread timeout) refl (
+      word (codes "sleep") (omega arith) refl,
+      (label_short 260 wide 116 thread refl fits.0, (timeout_short 260 wide timeout fits.1, tt)),
+    )
+    (omega arith) none)
 fails s (calls.WaitResult number) reply fits none =
     absurd (have_line 260 (calls.WaitResult number) refl
     (lone_short (codes "result") 119 number (search arith) refl fits) (omega arith) none)
 fails s (calls.Expire number) reply fits none = absurd
     (have_line 260 (calls.Expire number) refl (lone_short (codes "expire") 119 number
     (search arith) refl fits) (omega arith) none)
+fails s (calls.Alert number) reply fits none = absurd
+    (have_line 260 (calls.Alert number) refl (lone_short (codes "alert") 119 number
+    (word (codes "alert") (omega arith) refl) refl fits) (omega arith) none)
 fails s (calls.EndThread thread) reply fits none =
     absurd (have_line 260 (calls.EndThread thread) refl
     (lone_short (codes "endthread") 116 thread (search arith) refl fits)

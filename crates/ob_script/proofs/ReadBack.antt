@@ -19,8 +19,8 @@ use Rattle.ob_script.specs.Grammar.{command_of, command_of_text, command_of_word
 use Rattle.ob_script.specs.Fitting.{Small, FitsKind, FitsSign, FitsMake, FitsTarget, FitsTimeout, FitHandles, Fits}
 use Rattle.ob_script.specs.Writing.{label, id_word, mask_word, either_word, word_if, make_words, kind_word, mode_word, timeout_word, target_word, access_word, handle_words, words_for, text_for, ended, can_be_said, is_line, line_of, as_said, said}
 use Rattle.ob_script.proofs.Numerals.{reads_number, reads_signed, reads_due, reads_moment}
-use Rattle.ob_script.proofs.Spaces.{said_joined, is_word, AreWords, read_words, reads_front, reads_all, decimal_word, hex_word}
-use Rattle.ob_script.proofs.Fields.{said_timeout, reads_either, reads_rights, reads_make, reads_make_words, make_read, reads_text, reads_open_words, reads_id, reads_kind, reads_type, reads_mode, reads_timeout, reads_handles, reads_target, reads_access, reads_closing, no_inherit_close, options_are, behind_inherit, begins_inherit, handles_are_words, id_is_word, kind_is_word, target_is_word, access_is_word, either_is_word}
+use Rattle.ob_script.proofs.Spaces.{said_joined, is_word, AreWords, read_words, reads_front, reads_all, decimal_word, hex_word, signed_word}
+use Rattle.ob_script.proofs.Fields.{said_timeout, reads_either, reads_rights, reads_make, reads_make_words, make_read, reads_text, reads_open_words, reads_id, reads_kind, reads_type, reads_mode, reads_timeout, reads_handles, reads_target, reads_access, reads_closing, no_inherit_close, options_are, behind_inherit, begins_inherit, handles_are_words, id_is_word, kind_is_word, target_is_word, timeout_is_word, access_is_word, either_is_word}
 
 module _ (thread handle : ℕ) (thread_fits : Small thread) (handle_fits : Small handle) where
   names_handle : handle_of (label 116 thread ∷ label 104 handle ∷ []) ≡ Some (thread, handle)
@@ -201,6 +201,20 @@ reads_setflags thread handle mask flags fits handle_fits mask_fits flags_fits =
       reads_number flags flags_fits,
     )
 
+reads_period : (thread handle : ℕ) (due period : ℤ) → Small thread → Small handle → FitsSign 9223372036854775808 due
+    → FitsSign 2147483648 period
+    → command_of_words true (read_words (words_for (calls.SetPeriodicTimer thread handle due period)))
+    ≡ Asks (calls.SetPeriodicTimer thread handle due period)
+reads_period thread handle due period fits handle_fits due_fits period_fits =
+    ap (command_of_words true) (reads_all (words_for (calls.SetPeriodicTimer thread handle due period))
+    (refl, search (arith, decimal_word, signed_word)))
+    ∙ rw (
+      reads_number thread fits,
+      reads_number handle handle_fits,
+      reads_due due due_fits,
+      reads_signed period period_fits,
+    )
+
 said_wait : (thread : ℕ) (mode : Mode) (timeout : Timeout) (handles : List ℕ)
     → calls.WaitFor thread mode (said_timeout timeout) handles ≡ as_said (calls.WaitFor thread mode timeout handles)
 said_wait thread mode Zero handles = refl
@@ -224,6 +238,39 @@ reads_wait thread mode timeout handles fits timeout_fits handles_fit =
       are.1,
       said_wait thread mode timeout handles,
     )
+
+said_met : (thread signal : ℕ) (timeout : Timeout) (handle : ℕ) → calls.SignalAndWait thread signal (said_timeout timeout)
+    handle ≡ as_said (calls.SignalAndWait thread signal timeout handle)
+said_met thread signal Zero handle = refl
+said_met thread signal timeout handle = refl
+
+reads_met : (thread signal : ℕ) (timeout : Timeout) (handle : ℕ) → Small thread → Small signal → FitsTimeout timeout
+    → Small handle
+    → command_of_words true (read_words (words_for (calls.SignalAndWait thread signal timeout handle)))
+    ≡ Asks (as_said (calls.SignalAndWait thread signal timeout handle))
+reads_met thread signal timeout handle fits signal_fits timeout_fits handle_fits =
+    ap (command_of_words true) (reads_all (words_for (calls.SignalAndWait thread signal timeout handle))
+    (refl, search (arith, decimal_word, timeout_is_word)))
+    ∙ rw (
+      reads_number thread fits,
+      reads_number signal signal_fits,
+      reads_timeout timeout timeout_fits,
+      reads_number handle handle_fits,
+      said_met thread signal timeout handle,
+    )
+
+said_sleep : (thread : ℕ) (timeout : Timeout)
+    → calls.Sleep thread (said_timeout timeout) ≡ as_said (calls.Sleep thread timeout)
+said_sleep thread Zero = refl
+said_sleep thread timeout = refl
+
+reads_sleep : (thread : ℕ) (timeout : Timeout) → Small thread → FitsTimeout timeout
+    → command_of_words true (read_words (words_for (calls.Sleep thread timeout)))
+    ≡ Asks (as_said (calls.Sleep thread timeout))
+reads_sleep thread timeout fits timeout_fits =
+    ap (command_of_words true) (reads_all (words_for (calls.Sleep thread timeout))
+    (refl, search (arith, decimal_word, timeout_is_word)))
+    ∙ rw (reads_number thread fits, reads_timeout timeout timeout_fits, said_sleep thread timeout)
 
 reads : (call : Call) → Fits call → can_be_said call ≡ true
     → command_of_words true (read_words (words_for call)) ≡ Asks (as_said call)
@@ -260,6 +307,8 @@ reads (calls.SetEvent thread handle) fits can = of_handle thread handle fits.0 f
     (codes "set") calls.SetEvent refl refl
 reads (calls.ResetEvent thread handle) fits can = of_handle thread handle fits.0 fits.1
     (codes "reset") calls.ResetEvent refl refl
+reads (calls.PulseEvent thread handle) fits can = of_handle thread handle fits.0 fits.1
+    (codes "pulse") calls.PulseEvent refl refl
 reads (calls.ReleaseSemaphore thread handle count) fits can =
     signed_behind thread handle fits.0 fits.1 (codes "release") signed_of calls.ReleaseSemaphore count refl
     (reads_signed count fits.2) refl
@@ -269,17 +318,25 @@ reads (calls.SignalHost id signaled) fits can = reads_signal id signaled fits.0 
 reads (calls.SetTimer thread handle due) fits can =
     signed_behind thread handle fits.0 fits.1 (codes "settimer") due_of calls.SetTimer due refl (reads_due due fits.2)
     refl
+reads (calls.SetPeriodicTimer thread handle due period) fits can =
+    reads_period thread handle due period fits.0 fits.1 fits.2 fits.3
 reads (calls.CancelTimer thread handle) fits can =
     of_handle thread handle fits.0 fits.1 (codes "cancel") calls.CancelTimer refl refl
 reads (calls.Tick now) fits can =
     let most : now ≤ 9223372036854775807 = grind arith in
     lone (codes "tick") (decimal now) moment_of now calls.Tick refl (decimal_word now) (reads_moment now most) refl
 reads (calls.WaitFor thread mode timeout handles) fits can = reads_wait thread mode timeout handles fits.0 fits.1 fits.2
+reads (calls.SignalAndWait thread signal timeout handle) fits can =
+    reads_met thread signal timeout handle fits.0 fits.1 fits.2 fits.3
+reads (calls.Sleep thread timeout) fits can = reads_sleep thread timeout fits.0 fits.1
 reads (calls.WaitResult number) fits can =
     lone (codes "result") (label 119 number) (labelled 119) number calls.WaitResult refl (decimal_word number)
     (reads_number number fits) refl
 reads (calls.Expire number) fits can =
     lone (codes "expire") (label 119 number) (labelled 119) number calls.Expire refl (decimal_word number)
+    (reads_number number fits) refl
+reads (calls.Alert number) fits can =
+    lone (codes "alert") (label 119 number) (labelled 119) number calls.Alert refl (decimal_word number)
     (reads_number number fits) refl
 reads (calls.EndThread thread) fits can =
     lone (codes "endthread") (label 116 thread) (labelled 116) thread calls.EndThread refl (decimal_word thread)

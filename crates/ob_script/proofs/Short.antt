@@ -11,7 +11,7 @@ use Rattle.ob_rights.specs.declared.rights.Rights.{Rights}
 use Rattle.ob_waits.specs.declared.wait.Mode.{Mode}
 use Rattle.ob_waits.specs.declared.wait.Mode.TheVariants.{Any, All}
 use Rattle.ob_manager.specs.declared.waiting.Timeout.{Timeout}
-use Rattle.ob_manager.specs.declared.waiting.Timeout.TheVariants.{Zero, Infinite, Millis}
+use Rattle.ob_manager.specs.declared.waiting.Timeout.TheVariants.{Zero, Infinite, Millis, Until}
 use Rattle.ob_manager.specs.Makings.{Making}
 use Rattle.ob_manager.specs.Calls.{Call}
 use Rattle.ob_script.specs.Words.{joined}
@@ -115,6 +115,14 @@ module _ (most : ℕ) (room : 21 ≤ most) where
   timeout_short Zero fits = number_short 0 (omega arith)
   timeout_short Infinite fits = search arith
   timeout_short (Millis millis) fits = search (arith, number_short)
+  timeout_short (Until (pos n)) fits = record {
+    len = omega (arith, room, length-decimal-le 19 n (omega arith) (omega (arith, fits)) (omega (arith, fits)));
+    within = digits_within 10 n (omega arith);
+  }
+  timeout_short (Until (negsuc n)) fits = record {
+    len = omega (arith, room, length-decimal-le 19 (suc n) (omega arith) (omega (arith, fits)) (omega (arith, fits)));
+    within = digits_within 10 (suc n) (omega arith);
+  }
 
   pub target_short : (target : Option ℕ) → FitsTarget target → IsShort most (target_word target)
   target_short None fits = search arith

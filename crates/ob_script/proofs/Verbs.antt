@@ -9,4 +9,4 @@ skips true rest bad = refl
 skips false rest bad = bad
 
 pub lone_is_bad : (more : Bool) (word : List ℕ) → command_of_words more (word ∷ []) ≡ Bad
-lone_is_bad more word = search (skips) depth 36
+lone_is_bad more word = search (skips) depth 41

@@ -10,7 +10,7 @@ use Rattle.pin_words.specs.declared.pin_keeper.Reclaim.TheVariants.{Freed, Retir
 use Rattle.ob_rights.specs.Fault.{code_of}
 use Rattle.ob_manager.specs.Calls.{Call}
 use Rattle.ob_manager.specs.declared.reply.Reply.{Reply}
-use Rattle.ob_manager.specs.declared.reply.Reply.TheVariants.{Spawned, Started, Made, Exists, Opened, Duplicated, Closed, Done, Flags, Previous, Code, Pending, Expired, Ticked, Ended, Exited, Reaped, CountsAre, Refused}
+use Rattle.ob_manager.specs.declared.reply.Reply.TheVariants.{Spawned, Started, Made, Exists, Opened, Duplicated, Closed, Done, Flags, Previous, Code, Pending, Signaled, Expired, Ticked, Ended, Exited, Reaped, CountsAre, Refused}
 use Rattle.ob_script.specs.Printed.{printed_handle, printed_id, printed_reclaim, printed_reply}
 use Rattle.ob_script.specs.Writing.{can_be_said, ended, is_line, line_of, text_for}
 use Rattle.ob_script.proofs.Short.{digits_within, no_feed}
@@ -59,6 +59,7 @@ reply_has (Flags bits) = known (codes "flags ") bits refl
 reply_has (Previous count) = known (codes "previous ") count refl
 reply_has (Code code) = known (codes "code ") code refl
 reply_has (Pending wait) = known (codes "pending w") wait refl
+reply_has (Signaled wait) = known (codes "signaled w") wait refl
 reply_has (Expired wait) = known (codes "expired w") wait refl
 reply_has (Ticked now) = known (codes "now ") now refl
 reply_has (Ended thread) = known (codes "ended t") thread refl

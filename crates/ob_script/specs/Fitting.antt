@@ -4,7 +4,7 @@ use Rattle.ob_rights.specs.declared.kind.Kind.{Kind}
 use Rattle.ob_rights.specs.declared.kind.Kind.TheVariants.{Host}
 use Rattle.ob_rights.specs.declared.rights.Rights.{Rights}
 use Rattle.ob_manager.specs.declared.waiting.Timeout.{Timeout}
-use Rattle.ob_manager.specs.declared.waiting.Timeout.TheVariants.{Zero, Infinite, Millis}
+use Rattle.ob_manager.specs.declared.waiting.Timeout.TheVariants.{Zero, Infinite, Millis, Until}
 use Rattle.ob_manager.specs.Makings.{Making}
 use Rattle.ob_manager.specs.Calls.{Call}
 use Rattle.ob_manager.specs.declared.call.CallOf.TheVariants as calls
@@ -42,6 +42,7 @@ abbrev pub FitsTimeout : Timeout → Type 0
 FitsTimeout Zero = Unit {0}
 FitsTimeout Infinite = Unit {0}
 FitsTimeout (Millis millis) = millis ≤ 4294967295
+FitsTimeout (Until due) = FitsSign 9223372036854775808 due
 
 -- each handle fits 32 bits
 abbrev pub FitHandles : List ℕ → Type 0
@@ -67,15 +68,21 @@ Fits (calls.GetFlags thread handle) = Small thread × Small handle
 Fits (calls.SetFlags thread handle mask flags) = Small thread × Small handle × Small mask × Small flags
 Fits (calls.SetEvent thread handle) = Small thread × Small handle
 Fits (calls.ResetEvent thread handle) = Small thread × Small handle
+Fits (calls.PulseEvent thread handle) = Small thread × Small handle
 Fits (calls.ReleaseSemaphore thread handle count) = Small thread × Small handle × FitsSign 2147483648 count
 Fits (calls.ReleaseMutex thread handle) = Small thread × Small handle
 Fits (calls.SignalHost id signaled) = Small id.slot × Small id.generation
 Fits (calls.SetTimer thread handle due) = Small thread × Small handle × FitsSign 9223372036854775808 due
+Fits (calls.SetPeriodicTimer thread handle due period) = Small thread × Small handle
+    × FitsSign 9223372036854775808 due × FitsSign 2147483648 period
 Fits (calls.CancelTimer thread handle) = Small thread × Small handle
 Fits (calls.Tick now) = Unit {0}
 Fits (calls.WaitFor thread mode timeout handles) = Small thread × FitsTimeout timeout × FitHandles handles
+Fits (calls.SignalAndWait thread signal timeout handle) = Small thread × Small signal × FitsTimeout timeout × Small handle
+Fits (calls.Sleep thread timeout) = Small thread × FitsTimeout timeout
 Fits (calls.WaitResult number) = Small number
 Fits (calls.Expire number) = Small number
+Fits (calls.Alert number) = Small number
 Fits (calls.EndThread thread) = Small thread
 Fits (calls.Exit process) = Small process
 Fits (calls.Reap slot) = Small slot

@@ -1,17 +1,17 @@
 -- The grammar of a script: what each line is. T is a thread behind the letter t, P a process behind p, H a handle
 -- behind h, W a wait behind w, K a slot behind s and S an object; Y is a type of a host's objects behind k, M a mask, N a
 -- number, I one with a sign, V a moment, and D when a timer is due.
-use Rattle.std.specs.Prelude.{ℕ, ◌+◌, ◌-◌, ◌==◌, ◌&&◌, ◌||◌, nat_lt, Bool, List, [], ◌∷◌, Option, Some, None, if◌then◌else◌, length, codes, slice_index, take}
+use Rattle.std.specs.Prelude.{ℕ, ◌+◌, ◌-◌, ◌==◌, ◌&&◌, ◌||◌, nat_lt, Bool, true, List, [], ◌∷◌, Option, Some, None, if◌then◌else◌, length, codes, slice_index, take}
 use Rattle.std.specs.Str.{bytes_eq}
 use Rattle.pin_core.specs.declared.id.Id.{Id}
 use Rattle.ob_rights.specs.declared.rights.Rights.{Rights}
 use Rattle.ob_waits.specs.declared.wait.Mode.{Mode}
 use Rattle.ob_waits.specs.declared.wait.Mode.TheVariants.{Any, All}
 use Rattle.ob_manager.specs.declared.waiting.Timeout.{Timeout}
-use Rattle.ob_manager.specs.declared.waiting.Timeout.TheVariants.{Infinite, Millis}
+use Rattle.ob_manager.specs.declared.waiting.Timeout.TheVariants.{Infinite, Millis, Until}
 use Rattle.ob_manager.specs.Makings.{Making}
 use Rattle.ob_manager.specs.Calls.{Call}
-use Rattle.ob_manager.specs.declared.call.CallOf.TheVariants.{Spawn, Child, StartThread, MakeEvent, MakeMutex, MakeSemaphore, MakeTimer, MakeHost, OpenNamed, Duplicate, CloseHandle, GetFlags, SetFlags, SetEvent, ResetEvent, ReleaseSemaphore, ReleaseMutex, SignalHost, SetTimer, CancelTimer, Tick, WaitFor, WaitResult, Expire, EndThread, Exit, Reap, Counts}
+use Rattle.ob_manager.specs.declared.call.CallOf.TheVariants.{Spawn, Child, StartThread, MakeEvent, MakeMutex, MakeSemaphore, MakeTimer, MakeHost, OpenNamed, Duplicate, CloseHandle, GetFlags, SetFlags, SetEvent, ResetEvent, ReleaseSemaphore, ReleaseMutex, SignalHost, SetTimer, SetPeriodicTimer, CancelTimer, Tick, WaitFor, WaitResult, Expire, EndThread, Exit, Reap, Counts, PulseEvent, SignalAndWait, Sleep, Alert}
 use Rattle.ob_script.specs.Commands.{Command, Nothing, Bad, ListNames, Asks, Pin, Unpin, ShowCard}
 use Rattle.ob_script.specs.Words.{words_of, joined, begins_with, behind, number_of, signed_of, moment_of, due_of, mask_of, kind_of, labelled, id_of, type_of, either_of, are_handles, handles_in, ◌>>=◌}
 
@@ -172,6 +172,16 @@ settimer_of (thread ∷ handle ∷ due ∷ []) = do
   Some (SetTimer thread handle due)
 settimer_of words = None
 
+-- with `--more` `setperiod T H D I`: the period in milliseconds
+abbrev pub setperiod_of : List (List ℕ) → Option Call
+setperiod_of (thread ∷ handle ∷ due ∷ period ∷ []) = do
+  thread ← labelled 116 thread
+  handle ← labelled 104 handle
+  due ← due_of due
+  period ← signed_of period
+  Some (SetPeriodicTimer thread handle due period)
+setperiod_of words = None
+
 -- `P`, or `-` for no target
 abbrev pub target_of : List ℕ → Option (Option ℕ)
 target_of word = if bytes_eq word (codes "-") then Some None else (do
@@ -207,20 +217,45 @@ abbrev pub mode_of : List ℕ → Option Mode
 mode_of word = if bytes_eq word (codes "any") then Some Any else
     (if bytes_eq word (codes "all") then Some All else None)
 
--- `inf`, or milliseconds
-abbrev pub timeout_of : List ℕ → Option Timeout
-timeout_of word = if bytes_eq word (codes "inf") then Some Infinite else (do
-  millis ← number_of word
-  Some (Millis millis))
+-- milliseconds, or with `--more` behind an at-sign `D`
+abbrev pub limit_of : Bool → List ℕ → Option Timeout
+limit_of more [] = None
+limit_of more (first ∷ rest) = if more && (first == 64) then (do
+  due ← due_of rest
+  Some (Until due)) else (do
+    millis ← number_of (first ∷ rest)
+    Some (Millis millis))
 
--- `wait T any|all N|inf`, and then handles
-abbrev pub wait_of : List (List ℕ) → Option Call
-wait_of (thread ∷ mode ∷ timeout ∷ words) = do
+-- `inf`, or such a limit
+abbrev pub timeout_of : Bool → List ℕ → Option Timeout
+timeout_of more word = if bytes_eq word (codes "inf") then Some Infinite else limit_of more word
+
+-- `wait T any|all N|inf`, and then handles; with `--more` `@D` stands in the place of `N` too
+abbrev pub wait_of : Bool → List (List ℕ) → Option Call
+wait_of more (thread ∷ mode ∷ timeout ∷ words) = do
   thread ← labelled 116 thread
   mode ← mode_of mode
-  timeout ← timeout_of timeout
+  timeout ← timeout_of more timeout
   if are_handles words then Some (WaitFor thread mode timeout (handles_in words)) else None
-wait_of words = None
+wait_of more words = None
+
+-- with `--more` `signalwait T H N|inf|@D H`: the object that is signaled, and the one that is waited for
+abbrev pub signalwait_of : List (List ℕ) → Option Call
+signalwait_of (thread ∷ signal ∷ timeout ∷ handle ∷ []) = do
+  thread ← labelled 116 thread
+  signal ← labelled 104 signal
+  timeout ← timeout_of true timeout
+  handle ← labelled 104 handle
+  Some (SignalAndWait thread signal timeout handle)
+signalwait_of words = None
+
+-- with `--more` `sleep T N|inf|@D`
+abbrev pub sleep_of : List (List ℕ) → Option Call
+sleep_of (thread ∷ timeout ∷ []) = do
+  thread ← labelled 116 thread
+  timeout ← timeout_of true timeout
+  Some (Sleep thread timeout)
+sleep_of words = None
 
 -- `VERB S`: the object
 abbrev pub object_of : List (List ℕ) → Option Id
@@ -243,7 +278,7 @@ command_of_words more [] = Bad
 command_of_words more (verb ∷ words) =
     if bytes_eq verb (codes "close") then asked (handled CloseHandle words)
     else (if bytes_eq verb (codes "set") then asked (handled SetEvent words)
-    else (if bytes_eq verb (codes "wait") then asked (wait_of words)
+    else (if bytes_eq verb (codes "wait") then asked (wait_of more words)
     else (if bytes_eq verb (codes "count") then asked (lone_of id_of Counts words)
     else (if bytes_eq verb (codes "event") then asked (event_of words)
     else (if bytes_eq verb (codes "reset") then asked (handled ResetEvent words)
@@ -272,7 +307,12 @@ command_of_words more (verb ∷ words) =
     else (if bytes_eq verb (codes "card") then on_object ShowCard (object_of words)
     else (if more && bytes_eq verb (codes "host") then asked (host_of words)
     else (if more && bytes_eq verb (codes "signal") then asked (signal_of words)
-    else Bad))))))))))))))))))))))))))))))
+    else (if more && bytes_eq verb (codes "pulse") then asked (handled PulseEvent words)
+    else (if more && bytes_eq verb (codes "signalwait") then asked (signalwait_of words)
+    else (if more && bytes_eq verb (codes "sleep") then asked (sleep_of words)
+    else (if more && bytes_eq verb (codes "alert") then asked (lone_of (labelled 119) Alert words)
+    else (if more && bytes_eq verb (codes "setperiod") then asked (setperiod_of words)
+    else Bad)))))))))))))))))))))))))))))))))))
 
 -- the text of a line: one carriage return at its end is dropped
 abbrev pub text_of : List ℕ → List ℕ

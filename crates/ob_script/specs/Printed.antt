@@ -16,7 +16,7 @@ use Rattle.ob_name.specs.Listing.{Rows}
 use Rattle.ob_name.specs.Refs.{row_at}
 use Rattle.ob_manager.specs.declared.card.Card.{Card}
 use Rattle.ob_manager.specs.declared.reply.Reply.{Reply}
-use Rattle.ob_manager.specs.declared.reply.Reply.TheVariants.{Spawned, Started, Made, Exists, Opened, Duplicated, Closed, Done, Flags, Previous, Code, Pending, Expired, Ticked, Ended, Exited, Reaped, CountsAre, Refused}
+use Rattle.ob_manager.specs.declared.reply.Reply.TheVariants.{Spawned, Started, Made, Exists, Opened, Duplicated, Closed, Done, Flags, Previous, Code, Pending, Signaled, Expired, Ticked, Ended, Exited, Reaped, CountsAre, Refused}
 use Rattle.ob_script.specs.declared.answer.Answer.{Answer}
 use Rattle.ob_script.specs.declared.answer.Answer.TheVariants.{Replied, BadLine, NameCount, Named, Pinned, Unpinned, Shown, NoWait, Lane, Journaled}
 
@@ -50,6 +50,7 @@ printed_reply (Flags bits) = codes "flags " ++ decimal bits
 printed_reply (Previous count) = codes "previous " ++ decimal count
 printed_reply (Code code) = codes "code " ++ decimal code
 printed_reply (Pending number) = codes "pending w" ++ decimal number
+printed_reply (Signaled number) = codes "signaled w" ++ decimal number
 printed_reply (Expired number) = codes "expired w" ++ decimal number
 printed_reply (Ticked now) = codes "now " ++ decimal now
 printed_reply (Ended thread) = codes "ended t" ++ decimal thread

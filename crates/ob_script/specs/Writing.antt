@@ -10,7 +10,7 @@ use Rattle.ob_rights.specs.declared.rights.Rights.{Rights}
 use Rattle.ob_waits.specs.declared.wait.Mode.{Mode}
 use Rattle.ob_waits.specs.declared.wait.Mode.TheVariants.{Any, All}
 use Rattle.ob_manager.specs.declared.waiting.Timeout.{Timeout}
-use Rattle.ob_manager.specs.declared.waiting.Timeout.TheVariants.{Zero, Infinite, Millis}
+use Rattle.ob_manager.specs.declared.waiting.Timeout.TheVariants.{Zero, Infinite, Millis, Until}
 use Rattle.ob_manager.specs.Makings.{Making}
 use Rattle.ob_manager.specs.Calls.{Call}
 use Rattle.ob_manager.specs.Copying.{closes, keeps_rights}
@@ -70,6 +70,7 @@ abbrev pub timeout_word : Timeout → List ℕ
 timeout_word Zero = decimal 0
 timeout_word Infinite = codes "inf"
 timeout_word (Millis millis) = decimal millis
+timeout_word (Until due) = 64 ∷ signed_decimal due
 
 abbrev pub target_word : Option ℕ → List ℕ
 target_word None = codes "-"
@@ -113,6 +114,7 @@ words_for (calls.SetFlags thread handle mask flags) =
     handle_words (codes "setflags") thread handle (decimal mask ∷ decimal flags ∷ [])
 words_for (calls.SetEvent thread handle) = handle_words (codes "set") thread handle []
 words_for (calls.ResetEvent thread handle) = handle_words (codes "reset") thread handle []
+words_for (calls.PulseEvent thread handle) = handle_words (codes "pulse") thread handle []
 words_for (calls.ReleaseSemaphore thread handle count) =
     handle_words (codes "release") thread handle (signed_decimal count ∷ [])
 words_for (calls.ReleaseMutex thread handle) = handle_words (codes "unlock") thread handle []
@@ -120,12 +122,18 @@ words_for (calls.SignalHost id signaled) =
     codes "signal" ∷ id_word id ∷ either_word (codes "clear") (codes "set") signaled ∷ []
 words_for (calls.SetTimer thread handle due) =
     handle_words (codes "settimer") thread handle (signed_decimal due ∷ [])
+words_for (calls.SetPeriodicTimer thread handle due period) =
+    handle_words (codes "setperiod") thread handle (signed_decimal due ∷ signed_decimal period ∷ [])
 words_for (calls.CancelTimer thread handle) = handle_words (codes "cancel") thread handle []
 words_for (calls.Tick now) = codes "tick" ∷ decimal now ∷ []
 words_for (calls.WaitFor thread mode timeout handles) =
     codes "wait" ∷ label 116 thread ∷ mode_word mode ∷ timeout_word timeout ∷ map (label 104) handles
+words_for (calls.SignalAndWait thread signal timeout handle) =
+    handle_words (codes "signalwait") thread signal (timeout_word timeout ∷ label 104 handle ∷ [])
+words_for (calls.Sleep thread timeout) = codes "sleep" ∷ label 116 thread ∷ timeout_word timeout ∷ []
 words_for (calls.WaitResult number) = codes "result" ∷ label 119 number ∷ []
 words_for (calls.Expire number) = codes "expire" ∷ label 119 number ∷ []
+words_for (calls.Alert number) = codes "alert" ∷ label 119 number ∷ []
 words_for (calls.EndThread thread) = codes "endthread" ∷ label 116 thread ∷ []
 words_for (calls.Exit process) = codes "exit" ∷ label 112 process ∷ []
 words_for (calls.Reap slot) = codes "reap" ∷ label 115 slot ∷ []
@@ -171,4 +179,6 @@ as_said (calls.Duplicate thread source handle target mask inherit options) =
     calls.Duplicate thread source handle target
     (if keeps_rights options then record { 0 = 0 } else mask) inherit options
 as_said (calls.WaitFor thread mode Zero handles) = calls.WaitFor thread mode (Millis 0) handles
+as_said (calls.SignalAndWait thread signal Zero handle) = calls.SignalAndWait thread signal (Millis 0) handle
+as_said (calls.Sleep thread Zero) = calls.Sleep thread (Millis 0)
 as_said call = call

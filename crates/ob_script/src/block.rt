@@ -152,6 +152,10 @@ impl Block {
                 self.text(b"pending w");
                 self.number(u64::from(*wait));
             }
+            Reply::Signaled { wait } => {
+                self.text(b"signaled w");
+                self.number(u64::from(*wait));
+            }
             Reply::Expired { wait } => {
                 self.text(b"expired w");
                 self.number(u64::from(*wait));

@@ -53,8 +53,10 @@ fn target(target: Option<u32>)
 fn timeout(timeout: Timeout)
     ensures { FitsTimeout timeout }
 {
-    if let Timeout::Millis(millis) = timeout {
-        small(millis);
+    match timeout {
+        Timeout::Millis(millis) => small(millis),
+        Timeout::Until(due) => long(due),
+        _ => {}
     }
 }
 
@@ -161,6 +163,7 @@ pub(crate) fn fits<M: AsMake, T: AsSlice<u8>, H: AsSlice<u32>>(call: &CallOf<M, 
         | CallOf::GetFlags { thread, handle }
         | CallOf::SetEvent { thread, handle }
         | CallOf::ResetEvent { thread, handle }
+        | CallOf::PulseEvent { thread, handle }
         | CallOf::ReleaseMutex { thread, handle }
         | CallOf::CancelTimer { thread, handle } => {
             small(*thread);
@@ -195,6 +198,17 @@ pub(crate) fn fits<M: AsMake, T: AsSlice<u8>, H: AsSlice<u32>>(call: &CallOf<M, 
             small(*handle);
             long(*due);
         }
+        CallOf::SetPeriodicTimer {
+            thread,
+            handle,
+            due,
+            period,
+        } => {
+            small(*thread);
+            small(*handle);
+            long(*due);
+            signed(*period);
+        }
         CallOf::Tick { .. } => {}
         CallOf::WaitFor {
             thread,
@@ -206,7 +220,27 @@ pub(crate) fn fits<M: AsMake, T: AsSlice<u8>, H: AsSlice<u32>>(call: &CallOf<M, 
             timeout(*limit);
             handles(list.as_slice());
         }
-        CallOf::WaitResult { wait } | CallOf::Expire { wait } => small(*wait),
+        CallOf::SignalAndWait {
+            thread,
+            signal,
+            timeout: limit,
+            handle,
+        } => {
+            small(*thread);
+            small(*signal);
+            timeout(*limit);
+            small(*handle);
+        }
+        CallOf::Sleep {
+            thread,
+            timeout: limit,
+        } => {
+            small(*thread);
+            timeout(*limit);
+        }
+        CallOf::WaitResult { wait } | CallOf::Expire { wait } | CallOf::Alert { wait } => {
+            small(*wait)
+        }
         CallOf::EndThread { thread } => small(*thread),
         CallOf::Exit { process } => small(*process),
         CallOf::Reap { slot } => small(*slot),

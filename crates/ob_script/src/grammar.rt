@@ -4,7 +4,9 @@ ghost use Rattle.ob_script.specs.Words.{are_handles, handles_in, id_of, labelled
 ghost use Rattle.ob_script.specs.Commands.{IsRead, Pin, ShowCard, Unpin, command_in, shortened};
 ghost use Rattle.ob_script.specs.Grammar.{access_of, asked, child_of, closing_of, command_of, dup_of, event_of};
 ghost use Rattle.ob_script.specs.Grammar.{handle_of, handled, host_of, lone_of, mode_of, mutex_of, object_of, on_object, open_of};
-ghost use Rattle.ob_script.specs.Grammar.{release_of, semaphore_of, setflags_of, settimer_of, signal_of, target_of, text_of};
+ghost use Rattle.ob_script.specs.Grammar.{release_of, semaphore_of, setflags_of, setperiod_of, settimer_of, signal_of};
+ghost use Rattle.ob_script.specs.Grammar.{signalwait_of};
+ghost use Rattle.ob_script.specs.Grammar.{sleep_of, target_of, text_of};
 ghost use Rattle.ob_script.specs.Grammar.{timeout_of, timer_of, wait_of};
 
 use crate::command::{Command, Handles, LineCall};
@@ -67,7 +69,7 @@ pub fn command_of<'a>(more: bool, line: &ScriptLine<'a>, handles: &mut Handles) 
         return set_of(words);
     }
     if is(verb, b"wait") {
-        return wait_of(words, handles);
+        return wait_of(more, words, handles);
     }
     if is(verb, b"count") {
         return count_of(words);
@@ -152,6 +154,21 @@ pub fn command_of<'a>(more: bool, line: &ScriptLine<'a>, handles: &mut Handles) 
     }
     if more && is(verb, b"signal") {
         return signal_of(words);
+    }
+    if more && is(verb, b"pulse") {
+        return pulse_of(words);
+    }
+    if more && is(verb, b"signalwait") {
+        return signalwait_of(words);
+    }
+    if more && is(verb, b"sleep") {
+        return sleep_of(words);
+    }
+    if more && is(verb, b"alert") {
+        return alert_of(words);
+    }
+    if more && is(verb, b"setperiod") {
+        return setperiod_of(words);
     }
     Command::Bad
 }
@@ -456,6 +473,14 @@ fn reset_of(words: Words<'_>) -> Command<'_>
 }
 
 #[inline(always)]
+fn pulse_of(words: Words<'_>) -> Command<'_>
+    ensures { IsRead result (asked (handled calls.PulseEvent words.entry)) }
+{
+    let (thread, handle) = wanted!(handle_of(words));
+    Command::Ask(LineCall::PulseEvent { thread, handle })
+}
+
+#[inline(always)]
 fn unlock_of(words: Words<'_>) -> Command<'_>
     ensures { IsRead result (asked (handled calls.ReleaseMutex words.entry)) }
 {
@@ -490,6 +515,27 @@ fn settimer_of(mut words: Words<'_>) -> Command<'_>
 }
 
 #[inline(always)]
+fn setperiod_of(mut words: Words<'_>) -> Command<'_>
+    ensures { IsRead result (asked (setperiod_of words.entry)) }
+{
+    let thread = wanted!(words.labelled(b't'));
+    let handle = wanted!(words.labelled(b'h'));
+    let due = wanted!(words.next());
+    let period = wanted!(words.next());
+    wanted!(words.end());
+    let thread = wanted!(thread);
+    let handle = wanted!(handle);
+    let due = wanted!(due_of(due));
+    let period = wanted!(signed_of(period));
+    Command::Ask(LineCall::SetPeriodicTimer {
+        thread,
+        handle,
+        due,
+        period,
+    })
+}
+
+#[inline(always)]
 fn tick_of(mut words: Words<'_>) -> Command<'_>
     ensures { IsRead result (asked (lone_of moment_of calls.Tick words.entry)) }
 {
@@ -518,15 +564,15 @@ fn release_of(mut words: Words<'_>) -> Command<'_>
 }
 
 #[inline(always)]
-fn wait_of<'a>(mut words: Words<'a>, handles: &mut Handles) -> Command<'a>
-    ensures { command_in handles.new.items result ≡ shortened (asked (wait_of words.entry)) }
+fn wait_of<'a>(more: bool, mut words: Words<'a>, handles: &mut Handles) -> Command<'a>
+    ensures { command_in handles.new.items result ≡ shortened (asked (wait_of more words.entry)) }
 {
     let thread = wanted!(words.labelled(b't'));
     let mode = wanted!(words.next());
     let timeout = wanted!(words.next());
     let thread = wanted!(thread);
     let mode = wanted!(mode_of(mode));
-    let timeout = wanted!(timeout_of(timeout));
+    let timeout = wanted!(timeout_of(more, timeout));
     if !read_handles(words, handles) {
         return Command::Bad;
     }
@@ -550,14 +596,65 @@ fn mode_of(word: &[u8]) -> Option<Mode>
     }
 }
 
-fn timeout_of(word: &[u8]) -> Option<Timeout>
-    ensures { result ≡ timeout_of word.now }
+fn timeout_of(more: bool, word: &[u8]) -> Option<Timeout>
+    ensures { result ≡ timeout_of more word.now }
 {
     if is(word, b"inf") {
         return Some(Timeout::Infinite);
     }
-    let millis = number_of(word)?;
-    Some(Timeout::Millis(millis))
+    match word {
+        [b'@', rest @ ..] if more => {
+            let due = due_of(rest)?;
+            Some(Timeout::Until(due))
+        }
+        _ => {
+            let millis = number_of(word)?;
+            Some(Timeout::Millis(millis))
+        }
+    }
+}
+
+#[inline(always)]
+fn signalwait_of(mut words: Words<'_>) -> Command<'_>
+    ensures { IsRead result (asked (signalwait_of words.entry)) }
+{
+    let thread = wanted!(words.labelled(b't'));
+    let signal = wanted!(words.labelled(b'h'));
+    let timeout = wanted!(words.next());
+    let handle = wanted!(words.labelled(b'h'));
+    wanted!(words.end());
+    let thread = wanted!(thread);
+    let signal = wanted!(signal);
+    let timeout = wanted!(timeout_of(true, timeout));
+    let handle = wanted!(handle);
+    Command::Ask(LineCall::SignalAndWait {
+        thread,
+        signal,
+        timeout,
+        handle,
+    })
+}
+
+#[inline(always)]
+fn sleep_of(mut words: Words<'_>) -> Command<'_>
+    ensures { IsRead result (asked (sleep_of words.entry)) }
+{
+    let thread = wanted!(words.labelled(b't'));
+    let timeout = wanted!(words.next());
+    wanted!(words.end());
+    let thread = wanted!(thread);
+    let timeout = wanted!(timeout_of(true, timeout));
+    Command::Ask(LineCall::Sleep { thread, timeout })
+}
+
+#[inline(always)]
+fn alert_of(mut words: Words<'_>) -> Command<'_>
+    ensures { IsRead result (asked (lone_of (labelled 119) calls.Alert words.entry)) }
+{
+    let wait = wanted!(words.labelled(b'w'));
+    wanted!(words.end());
+    let wait = wanted!(wait);
+    Command::Ask(LineCall::Alert { wait })
 }
 
 /// Reads words as handles into a list, in place of those that stood there, and answers whether each word is one.

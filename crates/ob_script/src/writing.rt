@@ -170,6 +170,11 @@ impl Line {
             Timeout::Zero => self.number(0),
             Timeout::Infinite => self.word(b"inf"),
             Timeout::Millis(millis) => self.number(u64::from(millis)),
+            Timeout::Until(due) => {
+                self.text(b" @")?;
+                let mut digits = Buffer::new();
+                self.text(digits.format(due).as_bytes())
+            }
         }
     }
 
@@ -411,6 +416,42 @@ impl Line {
         self.handles(handles)
     }
 
+    fn signal_and_wait(
+        &mut self,
+        thread: u32,
+        signal: u32,
+        timeout: Timeout,
+        handle: u32,
+    ) -> Result<(), AllocError>
+        ensures { OnOk result (self.new ≡ self.old
+            ++ said (words_for (calls.SignalAndWait thread signal timeout handle))) }
+    {
+        self.handle(b"signalwait", thread, signal)?;
+        self.timeout(timeout)?;
+        self.label(b'h', handle)
+    }
+
+    fn set_period(
+        &mut self,
+        thread: u32,
+        handle: u32,
+        due: i64,
+        period: i32,
+    ) -> Result<(), AllocError>
+        ensures { OnOk result (self.new ≡ self.old
+            ++ said (words_for (calls.SetPeriodicTimer thread handle due period))) }
+    {
+        self.counted(b"setperiod", thread, handle, due)?;
+        self.signed(i64::from(period))
+    }
+
+    fn sleep(&mut self, thread: u32, timeout: Timeout) -> Result<(), AllocError>
+        ensures { OnOk result (self.new ≡ self.old ++ said (words_for (calls.Sleep thread timeout))) }
+    {
+        self.lone(b"sleep", b't', thread)?;
+        self.timeout(timeout)
+    }
+
     /// A verb, and a number behind a letter.
     fn lone(&mut self, verb: &[u8], letter: u8, number: u32) -> Result<(), AllocError>
         ensures { OnOk result (self.new ≡ self.old ++ (verb.now ++ 32 ∷ label letter number)) }
@@ -572,6 +613,7 @@ impl Line {
             } => self.flags(*thread, *handle, *mask, *flags),
             CallOf::SetEvent { thread, handle } => self.handle(b"set", *thread, *handle),
             CallOf::ResetEvent { thread, handle } => self.handle(b"reset", *thread, *handle),
+            CallOf::PulseEvent { thread, handle } => self.handle(b"pulse", *thread, *handle),
             CallOf::ReleaseSemaphore {
                 thread,
                 handle,
@@ -584,6 +626,12 @@ impl Line {
                 handle,
                 due,
             } => self.counted(b"settimer", *thread, *handle, *due),
+            CallOf::SetPeriodicTimer {
+                thread,
+                handle,
+                due,
+                period,
+            } => { self.set_period(*thread, *handle, *due, *period) }
             CallOf::CancelTimer { thread, handle } => self.handle(b"cancel", *thread, *handle),
             CallOf::Tick { now } => self.plain(b"tick", *now),
             CallOf::WaitFor {
@@ -592,8 +640,16 @@ impl Line {
                 timeout,
                 handles,
             } => { self.wait(*thread, *mode, *timeout, handles.as_slice()) }
+            CallOf::SignalAndWait {
+                thread,
+                signal,
+                timeout,
+                handle,
+            } => { self.signal_and_wait(*thread, *signal, *timeout, *handle) }
+            CallOf::Sleep { thread, timeout } => self.sleep(*thread, *timeout),
             CallOf::WaitResult { wait } => self.lone(b"result", b'w', *wait),
             CallOf::Expire { wait } => self.lone(b"expire", b'w', *wait),
+            CallOf::Alert { wait } => self.lone(b"alert", b'w', *wait),
             CallOf::EndThread { thread } => self.end_thread(*thread),
             CallOf::Exit { process } => self.lone(b"exit", b'p', *process),
             CallOf::Reap { slot } => self.lone(b"reap", b's', *slot),

@@ -9,11 +9,11 @@ use Rattle.pin_words.specs.declared.view.ReaderView.{ReaderView}
 use Rattle.pin_words.specs.Seats.{ReaderState}
 use Rattle.pin_words.specs.Tries.{TriesUntilSettled}
 use Rattle.pin_words.specs.Views.{reader_noted, reader_released}
-use Rattle.ob_manager.specs.Calls.{is_wait}
+use Rattle.ob_manager.specs.Calls.{begins_wait}
 use Rattle.ob_manager.specs.declared.call.CallOf.TheVariants.{WaitResult}
 use Rattle.ob_manager.specs.declared.card.Card.{Card}
 use Rattle.ob_manager.specs.declared.reply.Reply.{Reply}
-use Rattle.ob_manager.specs.declared.reply.Reply.TheVariants.{Pending, Refused}
+use Rattle.ob_manager.specs.declared.reply.Reply.TheVariants.{Pending, Refused, Signaled}
 use Rattle.ob_shared.specs.declared.act.Act.{Act}
 use Rattle.ob_shared.specs.declared.act.Act.TheVariants.{Ask, Pin, Unpin, ShowCard, Block}
 use Rattle.ob_shared.specs.declared.act.Seen.{Seen}
@@ -32,9 +32,10 @@ pub record Between : Type 0 where
 abbrev pub between : LaneState → List ℕ → ReaderState → Between
 between lane waits reader = record { lane = lane; waits = waits; reader = reader }
 
--- a call to wait that is answered with a pending wait leaves one more to block on
+-- a call that is answered with the wait that it leaves pending leaves one more to block on
 abbrev pub with_wait : Bool → Reply → List ℕ → List ℕ
 with_wait true (Pending wait) waits = waits ++ wait ∷ []
+with_wait true (Signaled wait) waits = waits ++ wait ∷ []
 with_wait waited reply waits = waits
 
 -- the last wait was blocked on: its result is listed, and the wait is taken unless memory was wanting
@@ -68,7 +69,7 @@ IsReading s t = (t.lane ≡ s.lane) × (t.waits ≡ s.waits) × (t.reader.table 
 -- the answer of one act, with the member before and after
 abbrev pub ActAnswered : Act → Seen → Between → Between → Type 0
 ActAnswered (Ask call) (sees.Reply reply) s t = Lists s.lane call reply t.lane
-    × (t.waits ≡ with_wait (is_wait call) reply s.waits) × (t.reader ≡ s.reader)
+    × (t.waits ≡ with_wait (begins_wait call) reply s.waits) × (t.reader ≡ s.reader)
 ActAnswered (Pin id) (sees.Pinned answer) s t = Pins s.reader.view id answer t.reader.view × IsReading s t
 ActAnswered (Unpin id) (sees.Unpinned was_held) s t = Unpins s.reader.view id was_held t.reader.view × IsReading s t
 ActAnswered (ShowCard id) (sees.Shown card) s t = Shows s.reader.view id card × (t ≡ s)

@@ -1,5 +1,5 @@
 ghost use Rattle.std.specs.Prelude.{◌≡◌, ◌<◌, false, true, [], IfNone, IfSome, vec_len, vec_capacity};
-ghost use Rattle.ob_manager.specs.Calls.{is_wait};
+ghost use Rattle.ob_manager.specs.Calls.{begins_wait};
 ghost use Rattle.ob_shared.specs.declared.gate.Pass.TheVariants.{Go, Stop};
 ghost use Rattle.ob_shared.specs.Lanes.{Lists};
 ghost use Rattle.ob_shared.specs.Members.{ActAnswered, Blocks, IsDriven, IsReady, between, with_wait};
@@ -27,11 +27,14 @@ pub struct Member {
     pub seen: Vec<Seen>,
 }
 
-/// Whether a call is one to wait.
-fn is_wait(call: &Call) -> bool
-    ensures { result ≡ is_wait call.now }
+/// Whether a call may leave its thread with a pending wait.
+fn begins_wait(call: &Call) -> bool
+    ensures { result ≡ begins_wait call.now }
 {
-    matches!(call, Call::WaitFor { .. })
+    matches!(
+        call,
+        Call::WaitFor { .. } | Call::SignalAndWait { .. } | Call::Sleep { .. }
+    )
 }
 
 /// Keeps a wait that is pending, so that it can be blocked on.
@@ -40,7 +43,7 @@ fn keep(waits: &mut Vec<u32>, waited: bool, reply: Reply)
     ensures { waits.new.items ≡ with_wait waited reply waits.old.items }
 {
     match reply {
-        Reply::Pending { wait } if waited => waits.push_reserved(wait),
+        Reply::Pending { wait } | Reply::Signaled { wait } if waited => waits.push_reserved(wait),
         _ => {}
     }
 }
@@ -56,7 +59,7 @@ fn ask<R: Wait>(
 ) -> Reply
     ensures listed { Lists lane.old call.now result lane.new }
     ensures number { lane.new.number ≡ lane.old.number }
-    ensures waits { waits.new.items ≡ with_wait (is_wait call.now) result waits.old.items }
+    ensures waits { waits.new.items ≡ with_wait (begins_wait call.now) result waits.old.items }
 {
     let Ok(copy) = call.copy(shared.alloc()) else {
         return Reply::Refused(Fault::Memory);
@@ -65,7 +68,7 @@ fn ask<R: Wait>(
         return Reply::Refused(Fault::Memory);
     }
     let reply = shared.call(rt, lane, copy);
-    keep(waits, is_wait(call), reply);
+    keep(waits, begins_wait(call), reply);
     reply
 }
 

@@ -1,13 +1,16 @@
 -- The slots by which it is enough to settle, while bodies and waits go and mutexes are abandoned.
-use Rattle.std.proofs.Common.{◌≡◌, ℕ, List, [], ◌∷◌, ◌++◌, Option, None, ap, ◌∙◌, sym, arith, get_or, set, map, true, false}
-use Rattle.std.proofs.lemmas.List.{get_or-set_other}
+use Rattle.std.proofs.Common.{◌≡◌, ℕ, List, [], ◌∷◌, ◌++◌, Option, Some, None, ap, ◌∙◌, sym, arith, get_or, set, map, true, false}
+use Rattle.ob_codec.proofs.AtPlace.{at_place}
+use Rattle.std.proofs.lemmas.Bool.Decides.{nat_tests}
+use Rattle.std.proofs.lemmas.List.{get_or-set_other, get_or-set_same, get_or_past}
 use Rattle.pin_core.specs.declared.id.Id.{Id}
 use Rattle.ob_body.specs.declared.body.Body.{Body}
 use Rattle.ob_waits.specs.declared.wait.Wait.{Wait}
 use Rattle.ob_waits.specs.CountedBodies.{CountedBodies, slot_signaled, without_blocks}
 use Rattle.ob_waits.specs.Rules.{IsSettled}
-use Rattle.ob_waits.specs.Waits.{has_slot, unless_of}
-use Rattle.ob_waits.proofs.Settled.{settled_dropped}
+use Rattle.ob_waits.specs.declared.wait.Mode.TheVariants.{Any}
+use Rattle.ob_waits.specs.Waits.{has_slot, new_wait, unless_of}
+use Rattle.ob_waits.proofs.Settled.{settled_added, settled_dropped, settled_less}
 use Rattle.ob_store.specs.Signaled.{SignaledState, IsEnough, KeepsEnough, in_slot}
 use Rattle.ob_store.specs.UnderWay.{AreLeft}
 use Rattle.ob_store.proofs.LeftLaws.{left_blocks}
@@ -56,6 +59,25 @@ enough_added a b p q slot x is added before ws enough = record {
         e.less t k apart.0 (sym (ap (slot_signaled t) stays) ∙ signaled);
   };
 }
+
+-- a wait came that may be ready, and the slot of its object was noted
+pub enough_joined : (a : SignaledState) (bodies : List (Option Body)) (ws : List (Option Wait)) (t : ℕ) (id : Id)
+    (d : Option ℕ) → IsSettled bodies ws → (a.whole ≡ true → a.ids ≡ in_slot id.slot ∷ [])
+    → IsEnough a bodies (ws ++ Some (new_wait t Any (id ∷ []) d) ∷ [])
+enough_joined a bodies ws t id d settled noted =
+    let gone : get_or (set bodies id.slot None) id.slot None ≡ None = grind (arith, nat_tests, at_place) in
+    record {
+      each = λ whole. record {
+        before = set bodies id.slot None;
+        settled = settled_added (set bodies id.slot None) ws t Any (id ∷ []) d (grind (arith, nat_tests, gone))
+            (settled_less bodies (set bodies id.slot None) ws (record {
+              each = λ u x. grind (arith, nat_tests, at_place);
+            }) settled);
+        less = λ u k out signaled.
+            let apart : k ≡ id.slot → ⊥ = λ same. grind (arith, nat_tests, noted whole, out, same) in
+            grind (arith, nat_tests, at_place, signaled, apart);
+      };
+    }
 
 -- a thread's blocks leave, and its wait
 pub enough_unwaited : (a : SignaledState) (o p : CountedBodies) (ws : List (Option Wait)) (t : ℕ) (ids : List Id)

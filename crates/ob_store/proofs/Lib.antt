@@ -62,5 +62,6 @@ pub mod ConsistentLaws
 pub mod StoredLaws
 pub mod GivenLaws
 pub mod MemberLaws
+pub mod MetLaws
 pub mod NumberLaws
 pub mod OpenedLaws

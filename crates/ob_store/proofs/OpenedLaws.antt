@@ -100,7 +100,7 @@ next_told s after reuse a each is least told = record {
 pub list_is : (p : PartsState) → StoreInvariant p → p.waits ≡ list_of (state_of p)
 list_is p kept = search (arith, kept.sound.limited.waits_are)
 
-opened_state : (reuse : Bool) (p : PartsState)
+pub opened_state : (reuse : Bool) (p : PartsState)
     → state_of (with_opened reuse p) ≡ record (state_of p) { waits = (opened reuse p.waits).waits }
 opened_state false p = refl
 opened_state true p = by (is_full p.waits)
@@ -111,14 +111,17 @@ opened_state true p = by (is_full p.waits)
     by false = refl
 
 -- a wait that comes to them comes to the state's
+pub opened_joined : (p : PartsState) (t : ℕ) (mode : Mode) (ids : List Id) (d : Option ℕ) → StoreInvariant p
+    → joined (state_of (with_opened p.limits.reuse p)) t mode ids d ≡ with_wait (state_of p) t mode ids d
+opened_joined p t mode ids d kept = ap (λ (s : State). joined s t mode ids d) (opened_state p.limits.reuse p
+    ∙ ap (λ (l : WaitList). record (state_of p) { waits = (opened p.limits.reuse l).waits }) (list_is p kept))
+
 pub opened_whole : (p : PartsState) (t : ℕ) (mode : Mode) (ids : List Id) (d : Option ℕ) → StoreInvariant p
     → ◌≡◌ {A = Whole} (record (whole_of (with_opened p.limits.reuse p)) {
       state = settled (joined (state_of (with_opened p.limits.reuse p)) t mode ids d);
     }) (record (whole_of p) { state = settled (with_wait (state_of p) t mode ids d) })
-opened_whole p t mode ids d kept = ap {B = Whole} (λ (s : State). record (whole_of p) {
-  state = settled (joined s t mode ids d);
-}) (opened_state p.limits.reuse p
-    ∙ ap (λ (l : WaitList). record (state_of p) { waits = (opened p.limits.reuse l).waits }) (list_is p kept))
+opened_whole p t mode ids d kept = ap {B = Whole} (λ (s : State). record (whole_of p) { state = settled s })
+    (opened_joined p t mode ids d kept)
 
 -- no more waits aren't over than threads are live, so a number is left where they come back
 pub never_full : (p : PartsState) → StoreInvariant p → WaitsInvariant p.waits.waits → p.limits.reuse ≡ true

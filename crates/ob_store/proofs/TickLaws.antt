@@ -1,12 +1,14 @@
 -- Timers fire: what is sound stays so, and is on its way to the settled state; none is due then.
-use Rattle.std.proofs.Common.{ℕ, arith, ◌≡◌, List, Option, Some, None, refl, ap, get_or, map, false}
+use Rattle.std.proofs.Common.{ℕ, ◌≤◌, arith, ◌≡◌, List, Option, Some, None, refl, ap, get_or, map, false}
 use Rattle.ob_body.specs.declared.body.Body.{Body}
+use Rattle.ob_body.specs.declared.body.Body.TheVariants.{Event, Mutex, Semaphore, Timer, Host}
 use Rattle.ob_body.specs.TimerState.{TimerState}
 use Rattle.ob_body.specs.Timer.{is_due}
 use Rattle.ob_body.specs.Timer as timer
+use Rattle.ob_body.proofs.Periods as periods
 use Rattle.ob_rights.specs.declared.kind.Kind.TheVariants as kind
 use Rattle.ob_body.specs.Body.{after_fire, due_of, kind_of}
-use Rattle.ob_waits.specs.Form.{form_of}
+use Rattle.ob_waits.specs.Form.{IsAfter, form_of, slot_due}
 use Rattle.ob_waits.specs.CountedBodies.{CountedBodies}
 use Rattle.ob_waits.proofs.Room.{room_changed}
 use Rattle.ob_store.specs.Signaled.{SignaledState}
@@ -18,6 +20,7 @@ use Rattle.ob_store.specs.Kept.{StoreInvariant, AreFormed, form_in, unset}
 use Rattle.ob_store.specs.UnderWay.{IsUnderWay}
 use Rattle.ob_store.proofs.KeptLaws.{sound_rested, state_rested}
 use Rattle.ob_store.proofs.HeaderLaws.{read}
+use Rattle.ob_store.proofs.TimerLaws.{fired_later}
 
 -- a timer that isn't due stays
 timer_fired : (now : ℕ) (t : TimerState) → is_due now t.due ≡ false → timer.after_fire now t ≡ t
@@ -35,17 +38,32 @@ fired_another = search arith
 
 -- what fired is as it was fired again
 pub fired_twice : (now : ℕ) (x : Option Body) → slot_fired now (slot_fired now x) ≡ slot_fired now x
-fired_twice now x = search arith
+fired_twice = search (arith, periods.fired_twice)
 
 -- what holds of a body holds of it once it fired
 unset_fired : (now : ℕ) (b : Body) → unset (form_of (after_fire now b)) ≡ unset (form_of b)
 unset_fired = search arith
 
+later_before : (clock now : ℕ) (due : Option ℕ) → clock ≤ now → IsAfter now due → IsAfter clock due
+later_before = search arith
+
+body_later : (clock now : ℕ) (b : Body) → clock ≤ now → IsAfter clock (due_of b) → IsAfter clock (due_of (after_fire now b))
+body_later clock now (Event e) later h = h
+body_later clock now (Mutex m) later h = h
+body_later clock now (Semaphore s) later h = h
+body_later clock now (Timer t) later h =
+    later_before clock now (timer.after_fire now t).due later (fired_later now t)
+body_later clock now (Host o) later h = h
+
+slot_later : (clock now : ℕ) (x : Option Body) → clock ≤ now → IsAfter clock (slot_due x)
+    → IsAfter clock (slot_due (slot_fired now x))
+slot_later = search (arith, body_later)
+
 formed_fired : (clock now : ℕ) (objects : List (Option Object)) (bodies : List (Option Body))
-    → AreFormed clock objects bodies → AreFormed clock objects (map (slot_fired now) bodies)
-formed_fired clock now objects bodies f = record {
+    → clock ≤ now → AreFormed clock objects bodies → AreFormed clock objects (map (slot_fired now) bodies)
+formed_fired clock now objects bodies later f = record {
   each = λ k o b there is. by k o b (get_or bodies k None) refl there (search (arith, read));
-  later = search (arith, read);
+  later = λ k. rw (read (slot_fired now) bodies k) (slot_later clock now (get_or bodies k None) later (f.later k));
 }
   where
     by : (k : ℕ) (o : Object) (b : Body) (x : Option Body) → get_or bodies k None ≡ x → get_or objects k None ≡ Some o
@@ -56,6 +74,7 @@ formed_fired clock now objects bodies f = record {
 -- a tick begins: the timers that are due have fired, which q tells
 module _ (p : PartsState) (q : ObjectsState) (a : SignaledState) (now : ℕ)
     (kept : StoreInvariant p)
+    (later : (state_of p).clock ≤ now)
     (tied : ObjectsInvariant q)
     (seen : q.seen ≡ record p.objects.seen { bodies = map (slot_fired now) p.objects.seen.bodies })
     (rest : kept_rest q ≡ kept_rest p.objects) where
@@ -69,7 +88,7 @@ module _ (p : PartsState) (q : ObjectsState) (a : SignaledState) (now : ℕ)
     sound = sound_rested p p.processes q p.waits a rest kept.sound refl kept.sound.processes_kept
         (rw seen (record { handles = kept.sound.counted.handles; blocks = kept.sound.counted.blocks }))
         kept.sound.named
-        (search (arith, formed_fired, bodies_are))
+        (rw bodies_are (formed_fired _ now _ _ later kept.sound.formed))
         (search (arith, read, kept.sound.of_live.owners, kept.sound.of_live.waiters))
         (search (arith, read, room_changed, kept.sound.room));
     rest = state_rested p p.processes q p.waits a rest;

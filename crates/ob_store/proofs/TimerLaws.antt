@@ -1,11 +1,14 @@
 -- The due moments of slots, while bodies change, and the least of them.
 use Rattle.std.proofs.Common.{◌≡◌, ℕ, [], ◌∷◌, ◌<◌, List, length, Option, Some, None, refl, ap, ◌∙◌, sym, arith, get_or, set, map, Bool, true, false, cond}
 use Rattle.std.specs.Prelude.{IfNone, IfSome}
+use Rattle.std.proofs.lemmas.Bool.{leb-false}
 use Rattle.std.proofs.lemmas.List.{length-map}
 use Rattle.least.specs.Dues.{is_by, IsLeast}
 use Rattle.ob_body.specs.declared.body.Body.{Body}
-use Rattle.ob_body.specs.Timer.{is_due}
-use Rattle.ob_waits.specs.Form.{slot_due}
+use Rattle.ob_body.specs.Timer.{after_fire, is_due}
+use Rattle.ob_body.specs.TimerState.{TimerState}
+use Rattle.ob_body.proofs.Periods.{fired_undue}
+use Rattle.ob_waits.specs.Form.{IsAfter, slot_due}
 use Rattle.ob_waits.specs.CountedBodies.{slot_acquired}
 use Rattle.ob_store.specs.declared.object_header.ObjectHeader.{ObjectHeader}
 use Rattle.ob_store.specs.Objects.{header_body}
@@ -76,3 +79,11 @@ pub none_due_slot : (now : ℕ) (xs : List (Option ObjectHeader)) (dues : List (
     → IfNone r ((k : ℕ) → slot_is_due now (get_or (map header_body xs) k None) ≡ false)
 none_due_slot now xs dues None timed h = λ k. by_due now _ ∙ ap (is_by now) (sym (due_of_slot xs dues k timed)) ∙ h k
 none_due_slot now xs dues (Some slot) timed h = tt
+
+undue_later : (now : ℕ) (due : Option ℕ) → is_due now due ≡ false → IsAfter now due
+undue_later now None is = tt
+undue_later now (Some due) is = leb-false due now is
+
+-- a timer that fires is due after now, if at all
+pub fired_later : (now : ℕ) (t : TimerState) → IsAfter now (after_fire now t).due
+fired_later now t = undue_later now (after_fire now t).due (fired_undue now t)

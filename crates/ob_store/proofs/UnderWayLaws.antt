@@ -103,7 +103,29 @@ pub way_still : (first : KeeperState) (p : PartsState) (s : State) → IsUnderWa
 way_still first p s way quiet = way_state p p.objects p.waits way.sound
     (search (arith, settled_same)) refl refl refl first s way
 
--- a call changed a body
+-- a call changed a body, and noted slots
+pub way_changed : (p : PartsState) (q : ObjectsState) (a : SignaledState) (id : Id) (old new : Body) → IsSound p
+    → get_or p.objects.seen.bodies id.slot None ≡ Some old → Yields p.waits.clock old new
+    → q.seen ≡ record p.objects.seen { bodies = set p.objects.seen.bodies id.slot (Some new) }
+    → kept_rest q ≡ kept_rest p.objects → ObjectsInvariant q
+    → IsUnderWay p.objects.keeper (record p { objects = q; signaled = a }) (with_body (state_of p) id new)
+way_changed p q a id old new sound there yielding put rest tied =
+    let put_bodies : q.seen.bodies ≡ set p.objects.seen.bodies id.slot (Some new) =
+    ap (λ (x : CountedBodies). x.bodies) put in
+    record {
+      tied = tied;
+      sound = sound_rested p p.processes q p.waits a rest sound refl sound.processes_kept
+          (rw put (record { handles = sound.counted.handles; blocks = sound.counted.blocks }))
+          sound.named
+          (search (arith, formed_put))
+          (search (arith, there, put_bodies, of_live_put))
+          (grind (arith, at_place));
+      rest = state_rested p p.processes q p.waits a rest;
+      bodies = search arith;
+      keeper = ap (λ (r : KeptRest). r.keeper) rest;
+    }
+
+-- a call changed a body, and nothing else
 module _ (p : PartsState) (q : ObjectsState) (id : Id) (old new : Body)
     (kept : StoreInvariant p) (w : Whole) (view : whole_of p ≡ w)
     (bodied : get_or w.state.bodies id.slot None ≡ Some old)
@@ -121,18 +143,7 @@ module _ (p : PartsState) (q : ObjectsState) (id : Id) (old new : Body)
 
   pub way_put : ObjectsInvariant q
       → IsUnderWay p.objects.keeper (record p { objects = q }) (with_body (state_of p) id new)
-  way_put tied = record {
-    tied = tied;
-    sound = sound_rested p p.processes q p.waits p.signaled rest kept.sound refl kept.sound.processes_kept
-        (rw put (record { handles = kept.sound.counted.handles; blocks = kept.sound.counted.blocks }))
-        kept.sound.named
-        (search (arith, formed_put))
-        (search (arith, there, put_bodies, of_live_put))
-        (grind (arith, at_place));
-    rest = state_rested p p.processes q p.waits p.signaled rest;
-    bodies = search arith;
-    keeper = ap (λ (r : KeptRest). r.keeper) rest;
-  }
+  way_put = way_changed p q p.signaled id old new kept.sound there (rw (← view) at yielding) put rest
 
   -- each wait that is ready then is for the object
   pub ready : IsReadyAt id.slot q.seen.bodies p.waits.waits

@@ -27,7 +27,7 @@ use Rattle.ob_waits.proofs.Room.{room_added, room_answered, room_now, room_remov
 use Rattle.ob_waits.proofs.Settled.{settled_added, settled_answered, settled_less, settled_now, settled_removed}
 use Rattle.ob_waits.proofs.Staying.{taken}
 use Rattle.ob_store.specs.Agreement.{ObjectsInvariant}
-use Rattle.ob_store.specs.Kept.{AreFormed, AreOfLive, IsCounted, StoreInvariant, IsLive, IsNamed}
+use Rattle.ob_store.specs.Kept.{AreFormed, AreOfLive, IsCounted, IsLive, IsNamed, IsSound, StoreInvariant}
 use Rattle.ob_store.specs.Objects.{Object, ObjectsState, KeptRest, kept_rest, with_blocks_of}
 use Rattle.ob_store.specs.Parts.{PartsState, state_of, whole_of}
 use Rattle.ob_store.specs.State.{settled}
@@ -155,11 +155,13 @@ module _ (p : PartsState) (t : ℕ) (mode : Mode) (ids : List Id) (d : Option �
   }
   came = came_stays ids p.objects
 
+  pub state_waiting : state_of waiting ≡ joined (state_of p) t mode ids d
+  state_waiting = search (arith, came_stays)
+
   pub whole_waiting : StoreInvariant waiting → ObjectsInvariant (with_blocks_of p.objects ids)
       → whole_of waiting ≡ record (whole_of p) { state = settled (joined (state_of p) t mode ids d) }
   whole_waiting after tied =
-      let same : state_of waiting ≡ joined (state_of p) t mode ids d = search (arith, came_stays) in
-      let is = sym (settled_kept waiting after tied) ∙ ap settled same in
+      let is = sym (settled_kept waiting after tied) ∙ ap settled state_waiting in
       search (arith, came_stays)
 
   module _ (kept : StoreInvariant p)
@@ -184,10 +186,14 @@ module _ (p : PartsState) (t : ℕ) (mode : Mode) (ids : List Id) (d : Option �
       ];
     }
 
+    pub sound_waiting : HasRoom p.limits.max_recursion t p.objects.seen.bodies ids → IsLive p.processes.threads t
+        → IsSound waiting
+    sound_waiting room live = rw came (search (arith, of_live_waiting, counted_after, named_after, room_added))
+
     pub kept_waiting : HasRoom p.limits.max_recursion t p.objects.seen.bodies ids → IsLive p.processes.threads t
         → list_ready mode t p.objects.seen.bodies ids ≡ false → StoreInvariant waiting
     kept_waiting room live unready = rw came (record {
-      sound = search (arith, of_live_waiting, counted_after, named_after, room_added);
+      sound = rw came at (sound_waiting room live);
       populated = kept.populated;
       settled = settled_added p.objects.seen.bodies p.waits.waits t mode ids d unready kept.settled;
     })

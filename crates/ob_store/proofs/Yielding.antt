@@ -3,6 +3,7 @@ use Rattle.std.proofs.Common.{◌≡◌, ℕ, arith, true}
 use Rattle.ob_body.specs.declared.body.Body.{Body}
 use Rattle.ob_body.specs.Body.{is_signaled, after_set, after_reset, after_post, after_unlock, after_arm, after_disarm}
 use Rattle.ob_store.specs.Kept.{Yields}
+use Rattle.ob_store.proofs.TimerLaws.{fired_later}
 
 pub set_yields : (clock : ℕ) (b : Body) → Yields clock b (after_set b)
 set_yields clock b = search arith
@@ -23,8 +24,8 @@ unlock_yields clock u b = search arith
 yields_same : (clock : ℕ) (b : Body) → Yields clock b b
 yields_same clock b = search arith
 
-pub arm_yields : (clock due : ℕ) (b : Body) → Yields clock b (after_arm due clock b)
-arm_yields = search (arith, yields_same)
+pub arm_yields : (clock due period : ℕ) (b : Body) → Yields clock b (after_arm due clock period b)
+arm_yields = search (arith, yields_same, fired_later)
 
 -- or cancelled
 pub disarm_yields : (clock : ℕ) (b : Body) → Yields clock b (after_disarm b)

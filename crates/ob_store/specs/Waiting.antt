@@ -3,13 +3,15 @@ use Rattle.std.specs.Prelude.{◌≡◌, ℕ, ◌+◌, ◌&&◌, Bool, if◌then
 use Rattle.std.specs.Option.{option_and_then, option_map, unwrap_or}
 use Rattle.least.specs.From.{IsLeastFrom}
 use Rattle.pin_core.specs.declared.id.Id.{Id}
+use Rattle.ob_body.specs.declared.body.Body.{Body}
 use Rattle.ob_waits.specs.declared.wait.Mode.{Mode}
+use Rattle.ob_waits.specs.declared.wait.Mode.TheVariants.{Any}
 use Rattle.ob_waits.specs.declared.wait.Wait.{Wait}
 use Rattle.ob_waits.specs.declared.answer.Answer.{Answer}
 use Rattle.ob_waits.specs.Answers.{answer_of, is_answered}
-use Rattle.ob_waits.specs.Waits.{WaitList, answered, bodies_after, is_full, new_wait, number_of, state_at, with_renewed}
+use Rattle.ob_waits.specs.Waits.{WaitList, answered, bodies_after, is_answer, is_full, is_pending, new_wait, number_of, state_at, with_renewed}
 use Rattle.ob_waits.specs.declared.wait.WaitState.TheVariants.{Answered}
-use Rattle.ob_store.specs.State.{State, last_wait}
+use Rattle.ob_store.specs.State.{State, last_wait, settled, with_body}
 
 -- a thread takes at once what it waits for
 abbrev pub with_taken : State → ℕ → Mode → List Id → State
@@ -65,3 +67,18 @@ with_answer s wait code = record s { waits = slice_set s.waits wait (answered (s
 -- the wait of a number is over
 abbrev pub without_wait : State → ℕ → State
 without_wait s wait = record s { waits = slice_set s.waits wait None }
+
+-- a thread's wait for an object comes as an object, perhaps the same, gets this body; then the waits settle
+abbrev pub met : State → ℕ → Id → Option ℕ → Id → Body → State
+met s thread waited deadline id after =
+    settled (with_body (with_wait s thread Any (waited ∷ []) deadline) id after)
+
+-- a wait that may not last is answered with 258 where it is still pending
+abbrev pub cut_short : Bool → State → ℕ → State
+cut_short at_once s number =
+    if at_once && is_pending (slice_index_or s.waits number None) then settled (with_answer s number 258) else s
+
+-- what is answered is taken, and over
+abbrev pub taken_at : State → ℕ → State
+taken_at s number =
+    if is_answer (state_at (slice_index_or s.waits number None)) then settled (without_wait s number) else s

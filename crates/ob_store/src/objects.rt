@@ -21,7 +21,7 @@ use ob_body::Body;
 use ob_name::Name;
 use ob_rights::{Kind, Rights};
 use ob_tables::Entry;
-use ob_waits::Bodies;
+use ob_waits::{Bodies, LAST_MOMENT};
 use pin_core::{Descr, Id};
 use pin_words::{PinKeeper, Reclaim};
 use std::alloc::Global;
@@ -271,6 +271,7 @@ impl<K: PinKeeper> Objects<K> {
     /// Fires the timer in a slot, if it is due.
     #[tactic(auto, using(crate::proofs::TickLaws::fired_another))]
     pub(crate) fn fire_at(&mut self, slot: u32, now: u64)
+        requires { now ≤ LAST_MOMENT }
         ensures seen { self.new.seen ≡ changed_at self.old.seen slot (slot_fired now) }
         ensures rest { kept_rest self.new ≡ kept_rest self.old }
     {

@@ -111,22 +111,23 @@ impl<K: PinKeeper> Store<K> {
         Ok(())
     }
 
-    /// Sets a timer to a moment, in units of 100 ns. A moment that isn't after now signals it at once, and the waits
-    /// for it settle; otherwise it is nonsignaled until then, and nothing settles.
+    /// Sets a timer to a moment, in units of 100 ns, and to a period, in milliseconds, 0 for none. A moment that isn't
+    /// after now signals it at once, and the waits for it settle; otherwise it is nonsignaled until then, and nothing
+    /// settles.
     #[tactic(auto, using(crate::proofs::Yielding::arm_yields))]
-    pub fn arm(&mut self, id: Id, timer: Body, due: u64)
+    pub fn arm(&mut self, id: Id, timer: Body, due: u64, period: u32)
         requires bodied { slice_index_or self.old.state.bodies id.slot None ≡ Some timer }
         requires timer { spec.kind_of timer ≡ Timer }
         ensures state { self.new.state ≡ settled (with_body self.old.state id
-            (spec.after_arm due self.old.state.clock timer)) }
+            (spec.after_arm due self.old.state.clock period timer)) }
         ensures keeper { OnlyCloses self.old.keeper self.new.keeper }
     {
         let mut after = timer;
-        after.arm(due, self.now());
+        after.arm(due, self.now(), period);
         self.put(id, timer, after);
     }
 
-    /// Takes a timer's due moment away. Nothing becomes signaled by that, so nothing settles.
+    /// Takes a timer's due moment and its period away. Nothing becomes signaled by that, so nothing settles.
     #[tactic(auto, using(crate::proofs::Yielding::disarm_less, crate::proofs::Yielding::disarm_yields))]
     pub fn disarm(&mut self, id: Id, timer: Body)
         requires bodied { slice_index_or self.old.state.bodies id.slot None ≡ Some timer }

@@ -9,11 +9,12 @@ ghost use Rattle.ob_store.specs.Ticks.{timed_out, slot_fired, slot_is_due, ticke
 use crate::objects::Objects;
 use crate::signaled::SignaledSlots;
 use crate::store::Store;
-use ob_waits::LAST_MOMENT;
+use ob_waits::{LAST_MOMENT, WAIT_TIMEOUT};
 use pin_words::PinKeeper;
 
 /// Fires the timers that are due, and notes their slots. It looks at no other slot.
 fn fire_all<K: PinKeeper>(objects: &mut Objects<K>, signaled: &mut SignaledSlots, now: u64)
+    requires { now ≤ LAST_MOMENT }
     ensures seen { objects.new.seen ≡ timers_fired now objects.old.seen }
     ensures rest { kept_rest objects.new ≡ kept_rest objects.old }
     ensures enough { KeepsEnough signaled.old objects.old.seen.bodies signaled.new objects.new.seen.bodies }
@@ -28,6 +29,8 @@ fn fire_all<K: PinKeeper>(objects: &mut Objects<K>, signaled: &mut SignaledSlots
 impl<K: PinKeeper> Store<K> {
     /// Fires the timers that are due, and settles the waits.
     fn fire(&mut self, now: u64)
+        requires later { self.old.state.clock ≤ now }
+        requires last { now ≤ LAST_MOMENT }
         ensures state { self.new.state ≡ settled
             (record self.old.state { bodies = map (slot_fired now) self.old.state.bodies }) }
         ensures keeper { OnlyCloses self.old.keeper self.new.keeper }
@@ -70,16 +73,17 @@ impl<K: PinKeeper> Store<K> {
     {
         self.kept();
         while let Some(wait) = self.overdue(now) {
-            self.expire_at(wait);
+            self.end_wait_at(wait, WAIT_TIMEOUT);
             self.kept();
         }
         self.pass_to(now);
     }
 
-    /// Sets the clock to a moment: timers that are due fire, the waits settle, and then each wait whose time is up is
-    /// answered. Where nothing is due and no time is up, it looks at no timer and at no pending wait; otherwise it
-    /// takes a time that grows with the number of those that are, times a logarithm. The deadline of a wait that was
-    /// answered before it came is dropped by the first tick behind it, once.
+    /// Sets the clock to a moment: timers that are due fire, each once, however many of its periods have passed, the
+    /// waits settle, and then each wait whose time is up is answered. Where nothing is due and no time is up, it looks
+    /// at no timer and at no pending wait; otherwise it takes a time that grows with the number of those that are, times
+    /// a logarithm. The deadline of a wait that was answered before it came is dropped by the first tick behind it,
+    /// once.
     pub fn tick(&mut self, now: u64)
         requires later { self.old.state.clock ≤ now }
         requires last { now ≤ LAST_MOMENT }

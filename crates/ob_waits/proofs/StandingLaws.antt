@@ -56,7 +56,7 @@ waitable All ids may few =
     by false e = refl
 
 may-wait : (mode : Mode) (ids : List Id) → IsWaitable mode ids → may_list mode ids ≡ true
-may-wait Any ids w = lt-ltb 0 (length ids) w.not_empty
+may-wait Any ids w = refl
 may-wait All ids w = search (arith, test-distinct)
 
 -- each wait that is kept passes

@@ -20,9 +20,9 @@ pub record IsDistinct (ids : List Id) : Type 0 where
   pub apart : (i j : ℕ) → i < j → j < length ids →
       ((slice_index_or ids i nowhere).slot ≡ (slice_index_or ids j nowhere).slot → ⊥)
 
--- a list that a thread may wait for: 1 to 64 objects; for all of them, each once
+-- a list that a thread may wait for, of 64 objects at most: for any of them, which may be none, or for all, each once
 pub record IsWaitable (mode : Mode) (ids : List Id) : Type 0 where
-  pub not_empty : 0 < length ids
+  pub not_empty : mode ≡ All → 0 < length ids
   pub at_most : length ids ≤ 64
   pub once : mode ≡ All → IsDistinct ids
 

@@ -100,9 +100,9 @@ abbrev pub names_twice : List Id → Bool
 names_twice [] = false
 names_twice (id ∷ ids) = has_slot ids id.slot || names_twice ids
 
--- whether there is an object to wait for, and a wait for all is for none twice
+-- whether a wait for all is for an object, and for none twice
 abbrev pub may_list : Mode → List Id → Bool
-may_list Any ids = nat_lt 0 (length ids)
+may_list Any ids = true
 may_list All ids = nat_lt 0 (length ids) && not (names_twice ids)
 
 abbrev pub state_may : State → Bool

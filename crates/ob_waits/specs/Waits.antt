@@ -53,10 +53,10 @@ code_of Any thread bodies ids =
     index + (if is_abandoned bodies (slice_index_or ids index nowhere) then 128 else 0)
 code_of All thread bodies ids = if list_any (is_abandoned bodies) ids then 128 else 0
 
--- whether a code can be that of an answered wait: an index, an index of which the mutex was abandoned, or that its time
--- was up
+-- whether a code can be that of an answered wait: an index, an index of which the mutex was abandoned, or that it was
+-- ended, by an alert or since its time was up
 abbrev pub is_code : ℕ → Bool
-is_code code = nat_lt code 64 || ((nat_le 128 code && nat_lt code 192) || code == 258)
+is_code code = nat_lt code 64 || ((nat_le 128 code && nat_lt code 192) || (code == 192 || code == 258))
 
 -- what a wait that need not become pending is answered with, and what it leaves
 abbrev pub code_now : Mode → ℕ → List (Option Body) → List Id → Option ℕ

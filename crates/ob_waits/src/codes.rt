@@ -9,10 +9,12 @@ pub const MAXIMUM_WAIT_OBJECTS: usize = 64;
 /// [WaitForMultipleObjects]: https://learn.microsoft.com/windows/win32/api/synchapi/nf-synchapi-waitformultipleobjects
 pub const WAIT_ABANDONED_0: u32 = 128;
 
+/// The code of an alertable wait that its thread left for what was queued to it ([Wait Functions]).
+///
+/// [Wait Functions]: https://learn.microsoft.com/windows/win32/sync/wait-functions
+pub const WAIT_IO_COMPLETION: u32 = 192;
+
 /// The code of a wait that expired ([Wait Functions]).
 ///
 /// [Wait Functions]: https://learn.microsoft.com/windows/win32/sync/wait-functions
 pub const WAIT_TIMEOUT: u32 = 258;
-
-/// The greatest moment that it can be, in units of 100 ns: that of a LARGE_INTEGER.
-pub const LAST_MOMENT: u64 = 9_223_372_036_854_775_807;

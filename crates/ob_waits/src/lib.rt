@@ -36,8 +36,9 @@ mod writing;
 
 pub use answer::Answer;
 pub use bodies::Bodies;
-pub use codes::{LAST_MOMENT, MAXIMUM_WAIT_OBJECTS, WAIT_ABANDONED_0, WAIT_TIMEOUT};
+pub use codes::{MAXIMUM_WAIT_OBJECTS, WAIT_ABANDONED_0, WAIT_IO_COMPLETION, WAIT_TIMEOUT};
 pub use law::{law_of_ends, law_of_settling, law_of_spelled_waits};
+pub use ob_body::LAST_MOMENT;
 pub use pass::leave_all;
 pub use pending::Pending;
 pub use take::{is_satisfied, try_now};

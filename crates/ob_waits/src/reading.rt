@@ -8,7 +8,7 @@ ghost use Rattle.ob_waits.specs.Spelling.{are_below, is_within, may_list, may_st
 ghost use Rattle.ob_waits.specs.Spelling.{numbered_parts, row_at};
 ghost use Rattle.ob_waits.specs.Waits.{has_slot, is_code, is_full, number_of, renewed};
 
-use crate::codes::{MAXIMUM_WAIT_OBJECTS, WAIT_ABANDONED_0, WAIT_TIMEOUT};
+use crate::codes::{MAXIMUM_WAIT_OBJECTS, WAIT_ABANDONED_0, WAIT_IO_COMPLETION, WAIT_TIMEOUT};
 use crate::live::Live;
 use crate::numbered_wait::NumberedWait;
 use crate::pending_index::PendingIndex;
@@ -74,12 +74,12 @@ fn names_twice(ids: &[Id]) -> bool
     false
 }
 
-/// Whether there is an object to wait for, and a wait for all is for none twice.
+/// Whether a wait for all is for an object, and for none twice; one for any may be for none, until its time is up.
 fn may_list(mode: Mode, ids: &[Id]) -> bool
     ensures { result ≡ may_list mode ids.now }
 {
     match mode {
-        Mode::Any => !ids.is_empty(),
+        Mode::Any => true,
         Mode::All => !ids.is_empty() && !names_twice(ids),
     }
 }
@@ -91,6 +91,7 @@ fn is_code(code: u32) -> bool
     let most = MAXIMUM_WAIT_OBJECTS as u32;
     code < most
         || (WAIT_ABANDONED_0 <= code && code < WAIT_ABANDONED_0 + most)
+        || code == WAIT_IO_COMPLETION
         || code == WAIT_TIMEOUT
 }
 

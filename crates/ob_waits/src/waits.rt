@@ -18,7 +18,6 @@ ghost use Rattle.ob_waits.specs.Rules.{WaitsInvariant, IsWaitable, WaitsHaveRoom
 use crate::answer::Answer;
 use crate::blocks::blocks_of;
 use crate::bodies::Bodies;
-use crate::codes::{LAST_MOMENT, WAIT_TIMEOUT};
 use crate::ids::Ids;
 use crate::live::Live;
 use crate::overdue::{next_due, next_overdue};
@@ -29,7 +28,7 @@ use crate::reading::{copy_all, put_all, read_rows, rows_within};
 use crate::wait::{Mode, State, Wait, WaitState};
 use crate::writing::write_rows;
 use least::Dues;
-use ob_body::RECURSION_MAX;
+use ob_body::{LAST_MOMENT, RECURSION_MAX};
 use ob_codec::{Cursor, ReadFault, Spelled, TextFault};
 use ob_rights::Fault;
 use pin_core::Id;
@@ -42,7 +41,7 @@ use std::marker::Model;
 /// that is over takes no room. A thread has one wait at a time, from [`add`](Waits::add) until its answer is taken.
 ///
 /// A thread's wait and the wait of a number are found in constant time. [`wait_of`](Waits::wait_of),
-/// [`look`](Waits::look) and [`pending`](Waits::pending) do no more; [`expire`](Waits::expire),
+/// [`look`](Waits::look) and [`pending`](Waits::pending) do no more; [`end`](Waits::end),
 /// [`drop_thread`](Waits::drop_thread) and [`take_if_answered`](Waits::take_if_answered) also keep the list of answers,
 /// which costs a logarithm of the threads where waits weren't answered in the order of their numbers.
 ///
@@ -109,8 +108,8 @@ impl Waits {
 
     /// Reads waits of which at most `waits` numbers may be given, as they are at a moment, from the front of what is
     /// left. [`TextFault::Value`] where a number is above that, or above the last one given, or doesn't rise; where a
-    /// thread has two waits; where a pending one lists no object, more than 64 or, to wait for all, one slot twice, or
-    /// its time is up; and where an answered one has a code that can't be. The text is refused so too where a thread
+    /// thread has two waits; where a pending one lists more than 64 objects or, to wait for all, none or one slot twice,
+    /// or its time is up; and where an answered one has a code that can't be. The text is refused so too where a thread
     /// isn't below `threads`, or an object's slot below `slots`, and before any wait is read where there are more than
     /// `threads`, or any object where a wait lists more than 64: so no more memory is asked for than these and the text
     /// account for.
@@ -289,7 +288,8 @@ impl Waits {
         self.live.skip_to(last);
     }
 
-    /// Gives the next number to a pending wait of a thread for 1 to 64 objects, until a moment or for good.
+    /// Gives the next number to a pending wait of a thread for at most 64 objects, until a moment or for good. A wait for
+    /// any of none lasts until it is ended.
     ///
     /// [`Fault::Limit`] (1450) exactly where all numbers are given, and else [`Fault::Memory`] (8) where
     /// memory runs out; then nothing changes.
@@ -415,19 +415,21 @@ impl Waits {
         self.pending_index.thin_slots(&self.live, ids);
     }
 
-    /// Ends a pending wait without satisfying it: its answer is 258, `WAIT_TIMEOUT` ([Wait Functions]). The caller
-    /// tells its blocks by [`leave_all`](crate::leave_all), of the objects that [`look`](Waits::look) gives before.
+    /// Ends a pending wait without satisfying it, with a code that can be: 258, `WAIT_TIMEOUT`, or 192,
+    /// `WAIT_IO_COMPLETION` ([Wait Functions]). The caller tells its blocks by [`leave_all`](crate::leave_all), of the
+    /// objects that [`look`](Waits::look) gives before.
     ///
     /// [Wait Functions]: https://learn.microsoft.com/windows/win32/sync/wait-functions
-    pub fn expire(&mut self, wait: u32)
-        requires { is_pending (slice_index_or self.old.waits wait None) ≡ true }
-        ensures { self.new ≡ with_answer self.old wait WAIT_TIMEOUT }
+    pub fn end(&mut self, wait: u32, code: u32)
+        requires pending { is_pending (slice_index_or self.old.waits wait None) ≡ true }
+        requires coded { is_code code ≡ true }
+        ensures { self.new ≡ with_answer self.old wait code }
     {
         let Some(Wait { thread, .. }) = self.live.get(wait) else {
             unreachable!()
         };
         let thread = *thread;
-        self.live.answer(thread, wait, WAIT_TIMEOUT);
+        self.live.answer(thread, wait, code);
     }
 
     /// A pending wait whose deadline isn't after a moment. Where there is none, and none was answered before its time,
@@ -460,7 +462,7 @@ impl Waits {
     }
 
     /// Takes the wait of a thread away, pending or answered, if it has one. The caller tells the blocks of a pending
-    /// one as for [`expire`](Waits::expire).
+    /// one as for [`end`](Waits::end).
     #[tactic(auto, using(crate::proofs::Counted::dropped_missing, crate::proofs::Counted::dropped_found))]
     pub fn drop_thread(&mut self, thread: u32)
         ensures { self.new ≡ without_thread self.old thread }

@@ -40,7 +40,7 @@ fn main(rt: HostRuntime) -> ExitCode {
         );
         return ended_by(&rt, answered);
     }
-    if options.load.is_some() || options.save.is_some() {
+    if options.load.is_some() || options.save.is_some() || options.dump {
         let answered = run_states(&rt, &options, &mut source, &mut sink);
         return ended_by(&rt, answered);
     }

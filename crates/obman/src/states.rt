@@ -1,7 +1,7 @@
 use ob_codec::ReadFault;
 use ob_console::{Options, RunFault, run_over};
 use ob_manager::{Limits, Manager};
-use ob_script::{Sink, Source};
+use ob_script::{Sink, Source, dump};
 use pin_words::{Keeper, LockedPins};
 use std::alloc::Global;
 use std::fs::{self, File, Permissions};
@@ -31,12 +31,30 @@ pub fn run_states<I: Source, O: Sink>(
     // What owns much is made by functions that hand it out, and dropped by a call: then one way out lets it go.
     let manager = begun(rt, options)?;
     let after = answered(rt.alloc(), options.more, manager, reader, writer)?;
-    let saved = match &options.save {
-        Some(path) => save(rt, path.as_str(), &after),
-        None => Ok(()),
-    };
+    let ended = finished(rt, options, &after);
     drop(after);
-    saved
+    ended
+}
+
+/// Saves the state behind the script, and prints it, as the options say.
+fn finished(
+    rt: &HostRuntime,
+    options: &Options,
+    after: &Manager<Keeper>,
+) -> Result<(), StateFault> {
+    if let Some(path) = &options.save {
+        save(rt, path.as_str(), after)?;
+    }
+    if !options.dump {
+        return Ok(());
+    }
+    let Ok(text) = dump(rt.alloc(), after) else {
+        return Err(StateFault::Run(RunFault::Memory));
+    };
+    match print!(rt; "{text}") {
+        Ok(()) => Ok(()),
+        Err(_) => Err(StateFault::Run(RunFault::Write)),
+    }
 }
 
 /// The manager that the script begins with.

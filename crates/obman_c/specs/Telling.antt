@@ -6,7 +6,7 @@ use Rattle.pin_words.specs.declared.pin_keeper.Reclaim.{Reclaim}
 use Rattle.pin_words.specs.declared.pin_keeper.Reclaim.TheVariants.{Freed, Retired, Held}
 use Rattle.ob_manager.specs.Calls.{Call}
 use Rattle.ob_manager.specs.declared.reply.Reply.{Reply}
-use Rattle.ob_manager.specs.declared.reply.Reply.TheVariants.{Spawned, Started, Made, Exists, Opened, Duplicated, Flags, Previous, Code, Pending, Reaped, CountsAre, Refused}
+use Rattle.ob_manager.specs.declared.reply.Reply.TheVariants.{Spawned, Started, Made, Exists, Opened, Duplicated, Flags, Previous, Code, Pending, Signaled, Reaped, CountsAre, Refused}
 use Rattle.obman_c_base.specs.Made.{Makes}
 use Rattle.obman_c_base.specs.declared.owned.OwnedManager.{OwnedManager}
 use Rattle.obman_c.specs.declared.values.Member.{Member}
@@ -20,6 +20,7 @@ use Rattle.obman_c.specs.declared.values.References.{References}
 abbrev pub status_of : Reply → ℕ
 status_of (Exists handle id) = 183
 status_of (Pending number) = 997
+status_of (Signaled number) = 997
 status_of (Refused fault) = code_of fault
 status_of reply = 0
 
@@ -68,6 +69,7 @@ count_in reply before = before
 abbrev pub answer_in : Reply → ℕ → ℕ
 answer_in (Code code) before = code
 answer_in (Pending number) before = number
+answer_in (Signaled number) before = number
 answer_in reply before = before
 
 -- what became of a slot: 0 where it is free, 1 where it was given up, 2 where somebody holds it

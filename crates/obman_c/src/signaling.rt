@@ -27,6 +27,15 @@ pub extern "C" fn om_reset_event(owner: &mut ManagerOwner, thread: u32, handle: 
     told(owner.call(&Ask::ResetEvent { thread, handle }))
 }
 
+/// [`Manager::pulse_event`](ob_manager::Manager::pulse_event): 0, 87, 170, 6 or 5.
+#[tactic(auto, using(crate::proofs::Told::tells))]
+#[unsafe(no_mangle)]
+pub extern "C" fn om_pulse_event(owner: &mut ManagerOwner, thread: u32, handle: u32) -> u32
+    ensures { TellsStatus owner.old.value (Call.PulseEvent thread handle) result owner.new.value }
+{
+    told(owner.call(&Ask::PulseEvent { thread, handle }))
+}
+
 /// [`Manager::release_semaphore`](ob_manager::Manager::release_semaphore): 0, 87, 170, 6, 5 or 298.
 #[unsafe(no_mangle)]
 pub extern "C" fn om_release_semaphore(

@@ -20,7 +20,7 @@ pub(crate) fn told(answer: Result<Reply, Fault>) -> u32
 {
     match answer {
         Ok(Reply::Exists { .. }) => 183,
-        Ok(Reply::Pending { .. }) => 997,
+        Ok(Reply::Pending { .. } | Reply::Signaled { .. }) => 997,
         Err(fault) | Ok(Reply::Refused(fault)) => code_of(fault),
         Ok(_) => SUCCESS,
     }

@@ -24,6 +24,26 @@ pub extern "C" fn om_set_timer(owner: &mut ManagerOwner, thread: u32, handle: u3
     }))
 }
 
+/// [`Manager::set_periodic_timer`](ob_manager::Manager::set_periodic_timer): 0, 87, 170, 6 or 5.
+#[unsafe(no_mangle)]
+pub extern "C" fn om_set_periodic_timer(
+    owner: &mut ManagerOwner,
+    thread: u32,
+    handle: u32,
+    due: i64,
+    period: i32,
+) -> u32
+    ensures { TellsStatus owner.old.value
+        (Call.SetPeriodicTimer thread handle due period) result owner.new.value }
+{
+    told(owner.call(&Ask::SetPeriodicTimer {
+        thread,
+        handle,
+        due,
+        period,
+    }))
+}
+
 /// [`Manager::cancel_timer`](ob_manager::Manager::cancel_timer): 0, 87, 170, 6 or 5.
 #[tactic(auto, using(crate::proofs::Told::tells))]
 #[unsafe(no_mangle)]

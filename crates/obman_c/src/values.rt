@@ -147,7 +147,7 @@ pub(crate) fn tell_answer(answer: Result<Reply, Fault>, out: &mut u32) -> u32
 {
     match answer {
         Ok(Reply::Code { code }) => *out = code,
-        Ok(Reply::Pending { wait }) => *out = wait,
+        Ok(Reply::Pending { wait } | Reply::Signaled { wait }) => *out = wait,
         _ => {}
     }
     told(answer)

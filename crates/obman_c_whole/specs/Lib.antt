@@ -1,2 +1,4 @@
+pub mod Dumping
+pub mod Handing
 pub mod Savestates
 pub mod Scripts

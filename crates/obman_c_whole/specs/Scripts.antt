@@ -1,15 +1,10 @@
 -- What C is told of a script.
-use Rattle.std.specs.Prelude.{◌≡◌, ◌<◌, ◌≤◌, ℕ, false, List, ◌++◌, ◌⊎◌, drop, length}
+use Rattle.std.specs.Prelude.{◌≡◌, ℕ, false, List}
 use Rattle.ob_store.specs.declared.limits.Limits.{Limits}
 use Rattle.ob_console.specs.Runs.{AnswersAll}
 use Rattle.obman_c_base.specs.declared.limits.CLimits.{CLimits}
 use Rattle.obman_c_base.specs.Allowed.{AreAllowed, AreAs}
-
--- the bytes stand at the front and 0 is told; or they don't fit, and 122 is told
-abbrev pub HandsOver : List ℕ → ℕ → List ℕ → List ℕ → ℕ → Type 0
-HandsOver bytes status room room' length' = (length' ≡ length bytes)
-    × (((length bytes ≤ length room) × (status ≡ 0) × (room' ≡ bytes ++ drop (length bytes) room))
-    ⊎ ((length room < length bytes) × (status ≡ 122) × (room' ≡ room)))
+use Rattle.obman_c_whole.specs.Handing.{HandsOver}
 
 -- The answers are what the program prints for the script without `--more`, over a new manager with these limits; or nothing changes, and
 -- 87 is told where a limit is out of its range, else 8, for want of memory.

@@ -3,10 +3,11 @@ ghost use Rattle.std.specs.Prelude.{◌≡◌, IfErr, IfOk};
 ghost use Rattle.pin_words.specs.Seats.{TableState};
 ghost use Rattle.obman_c_whole.specs.Savestates.{Loads, Saves, loaded_owned};
 
+use crate::handing::hand_over;
 use ob_codec::ReadFault;
 use ob_manager::{HostData, Manager};
 use ob_rights::{Fault, code_of};
-use obman_c_base::{INVALID_DATA, ManagerOut, ManagerOwner, OwnedManager, SUCCESS, TOO_SMALL};
+use obman_c_base::{INVALID_DATA, ManagerOut, ManagerOwner, OwnedManager, SUCCESS};
 use pin_words::LockedPins;
 use std::alloc::Global;
 
@@ -23,16 +24,10 @@ pub extern "C" fn om_save(
     ensures same { owner.new.value ≡ owner.old.value }
 {
     let held = owner.lend();
-    let Ok(saved) = held.manager.save_with(alloc, &held.kept) else {
-        return code_of(Fault::Memory);
-    };
-    let text = saved.as_slice();
-    *written = saved.len();
-    if saved.len() > bytes.len() {
-        return TOO_SMALL;
+    match held.manager.save_with(alloc, &held.kept) {
+        Ok(saved) => hand_over(saved.as_slice(), bytes, written),
+        Err(_) => code_of(Fault::Memory),
     }
-    bytes[..saved.len()].copy_from_slice(text);
-    SUCCESS
 }
 
 /// [`Manager::load_with`](ob_manager::Manager::load_with), over words of its own, at a place of C's: 0, 13 where the

@@ -1,11 +1,13 @@
 //! A batch of calls, as the program reads and prints them.
 ghost use Rattle.std.specs.Prelude.{◌≡◌, ◌⊎◌};
-ghost use Rattle.obman_c_whole.specs.Scripts.{ScriptAnswered, HandsOver};
+ghost use Rattle.obman_c_whole.specs.Handing.{HandsOver};
+ghost use Rattle.obman_c_whole.specs.Scripts.{ScriptAnswered};
 
+use crate::handing::hand_over;
 use ob_console::run_whole;
 use ob_rights::{Fault, code_of};
 use ob_script::Collected;
-use obman_c_base::{CLimits, SUCCESS, TOO_SMALL, limits_of};
+use obman_c_base::{CLimits, TOO_SMALL, limits_of};
 use std::alloc::Global;
 
 /// Answers a script over a new manager, as the program does without lanes and without `--more`, at the front of `answers`: 0, 87 where a
@@ -27,14 +29,14 @@ pub extern "C" fn om_script(
     };
     let mut sink = Collected::new(alloc, answers.len());
     match run_whole(alloc, false, limits, script, &mut sink) {
-        Ok(()) => hand_over(&sink, answers, length),
+        Ok(()) => tell(&sink, answers, length),
         Err(_) => code_of(Fault::Memory),
     }
 }
 
 /// Puts what was collected at the front of a room, where it fits, and says how long it is. The 8 never comes: a sink
 /// keeps what fits the room that it was made for.
-fn hand_over(collected: &Collected, room: &mut [u8], length: &mut usize) -> u32
+fn tell(collected: &Collected, room: &mut [u8], length: &mut usize) -> u32
     ensures { HandsOver collected.now.io_trace.bytes result room.old room.new length.new
         ⊎ ((result ≡ 8) × (room.new ≡ room.old) × (length.new ≡ length.old)) }
 {
@@ -42,10 +44,8 @@ fn hand_over(collected: &Collected, room: &mut [u8], length: &mut usize) -> u32
         *length = collected.len();
         return TOO_SMALL;
     }
-    let Some(bytes) = collected.whole() else {
-        return code_of(Fault::Memory);
-    };
-    *length = bytes.len();
-    room[..bytes.len()].copy_from_slice(bytes);
-    SUCCESS
+    match collected.whole() {
+        Some(bytes) => hand_over(bytes, room, length),
+        None => code_of(Fault::Memory),
+    }
 }

@@ -10,7 +10,7 @@ use Rattle.ob_rights.specs.declared.rights.Rights.{Rights}
 use Rattle.ob_rights.specs.Rights.{within}
 use Rattle.ob_tables.specs.declared.entry.Entry.{Entry}
 use Rattle.ob_body.specs.declared.body.Body.{Body}
-use Rattle.ob_body.specs.declared.body.Body.TheVariants.{Host, Mutex, Semaphore}
+use Rattle.ob_body.specs.declared.body.Body.TheVariants.{Event, Host, Mutex, Semaphore}
 use Rattle.ob_body.specs.Body.{kind_of, post_answer, unlock_answer}
 use Rattle.ob_body.specs.Mutex as mutex
 use Rattle.ob_body.specs.Semaphore as semaphore
@@ -33,7 +33,7 @@ use Rattle.ob_manager.specs.Signaling.{host_of, if_host, modified}
 use Rattle.ob_manager.specs.Creating.{create, created, name_in, named_object, new_event, new_handle, new_host, new_mutex, new_object, new_semaphore, new_timer, own_name, room_for, semaphore_of}
 use Rattle.ob_manager.specs.Copying.{admitted, asked_rights, copied_to, copy_rights, is_stuck, is_wrong, keeps_rights, leaves, with_source, without_source}
 use Rattle.ob_manager.specs.Reaping.{if_ended}
-use Rattle.ob_manager.specs.Waiting.{all_found, deadline_in, is_zero, objects_of, pending, satisfied, shown, unsatisfied, wait_on}
+use Rattle.ob_manager.specs.Waiting.{after_signal, all_found, deadline_in, is_zero, objects_of, pending, satisfied, shown, told_at, unsatisfied, wait_on}
 use Rattle.ob_manager.specs.declared.waiting.Timeout.{Timeout}
 use Rattle.ob_waits.specs.declared.wait.Mode.{Mode}
 use Rattle.ob_waits.specs.declared.wait.WaitState.{WaitState}
@@ -209,7 +209,7 @@ objects_within fs s p handles h a = search (then_within, all_within, refuse_with
 
 unsatisfied_says : (fs : List Fault) (s : State) (t : ℕ) (mode : Mode) (timeout : Timeout) (ids : List Id)
     → IsAmong fs fault.Limit → Says fs (λ t. ⊥) (unsatisfied s t mode timeout ids)
-unsatisfied_says fs s t mode timeout ids l = by (is_zero timeout)
+unsatisfied_says fs s t mode timeout ids l = by (is_zero s.clock timeout)
   where
     becomes : Says fs (λ t. ⊥) (pending s t mode (deadline_in s.clock timeout) ids)
     becomes = search (andThen, refuse_within)
@@ -231,6 +231,22 @@ shown_says : (fs : List Fault) (s : State) (n : ℕ) (stands : WaitState)
     → SaysOf fs (λ t. ⊥) (shown s n stands).state (shown s n stands).reply
 shown_says fs s n Pending = tt
 shown_says fs s n (Answered code) = tt
+
+-- a signal with a wait
+abbrev meeting_refusals : List Fault
+meeting_refusals = fault.Parameter ∷ fault.Busy ∷ fault.Handle ∷ fault.Access ∷ fault.Posts ∷ fault.NotOwner ∷ fault.Limit
+    ∷ []
+
+signal_within : (t : ℕ) (e : Entry) (b : Option Body) → Within meeting_refusals (after_signal t e b)
+signal_within t e (Some (Event x)) = search (then_within, refuse_within)
+signal_within t e (Some (Semaphore x)) = search (then_within, refuse_within, post_within)
+signal_within t e (Some (Mutex x)) = search (then_within, unlock_within)
+signal_within t e b = refl
+
+told_says : (fs : List Fault) (s : State) (name : ℕ) (stands : Option WaitState)
+    → SaysOf fs (λ t. ⊥) s (told_at name stands)
+told_says fs s name (Some (Answered code)) = tt
+told_says fs s name stands = tt
 
 -- a duplicate
 
@@ -308,6 +324,8 @@ outcome_says s (calls.Duplicate t source h target mask inherit options) r =
     (copied_says s e target mask inherit options) (λ q. (both _ _ q, refl)))))))
 outcome_says s (calls.ReleaseSemaphore t h count) r =
     search (andThen, caller_within, or_within, found_within, kind_within, refuse_within, post_within) depth 8
+outcome_says s (calls.SignalAndWait t signal timeout h) r =
+    search (andThen, caller_within, found_within, refuse_within, signal_within, told_says) depth 8
 outcome_says s call r =
     search (
       andThen,

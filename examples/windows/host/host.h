@@ -24,7 +24,6 @@ enum {
     REGIONS = 32 + 2 * PLACES,
     IMPORTS = 256,
     SLOTS = 1024, /* objects at a time */
-    PERIODS = 64,
     PAGE = 0x1000,
     MEMORY_MOST = 64 << 20, /* of a process */
     STACK = 0x40000,
@@ -83,8 +82,7 @@ typedef struct process {
     uint32_t number; /* the library's; 0 where there is none */
     uint32_t regions_count, imports;
     uint32_t standard[3]; /* its handles for input, output and errors */
-    uint32_t never;       /* its handle to an event that nobody sets, for Sleep */
-    uint32_t unused;
+    uint32_t unused[2];
     char name[256]; /* of its program, in the machine's folder */
     region regions[REGIONS];
 } process;
@@ -100,14 +98,6 @@ typedef struct named {
     bool has_ended;
 } named;
 
-/* A timer that comes again. */
-typedef struct period {
-    om_object object;
-    uint32_t handle; /* the host's own; 0 where there is none */
-    uint32_t unused;
-    uint64_t next, length;
-} period;
-
 typedef struct machine_state {
     uint64_t seed;         /* from which the next turns come */
     uint64_t instructions; /* that have run */
@@ -117,12 +107,11 @@ typedef struct machine_state {
     uint32_t first;         /* the number of the first process */
     uint32_t status;        /* with which that has ended */
     om_member host;         /* the host's own process */
-    uint32_t never;       /* its handle to an event that nobody sets */
     uint32_t standard[3]; /* its handles to the standard files */
+    uint32_t unused;
     char folder[1024]; /* where programs are */
     thread threads[THREADS];
     process processes[PROCESSES];
-    period periods[PERIODS];
 } machine_state;
 
 /* How many instructions the block at an address has. */
@@ -198,13 +187,11 @@ bool inherits(const call *c, uint64_t attributes);
 
 /* objects.c */
 uint32_t handle_of(uint64_t guest);
-void end_periods(void);
-uint64_t next_period(void);
-void signal_periods(void);
 void create_event(call *c), create_mutex(call *c), create_semaphore(call *c), create_timer(call *c);
 void open_event(call *c), open_mutex(call *c), open_semaphore(call *c), open_timer(call *c);
-void set_event(call *c), reset_event(call *c), release_mutex(call *c), release_semaphore(call *c);
-void set_timer(call *c), cancel_timer(call *c), wait_for_one(call *c), wait_for_several(call *c), sleep_for(call *c);
+void set_event(call *c), reset_event(call *c), pulse_event(call *c), release_mutex(call *c), release_semaphore(call *c);
+void set_timer(call *c), cancel_timer(call *c), wait_for_one(call *c), wait_for_several(call *c), signal_and_wait(call *c);
+void sleep_for(call *c);
 void close_handle(call *c), duplicate_handle(call *c), handle_flags(call *c), set_handle_flags(call *c);
 
 /* processes.c */

@@ -119,6 +119,10 @@ void reset_event(call *c) {
     done(c, om_reset_event(&om, c->by->number, first_handle(c)));
 }
 
+void pulse_event(call *c) {
+    done(c, om_pulse_event(&om, c->by->number, first_handle(c)));
+}
+
 void release_mutex(call *c) {
     done(c, om_release_mutex(&om, c->by->number, first_handle(c)));
 }
@@ -133,82 +137,9 @@ void release_semaphore(call *c) {
 
 /* ---- Timers ---- */
 
-static bool is_same(om_object one, om_object other) {
-    return one.slot == other.slot && one.generation == other.generation;
-}
-
-static void end_period(period *p) {
-    must(om_close(&om, machine.host.thread, p->handle), "the end of a period");
-    p->handle = 0;
-}
-
-/* A timer comes no more again. */
-static void stop_period(om_object timer) {
-    for (period *p = machine.periods; p < machine.periods + PERIODS; p++) {
-        if (p->handle != 0 && is_same(p->object, timer)) {
-            end_period(p);
-        }
-    }
-}
-
-/* A timer comes again, so much behind its first moment: the host needs a place and a handle of its own for that. */
-static uint32_t begin_period(const call *c, uint32_t handle, uint64_t next, uint64_t length) {
-    om_opening own;
-    period *p = machine.periods;
-    while (p < machine.periods + PERIODS && p->handle != 0) {
-        p++;
-    }
-    if (p == machine.periods + PERIODS) {
-        return OM_ERROR_NO_SYSTEM_RESOURCES;
-    }
-    uint32_t host = machine.host.process;
-    uint32_t status = om_duplicate(&om, machine.host.thread, c->of->number, handle, host, OM_MODIFY_STATE, false, 0, &own);
-    if (status == OM_SUCCESS) {
-        *p = (period){.object = own.object, .handle = own.handle, .next = next, .length = length};
-    }
-    return status;
-}
-
-/* A timer that nobody has but the host comes no more again. */
-void end_periods(void) {
-    for (period *p = machine.periods; p < machine.periods + PERIODS; p++) {
-        om_references all;
-        if (p->handle != 0) {
-            must(om_counts(&om, p->object.slot, p->object.generation, &all), "a period");
-            if (all.handles == 1 && all.waits == 0) {
-                end_period(p);
-            }
-        }
-    }
-}
-
-/* The next moment at which a timer comes again. */
-uint64_t next_period(void) {
-    uint64_t least = UINT64_MAX;
-    for (const period *p = machine.periods; p < machine.periods + PERIODS; p++) {
-        if (p->handle != 0 && p->next < least) {
-            least = p->next;
-        }
-    }
-    return least;
-}
-
-/* Signals the timers that come again by now: a timer that is set to what is over signals at once. */
-void signal_periods(void) {
-    for (period *p = machine.periods; p < machine.periods + PERIODS; p++) {
-        if (p->handle != 0 && p->next <= om_now(&om)) {
-            must(om_set_timer(&om, machine.host.thread, p->handle, (int64_t)p->next), "a period");
-            p->next += (om_now(&om) - p->next) / p->length * p->length + p->length;
-        }
-    }
-}
-
 /* A moment of the guest's is from now where it is below 0, and else since 1601. */
 void set_timer(call *c) {
     int64_t due = (int64_t)fetch(c, argument(c, 1), 8);
-    uint32_t handle = first_handle(c);
-    uint64_t length = (uint32_t)argument(c, 2) * (uint64_t)10000, first;
-    om_object timer;
     if (argument(c, 3) != 0) {
         stop("%s with a routine isn't served", c->name);
     }
@@ -216,42 +147,38 @@ void set_timer(call *c) {
     if (due >= 0) {
         due = due < (int64_t)BEGAN ? 0 : due - (int64_t)BEGAN;
     }
-    uint32_t status = om_set_timer(&om, c->by->number, handle, due);
-    if (status == OM_SUCCESS && om_resolve(&om, c->of->number, handle, &timer) == OM_SUCCESS) {
-        first = due < 0 ? om_now(&om) - (uint64_t)due : (uint64_t)due < om_now(&om) ? om_now(&om) : (uint64_t)due;
-        stop_period(timer);
-        if (length > 0 && (status = begin_period(c, handle, first + length, length)) != OM_SUCCESS) {
-            om_cancel_timer(&om, c->by->number, handle);
-        }
-    }
-    done(c, status);
+    done(c, om_set_periodic_timer(&om, c->by->number, first_handle(c), due, (int32_t)argument(c, 2)));
 }
 
 void cancel_timer(call *c) {
-    om_object timer;
-    uint32_t status = om_cancel_timer(&om, c->by->number, first_handle(c));
-    if (status == OM_SUCCESS && om_resolve(&om, c->of->number, first_handle(c), &timer) == OM_SUCCESS) {
-        stop_period(timer);
-    }
-    done(c, status);
+    done(c, om_cancel_timer(&om, c->by->number, first_handle(c)));
 }
 
 /* ---- Waits ---- */
 
-/* A wait that is pending stops its thread, whose call is answered by `look_round`. */
-static void begin_wait(call *c, bool all, uint32_t milliseconds, const uint32_t *handles, size_t count) {
-    uint32_t answer;
+/* Until when a wait of so many milliseconds lasts. */
+static int64_t due_in(uint32_t milliseconds) {
     if (milliseconds == 0 || milliseconds == OM_INFINITE) {
         tell_due();
     } else {
-        tell_time(); /* from which the milliseconds count */
+        tell_time(); /* from which they count */
     }
-    uint32_t status = om_wait(&om, c->by->number, all, milliseconds, handles, count, &answer);
+    return om_due_in(milliseconds);
+}
+
+/* A wait that is pending stops its thread, whose call is answered by `look_round`. */
+static void waited(call *c, uint32_t status, uint32_t answer) {
     c->by->waits = status == OM_ERROR_IO_PENDING;
     c->result = status == OM_SUCCESS ? answer : WAIT_FAILED;
     if (status != OM_SUCCESS && status != OM_ERROR_IO_PENDING) {
         set_error(c, status);
     }
+}
+
+static void begin_wait(call *c, bool all, uint32_t milliseconds, const uint32_t *handles, size_t count) {
+    int64_t due = due_in(milliseconds);
+    uint32_t answer, status = om_wait_until(&om, c->by->number, all, due, handles, count, &answer);
+    waited(c, status, answer);
 }
 
 /* A handle that is waited for. */
@@ -280,12 +207,21 @@ void wait_for_several(call *c) {
     begin_wait(c, (uint32_t)argument(c, 2) != 0, (uint32_t)argument(c, 3), handles, count);
 }
 
+void signal_and_wait(call *c) {
+    uint32_t signal = first_handle(c), handle = waited_for(c, argument(c, 1)), answer;
+    int64_t due = due_in((uint32_t)argument(c, 2));
+    uint32_t status = om_signal_and_wait(&om, c->by->number, signal, handle, due, &answer);
+    waited(c, status, answer);
+}
+
 /* Without time it is another thread's turn. */
 void sleep_for(call *c) {
-    uint32_t milliseconds = (uint32_t)argument(c, 0);
+    uint32_t milliseconds = (uint32_t)argument(c, 0), answer;
     c->ends_turn = true;
     if (milliseconds > 0) {
-        begin_wait(c, false, milliseconds, &c->of->never, 1);
+        int64_t due = due_in(milliseconds);
+        uint32_t status = om_sleep(&om, c->by->number, due, &answer);
+        waited(c, status, answer);
     }
 }
 

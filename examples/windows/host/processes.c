@@ -80,13 +80,9 @@ static void over(type is, uint32_t number, uint32_t code) {
     must(om_close(&om, machine.host.thread, handle), "the end of a thread or process");
 }
 
-/* The host is a process of its own, which has the standard files, and an event that nobody sets. */
+/* The host is a process of its own, which has the standard files. */
 void begin_host(void) {
-    om_opening never;
-    om_making waited_for = om_with_grant(OM_SYNCHRONIZE);
     must(om_spawn(&om, 1, &machine.host), "a process for the host");
-    must(om_create_event(&om, machine.host.thread, &waited_for, "", 0, true, false, &never), "an event of the host's");
-    machine.never = never.handle;
     for (type file = INPUT; file <= ERRORS; file++) {
         must(begin_object(file, 0, &machine.standard[file - INPUT]), "a standard file");
     }
@@ -95,20 +91,17 @@ void begin_host(void) {
 /* ---- Beginnings ---- */
 
 /* What a process has from its beginning. */
-static uint32_t furnish(process *of, uint32_t thread, const char *command, size_t length) {
+static uint32_t furnish(process *of, const char *command, size_t length) {
     uint8_t *narrow = guest_at(of, COMMAND, PAGE), *wide = guest_at(of, WIDE_COMMAND, 2 * PAGE);
-    uint32_t status = OM_SUCCESS, protected = OM_HANDLE_FLAG_PROTECT_FROM_CLOSE;
+    uint32_t status = OM_SUCCESS;
     for (int file = 0; file < 3 && status == OM_SUCCESS; file++) {
         status = give(of, machine.standard[file], false, &of->standard[file]);
-    }
-    if (status == OM_SUCCESS) {
-        status = give(of, machine.never, false, &of->never);
     }
     for (size_t i = 0; i < length; i++) {
         narrow[i] = (uint8_t)command[i];
         wide[2 * i] = (uint8_t)command[i];
     }
-    return status == OM_SUCCESS ? om_set_handle_flags(&om, thread, of->never, protected, protected) : status;
+    return status;
 }
 
 /* A place for a process, or NULL. */
@@ -131,7 +124,7 @@ static uint32_t begin_process(process *of, om_member member, uint64_t entry, con
         status = begin_member(A_THREAD, member.thread);
     }
     if (status == OM_SUCCESS) {
-        status = furnish(of, member.thread, command, length);
+        status = furnish(of, command, length);
     }
     if (status != OM_SUCCESS) {
         end_process(of, 0);

@@ -109,9 +109,6 @@ static bool is_in_bounds(void) {
     for (const thread *t = machine.threads; t < machine.threads + THREADS && is_good; t++) {
         is_good = t->number == 0 || (t->process < PROCESSES && machine.processes[t->process].number != 0 && t->place < PLACES);
     }
-    for (const period *p = machine.periods; p < machine.periods + PERIODS; p++) {
-        is_good = is_good && (p->handle == 0 || p->length > 0);
-    }
     return is_good;
 }
 

@@ -50,24 +50,20 @@ uint64_t now(void) {
 }
 
 static uint64_t next_moment(void) {
-    uint64_t moment, period = next_period();
-    return om_next_due(&om, &moment) == OM_SUCCESS && moment < period ? moment : period;
+    uint64_t moment;
+    return om_next_due(&om, &moment) == OM_SUCCESS ? moment : UINT64_MAX;
 }
 
-/* Tells the library each moment at which something was due by now, one after another, so that what comes first is served first. */
-void tell_due(void) {
-    for (uint64_t moment; (moment = next_moment()) <= now();) {
-        must(om_tick(&om, moment), "a tick");
-        signal_periods();
-        look_round();
-    }
-}
-
-/* Tells the library the time. */
+/* Tells the library the time: what was due by now comes in the order of its moments. */
 void tell_time(void) {
-    tell_due();
-    if (om_now(&om) < now()) {
-        must(om_tick(&om, now()), "a tick");
+    must(om_advance(&om, now()), "the time");
+    look_round();
+}
+
+/* The same, where something was due. */
+void tell_due(void) {
+    if (next_moment() <= now()) {
+        tell_time();
     }
 }
 
@@ -97,7 +93,6 @@ void look_round(void) {
             of->now.whole[RAX] = answers[i].code;
         }
     } while (count == 16);
-    end_periods();
     om_take_ended(&om, ended, SLOTS, &count);
     write_trace();
 }

@@ -429,8 +429,10 @@ const KINDS: &[Line<'static>] = &[
 /// Edits of what was saved behind these.
 #[rattlefmt::skip]
 const EDITS_OF_KINDS: &[Edit<'static>] = &[
-    // the timer: signaled while it is set, signaled and set no longer, due already, and of the other kind
+    // the timer: signaled while it is set, with a period too, signaled and set no longer, due already, and of the other
+    // kind
     (174, &[0, 1], &[1, 1], Some(TextFault::Value)),
+    (172, &[3, 0, 0, 1, 80, 195, 0, 0, 0, 0, 0, 0], &[5, 0, 1, 1, 80, 195, 0, 0, 0, 0, 0, 0, 1, 0, 0, 0], None),
     (174, &[0, 1, 80, 195, 0, 0, 0, 0, 0, 0], &[1, 0], None),
     (176, &[80, 195], &[0, 0], Some(TextFault::Value)),
     (173, &[0], &[1], Some(TextFault::Value)),
@@ -483,7 +485,7 @@ const EDITS_OF_HOSTED: &[Edit<'static>] = &[
     (133, &[7, 0, 0, 0], &[0, 1, 0, 0], Some(TextFault::Value)),
     // an event in its place, and a kind that is none
     (132, &[4, 7, 0, 0, 0, 0, 1], &[0, 0, 1], None),
-    (132, &[4], &[5], Some(TextFault::Tag)),
+    (132, &[4], &[6], Some(TextFault::Tag)),
     // reset by hand in its descriptor alone, and in both
     (119, &[0], &[4], Some(TextFault::Value)),
     (119, &[0, 0, 0, 0, 0, 0, 0, 0, 255, 255, 31, 0, 1, 4, 7, 0, 0, 0, 0],

@@ -63,7 +63,7 @@ fn begin_anew(rt: &impl Abort, waits: &mut Waits) -> Result<(), Fault> {
     }
     waits.drop_thread(1);
     if waits.pending(3).is_some() {
-        waits.expire(3);
+        waits.end(3, WAIT_TIMEOUT);
     }
     same(rt, adds_anew(rt, waits, 5)?, 4);
     for thread in 2..6 {

@@ -1,10 +1,10 @@
 //! Lines that ask for calls.
 use crate::tests::holds_at;
 use ob_manager::CallOf::{
-    CancelTimer, Child, CloseHandle, Counts, Duplicate, EndThread, Exit, Expire, GetFlags,
-    MakeEvent, MakeHost, MakeMutex, MakeSemaphore, MakeTimer, OpenNamed, Reap, ReleaseMutex,
-    ReleaseSemaphore, ResetEvent, SetEvent, SetFlags, SetTimer, SignalHost, Spawn, StartThread,
-    Tick, WaitFor, WaitResult,
+    Alert, CancelTimer, Child, CloseHandle, Counts, Duplicate, EndThread, Exit, Expire, GetFlags,
+    MakeEvent, MakeHost, MakeMutex, MakeSemaphore, MakeTimer, OpenNamed, PulseEvent, Reap,
+    ReleaseMutex, ReleaseSemaphore, ResetEvent, SetEvent, SetFlags, SetPeriodicTimer, SetTimer,
+    SignalAndWait, SignalHost, Sleep, Spawn, StartThread, Tick, WaitFor, WaitResult,
 };
 use ob_manager::{CallOf, Make, Mode, Timeout};
 use ob_rights::{Kind, Rights};
@@ -91,11 +91,14 @@ const ROWS: &[Row] = &[
     (SetFlags { thread: 1, handle: 4, mask: 3, flags: LAST }, Some(b"setflags t1 h4 3 4294967295")),
     (SetEvent { thread: 1, handle: 0 }, Some(b"set t1 h0")),
     (ResetEvent { thread: 1, handle: 4 }, Some(b"reset t1 h4")),
+    (PulseEvent { thread: 1, handle: 4 }, Some(b"pulse t1 h4")),
     (ReleaseSemaphore { thread: 1, handle: 4, count: -1 }, Some(b"release t1 h4 -1")),
     (ReleaseMutex { thread: 1, handle: 4 }, Some(b"unlock t1 h4")),
     (SignalHost { id: FAR, signaled: true }, Some(b"signal s65535.4294967295 set")),
     (SignalHost { id: FAR, signaled: false }, Some(b"signal s65535.4294967295 clear")),
     (SetTimer { thread: 1, handle: 4, due: -9_223_372_036_854_775_808 }, Some(b"settimer t1 h4 -9223372036854775808")),
+    (SetPeriodicTimer { thread: 1, handle: 4, due: -9_223_372_036_854_775_808, period: -2_147_483_648 },
+        Some(b"setperiod t1 h4 -9223372036854775808 -2147483648")),
     (CancelTimer { thread: 1, handle: 4 }, Some(b"cancel t1 h4")),
     (Tick { now: 9_223_372_036_854_775_807 }, Some(b"tick 9223372036854775807")),
     (Tick { now: 9_223_372_036_854_775_808 }, None),
@@ -103,8 +106,16 @@ const ROWS: &[Row] = &[
         Some(b"wait t1 any inf h4 h8")),
     (WaitFor { thread: 1, mode: Mode::All, timeout: Timeout::Zero, handles: &[] }, Some(b"wait t1 all 0")),
     (WaitFor { thread: 1, mode: Mode::All, timeout: Timeout::Millis(5), handles: &[4] }, Some(b"wait t1 all 5 h4")),
+    (WaitFor { thread: 1, mode: Mode::Any, timeout: Timeout::Until(-9_223_372_036_854_775_808), handles: &[4] },
+        Some(b"wait t1 any @-9223372036854775808 h4")),
+    (SignalAndWait { thread: 1, signal: 4, timeout: Timeout::Until(9_223_372_036_854_775_807), handle: 8 },
+        Some(b"signalwait t1 h4 @9223372036854775807 h8")),
+    (SignalAndWait { thread: 1, signal: 4, timeout: Timeout::Zero, handle: 8 }, Some(b"signalwait t1 h4 0 h8")),
+    (Sleep { thread: 1, timeout: Timeout::Infinite }, Some(b"sleep t1 inf")),
+    (Sleep { thread: 1, timeout: Timeout::Zero }, Some(b"sleep t1 0")),
     (WaitResult { wait: 1 }, Some(b"result w1")),
     (Expire { wait: 1 }, Some(b"expire w1")),
+    (Alert { wait: 1 }, Some(b"alert w1")),
     (EndThread { thread: 1 }, Some(b"endthread t1")),
     (Exit { process: 1 }, Some(b"exit p1")),
     (Reap { slot: 65_535 }, Some(b"reap s65535")),

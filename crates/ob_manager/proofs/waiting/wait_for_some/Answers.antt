@@ -10,7 +10,7 @@ wait_on-requires g c =
     (asked c.args.store.now.state c.args.process c.args.handles.now c.collect.new.ids.items c.in_ok-collect.ensures.value)
     in
     record {
-      not_empty = are.not_empty;
+      not_empty = λ all. are.not_empty;
       at_most = are.at_most;
       alone = c.requires.alone;
       live = c.requires.live;

@@ -84,18 +84,25 @@ same (calls.SetFlags thread handle mask flags) (calls.SetFlags thread' handle' m
     grind (arith, nat_tests, e)
 same (calls.SetEvent thread handle) (calls.SetEvent thread' handle') e = grind (arith, nat_tests, e)
 same (calls.ResetEvent thread handle) (calls.ResetEvent thread' handle') e = grind (arith, nat_tests, e)
+same (calls.PulseEvent thread handle) (calls.PulseEvent thread' handle') e = grind (arith, nat_tests, e)
 same (calls.ReleaseSemaphore thread handle count) (calls.ReleaseSemaphore thread' handle' count') e =
     grind (arith, nat_tests, e)
 same (calls.ReleaseMutex thread handle) (calls.ReleaseMutex thread' handle') e = grind (arith, nat_tests, e)
 same (calls.SignalHost id signaled) (calls.SignalHost id' signaled') e = grind (arith, nat_tests, e)
 same (calls.SetTimer thread handle due) (calls.SetTimer thread' handle' due') e = grind (arith, nat_tests, e)
+same (calls.SetPeriodicTimer thread handle due period) (calls.SetPeriodicTimer thread' handle' due' period') e =
+    grind (arith, nat_tests, e)
 same (calls.CancelTimer thread handle) (calls.CancelTimer thread' handle') e = grind (arith, nat_tests, e)
 same (calls.Tick now) (calls.Tick now') e = grind (arith, nat_tests, e)
 same (calls.WaitFor thread mode timeout handles) (calls.WaitFor thread' mode' timeout' handles') e =
     let same_handles : handles ≡ handles' = text_is handles handles' (grind (arith, nat_tests, e)) in
     grind (arith, nat_tests, e, same_handles)
+same (calls.SignalAndWait thread signal timeout handle) (calls.SignalAndWait thread' signal' timeout' handle') e =
+    grind (arith, nat_tests, e)
+same (calls.Sleep thread timeout) (calls.Sleep thread' timeout') e = grind (arith, nat_tests, e)
 same (calls.WaitResult number) (calls.WaitResult number') e = grind (arith, nat_tests, e)
 same (calls.Expire number) (calls.Expire number') e = grind (arith, nat_tests, e)
+same (calls.Alert number) (calls.Alert number') e = grind (arith, nat_tests, e)
 same (calls.EndThread thread) (calls.EndThread thread') e = grind (arith, nat_tests, e)
 same (calls.Exit process) (calls.Exit process') e = grind (arith, nat_tests, e)
 same (calls.Reap slot) (calls.Reap slot') e = grind (arith, nat_tests, e)

@@ -8,8 +8,9 @@ use Rattle.ob_store.proofs.store.Store.fire.Goals as goal
 pub settle-requires : goal.settle-requires
 settle-requires g c =
     let p = parts_of c.self.inside.parts in
+    let later = rw (← c.self.view_is) at c.requires.later in
     record {
-      sound = (way_fired p _ c.fire_all.new.signaled c.args.now c.self.invariant c.kept.ensures
+      sound = (way_fired p _ c.fire_all.new.signaled c.args.now c.self.invariant later c.kept.ensures
           c.fire_all.ensures.seen c.fire_all.ensures.rest).sound;
       populated = c.self.invariant.populated;
       enough = c.fire_all.ensures.enough p.waits.waits (enough_settled _ _ _ c.self.invariant.settled);
@@ -18,7 +19,8 @@ settle-requires g c =
 pub returns : goal.returns
 returns g c =
     let p = parts_of c.self.inside.parts in
-    let way = way_fired p _ c.fire_all.new.signaled c.args.now c.self.invariant c.kept.ensures c.fire_all.ensures.seen
+    let later = rw (← c.self.view_is) at c.requires.later in
+    let way = way_fired p _ c.fire_all.new.signaled c.args.now c.self.invariant later c.kept.ensures c.fire_all.ensures.seen
     c.fire_all.ensures.rest in
     rw (← c.self.view_is) (record {
       state = c.settle.ensures.state p.objects.keeper _ way;
