@@ -447,7 +447,7 @@ uint32_t om_child(om_manager *m, uint32_t thread, bool inherit, om_member *membe
 uint32_t om_thread(om_manager *m, uint32_t process, uint32_t *thread);
 
 /* A thread ends, whether it waits or not (ExitThread, TerminateThread): its wait is dropped, or its answer, though what that took stays
- * taken; its mutexes are abandoned; and with its last thread a process ends.
+ * taken; its mutexes are abandoned; and with its last thread a process ends, as om_next_thread from 0 tells then by 0.
  * OM_ERROR_INVALID_PARAMETER where no such thread lives. */
 uint32_t om_end_thread(om_manager *m, uint32_t thread);
 
@@ -843,6 +843,36 @@ size_t om_directory_len(om_manager *m);
 
 /* Which release the library is of, as OM_VERSION says it of the header. */
 uint32_t om_version(void);
+
+/* ---- Calls that are made of others ---- */
+
+/* What NtSetEvent, NtReleaseMutant, NtSetTimer and their like tell as the state before, asked in front of the call: 1 for an event, a timer or an
+ * object of the host's own that is signaled, else 0; a semaphore's count; 1 less how often its owner owns a mutex. 0 where the handle names nothing. */
+static inline int32_t om_previous(om_manager *m, uint32_t process, uint32_t handle) {
+    om_object_state it;
+    if (om_handle_state(m, process, handle, &it) != OM_SUCCESS) return 0;
+    return it.kind == OM_MUTEX ? 1 - (int32_t)it.count : it.kind == OM_SEMAPHORE ? (int32_t)it.count : it.signaled;
+}
+
+/* om_child with those of the inheritable handles alone that are listed (CreateProcess with PROC_THREAD_ATTRIBUTE_HANDLE_LIST): the process begins with all
+ * of them, and the others are closed. It looks at each handle of the new process, and at the list for each.
+ * OM_ERROR_INVALID_PARAMETER for a handle that isn't there or isn't inheritable; else it is refused as om_child is. */
+static inline uint32_t om_child_with(om_manager *m, uint32_t thread, const uint32_t *handles, size_t count, om_member *member) {
+    uint32_t parent = om_process_of(m, thread), status;
+    om_entry it;
+    for (size_t i = 0; i < count; i++) {
+        if (om_handle(m, parent, handles[i], &it) != OM_SUCCESS || (it.flags & OM_HANDLE_FLAG_INHERIT) == 0) return OM_ERROR_INVALID_PARAMETER;
+    }
+    if ((status = om_child(m, thread, true, member)) != OM_SUCCESS) return status;
+    for (it.handle = 0; om_next_handle(m, member->process, it.handle, &it) == OM_SUCCESS;) {
+        size_t i = 0;
+        while (i < count && (handles[i] & ~3u) != it.handle) i++;
+        if (i < count) continue;
+        om_set_handle_flags(m, member->thread, it.handle, OM_HANDLE_FLAG_PROTECT_FROM_CLOSE, 0);
+        om_close(m, member->thread, it.handle);
+    }
+    return OM_SUCCESS;
+}
 
 #ifdef __cplusplus
 }

@@ -347,6 +347,9 @@ public:
     // Processes and threads.
     result<om_member> spawn(std::uint32_t session) noexcept { return with<om_member>(om_spawn, session); }
     result<om_member> child(std::uint32_t thread, bool inherit) noexcept { return with<om_member>(om_child, thread, inherit); }
+    result<om_member> child_with(std::uint32_t thread, span<const std::uint32_t> handles) noexcept {
+        return with<om_member>(om_child_with, thread, handles.data(), handles.size());
+    }
     result<std::uint32_t> thread(std::uint32_t process) noexcept { return with<std::uint32_t>(om_thread, process); }
     status_only end_thread(std::uint32_t thread) noexcept { return status_only(om_end_thread(&m_, thread)); }
     status_only exit(std::uint32_t process) noexcept { return status_only(om_exit(&m_, process)); }
@@ -474,6 +477,7 @@ public:
     result<om_object_state> handle_state(std::uint32_t process, std::uint32_t handle) const noexcept {
         return with<om_object_state>(om_handle_state, process, handle);
     }
+    std::int32_t previous(std::uint32_t process, std::uint32_t handle) const noexcept { return om_previous(&m_, process, handle); }
     result<om_entry> handle(std::uint32_t process, std::uint32_t handle) const noexcept { return with<om_entry>(om_handle, process, handle); }
     result<om_handle_info> query_handle(std::uint32_t process, std::uint32_t handle) const noexcept {
         return with<om_handle_info>(om_query_handle, process, handle);

@@ -102,6 +102,23 @@ static void times() {
     MUST(m.wait(second, timer, 0).value() == OM_WAIT_OBJECT_0 && m.next_due().value() == 30005);
 }
 
+// What a child has of its parent's handles where some are listed, and what was before a call.
+static void inherits() {
+    obman::manager m;
+    om_member a = m.spawn(1).value();
+    const std::uint32_t one = m.create_event(a.thread, om_inherited(), {}, true, true)->handle, other = m.create_mutex(a.thread, om_inherited(), {}, true)->handle;
+    const std::uint32_t own = m.create_semaphore(a.thread, {}, {}, 3, 5)->handle;
+    m.set_handle_flags(a.thread, one, OM_HANDLE_FLAG_PROTECT_FROM_CLOSE, OM_HANDLE_FLAG_PROTECT_FROM_CLOSE).value();
+    om_member b = m.child_with(a.thread, numbers{other + 1}).value(), c = m.child_with(a.thread, numbers()).value();
+    auto inherited = m.handles(b.process), nothing = m.handles(c.process);
+    MUST(inherited.begin()->handle == other && ++inherited.begin() == inherited.end() && nothing.begin() == nothing.end());
+    MUST(m.child_with(a.thread, numbers{own}).status() == OM_ERROR_INVALID_PARAMETER);
+    MUST(m.child_with(a.thread, numbers{other, 400}).status() == OM_ERROR_INVALID_PARAMETER && m.room(0).processes == 61);
+    MUST(m.previous(a.process, one) == 1 && m.previous(a.process, other) == 0 && m.previous(a.process, own) == 3 && m.previous(a.process, 400) == 0);
+    m.end_thread(b.thread).value();
+    MUST(m.next_thread(b.process, 0) == 0 && m.next_thread(a.process, 0) == a.thread);
+}
+
 // What a manager that is const says.
 static void looks() {
     obman::manager m;
@@ -235,6 +252,7 @@ int main() {
     }
     waits();
     times();
+    inherits();
     looks();
     names();
     numbers_come_back();

@@ -402,6 +402,18 @@ class Manager(_Owner):
         """A thread begins a process, which with `inherit` has its inheritable handles."""
         return _told(Member, _c.om_child, self._at, thread, inherit)
 
+    def child_with(self, thread, handles):
+        """The same with those of the inheritable handles alone that are listed; 87 where one isn't there or isn't inheritable."""
+        there = {it.handle for it in self.handles(self.process_of(thread) or 0) if it.flags & HANDLE_FLAG_INHERIT}
+        listed = {it & ~3 for it in handles}
+        if not listed <= there:
+            raise Error(87)
+        made = self.child(thread, True)
+        for other in sorted(there - listed):
+            self.set_handle_flags(made.thread, other, HANDLE_FLAG_PROTECT_FROM_CLOSE, 0)
+            self.close(made.thread, other)
+        return made
+
     def thread(self, process):
         """A thread begins in a process."""
         return _told(c_uint32, _c.om_thread, self._at, process)

@@ -20,6 +20,21 @@ class Calls(unittest.TestCase):
             m.set_event(child.thread, event.handle)
             self.assertEqual([(a.wait, a.thread, a.code) for a in m.answers()], [(1, parent.thread, obman.WAIT_OBJECT_0)])
 
+    def test_a_child_inherits_what_is_listed(self):
+        with obman.Manager() as m:
+            parent = m.spawn(1)
+            one, other = (m.create_event(parent.thread, inherit=True).handle for _ in range(2))
+            own = m.create_event(parent.thread).handle
+            m.set_handle_flags(parent.thread, one, obman.HANDLE_FLAG_PROTECT_FROM_CLOSE, obman.HANDLE_FLAG_PROTECT_FROM_CLOSE)
+            child = m.child_with(parent.thread, [other + 1])
+            self.assertEqual([it.handle for it in m.handles(child.process)], [other])
+            self.assertEqual(list(m.handles(m.child_with(parent.thread, []).process)), [])
+            for handles in [[own], [other, 400]]:
+                with self.assertRaises(obman.Error) as refused:
+                    m.child_with(parent.thread, handles)
+                self.assertEqual(refused.exception.number, 87)
+            self.assertEqual(len(list(m.processes())), 3)
+
     def test_a_mutex_is_abandoned(self):
         with obman.Manager() as m:
             first, second = m.spawn(1), m.spawn(1)

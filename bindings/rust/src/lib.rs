@@ -628,6 +628,23 @@ impl Manager {
         told(|member| unsafe { sys::om_child(&mut self.m, thread, inherit, member) })
     }
 
+    /// The same with those of the inheritable handles alone that are listed: the process begins with all, and the others are closed.
+    /// [`Error::InvalidParameter`] for a handle that isn't there or isn't inheritable.
+    pub fn child_with(&mut self, thread: u32, handles: &[u32]) -> Result<Member, Error> {
+        let parent = self.process_of(thread).unwrap_or(0);
+        if !handles.iter().all(|it| self.handle(parent, *it).is_ok_and(|it| it.flags & HANDLE_FLAG_INHERIT != 0)) {
+            return Err(Error::InvalidParameter);
+        }
+        let made = self.child(thread, true)?;
+        let is_listed = |it: &u32| handles.iter().any(|listed| listed & !3 == *it);
+        let others: Vec<u32> = self.handles(made.process).map(|it| it.handle).filter(|it| !is_listed(it)).collect();
+        for other in others {
+            self.set_handle_flags(made.thread, other, HANDLE_FLAG_PROTECT_FROM_CLOSE, 0)?;
+            self.close(made.thread, other)?;
+        }
+        Ok(made)
+    }
+
     /// A thread begins in a process.
     pub fn thread(&mut self, process: u32) -> Result<u32, Error> {
         told(|thread| unsafe { sys::om_thread(&mut self.m, process, thread) })

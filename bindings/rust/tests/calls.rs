@@ -1,6 +1,6 @@
 //! The binding against the library: what is refused, what waits, what a host is told.
 
-use obman::{script, Answer, Create, Created, Error, Kind, Limits, Manager, Outcome, Room, Slot, State, Waited, WaitedFor, INFINITE};
+use obman::{script, Answer, Create, Created, Error, Kind, Limits, Manager, Outcome, Room, Slot, State, Waited, WaitedFor, HANDLE_FLAG_PROTECT_FROM_CLOSE, INFINITE};
 use std::sync::{Arc, Mutex};
 
 fn pending(waited: Waited) -> u32 {
@@ -24,6 +24,25 @@ fn a_child_inherits_and_sets_what_its_parent_waits_for() -> Result<(), Error> {
     let answers: Vec<Answer> = m.answers().collect();
     assert_eq!(answers, [Answer { wait, thread: parent.thread, outcome: Outcome::Signaled(0) }]);
     assert_eq!(m.wait_result(wait), Err(Error::InvalidParameter));
+    Ok(())
+}
+
+#[test]
+fn a_child_inherits_what_is_listed() -> Result<(), Error> {
+    let mut m = Manager::new(&Limits::default())?;
+    let parent = m.spawn(1)?;
+    let inherited = Create { inherit: true, ..Create::default() };
+    let one = m.create_event(parent.thread, &inherited, false, false)?.opening().handle;
+    let other = m.create_event(parent.thread, &inherited, false, false)?.opening().handle;
+    let own = m.create_event(parent.thread, &Create::default(), false, false)?.opening().handle;
+    m.set_handle_flags(parent.thread, one, HANDLE_FLAG_PROTECT_FROM_CLOSE, HANDLE_FLAG_PROTECT_FROM_CLOSE)?;
+    let child = m.child_with(parent.thread, &[other + 1])?;
+    assert_eq!(m.handles(child.process).map(|it| it.handle).collect::<Vec<u32>>(), [other]);
+    let child = m.child_with(parent.thread, &[])?;
+    assert_eq!(m.handles(child.process).count(), 0);
+    assert_eq!(m.child_with(parent.thread, &[own]), Err(Error::InvalidParameter));
+    assert_eq!(m.child_with(parent.thread, &[other, 400]), Err(Error::InvalidParameter));
+    assert_eq!(m.processes().count(), 3);
     Ok(())
 }
 
