@@ -221,6 +221,25 @@ static inline uint32_t om_nt_status(uint32_t number) {
     }
 }
 
+/* A character of UTF-16 as a name may have it, whose bytes are printable ASCII: itself, or % and its number in four hexadecimal digits, so % too, and two
+ * names stay two. Writes 1 or 5 bytes, and says how many. */
+static inline size_t om_spell(uint16_t character, char *bytes) {
+    if (character >= 0x20 && character <= 0x7E && character != '%') return *bytes = (char)character, 1;
+    *bytes = '%';
+    for (int i = 1; i <= 4; i++) bytes[i] = "0123456789ABCDEF"[character >> (16 - 4 * i) & 15];
+    return 5;
+}
+
+/* The character that om_spell wrote at the front of bytes, of which there is one at least; says how many bytes it has. */
+static inline size_t om_spelled(const char *bytes, size_t length, uint16_t *character) {
+    unsigned number = 0;
+    if (*bytes == '%' && length >= 5) {
+        for (int i = 1; i <= 4; i++) number = number << 4 | (unsigned)(bytes[i] <= '9' ? bytes[i] - '0' : bytes[i] - 'A' + 10);
+        return *character = (uint16_t)number, 5;
+    }
+    return *character = (unsigned char)*bytes, 1;
+}
+
 /* A manager: a pointer that is its own business. */
 typedef struct om_manager {
     void *at;

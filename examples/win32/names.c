@@ -1,7 +1,7 @@
 /* The names of Windows as the library has them.
  *
- * The library's names are printable ASCII, 260 bytes with their prefix. Another character stands as % and four hexadecimal digits, % itself too,
- * so that a zero, which names of ntdll may have, is one more character; and a name that is too long stands as %% and a digest of it. */
+ * The library's names are printable ASCII, 260 bytes with their prefix. A character stands as om_spell has it, so that a zero, which names of ntdll may
+ * have, is one more character; and a name that is too long stands as %% and a digest of it. */
 #include "host.h"
 
 #include <stdio.h>
@@ -9,10 +9,6 @@
 #include <strings.h>
 #include <sys/mman.h>
 #include <unistd.h>
-
-static bool is_plain(WCHAR c) {
-    return c >= 0x20 && c <= 0x7E && c != '%';
-}
 
 __extension__ typedef unsigned __int128 digest_of_128_bits;
 
@@ -33,15 +29,14 @@ static void spell(name *n, bool is_global, const WCHAR *text, size_t length) {
     n->is_given = true;
     n->length = prefix;
     for (size_t i = 0; i < length; i++) {
-        if (n->length + (is_plain(text[i]) ? 1 : 5) > OM_NAME_MOST) {
+        char spelled[5];
+        size_t count = om_spell(text[i], spelled);
+        if (n->length + count > OM_NAME_MOST) {
             n->length = prefix + digested(text, length, n->bytes + prefix);
             return;
         }
-        if (is_plain(text[i])) {
-            n->bytes[n->length++] = (char)text[i];
-        } else {
-            n->length += (size_t)sprintf(n->bytes + n->length, "%%%04X", text[i]);
-        }
+        memcpy(n->bytes + n->length, spelled, count);
+        n->length += count;
     }
 }
 
@@ -271,12 +266,9 @@ size_t native_path(const char *spelled, const om_row *row, WCHAR *path) {
     for (int i = 0; i < written; i++) {
         path[length++] = (WCHAR)root[i];
     }
-    for (uint32_t i = 0; i < row->length; i++) {
-        unsigned code = (unsigned char)spelled[i];
-        if (code == '%' && spelled[i + 1] != '%' && sscanf(spelled + i + 1, "%4X", &code) == 1) {
-            i += 4;
-        }
-        path[length++] = (WCHAR)code;
+    bool is_digest = row->length > 1 && spelled[0] == '%' && spelled[1] == '%';
+    for (uint32_t i = 0; i < row->length;) {
+        i += (uint32_t)om_spelled(spelled + i, is_digest ? 1 : row->length - i, &path[length++]);
     }
     return length;
 }

@@ -30,11 +30,9 @@ static NTSTATUS ended_with(uint32_t status, HANDLE handle, PLONG previous, LONG 
     return ended(status, handle);
 }
 
-/* The state of what a handle of the caller's names; all zeros where it names nothing. */
-static om_object_state state_of(HANDLE handle) {
-    om_object_state state = {0};
-    om_handle_state(&om, me->of->number, number_of(handle), &state);
-    return state;
+/* What a call with a handle of the caller's tells as the state before. */
+static LONG before_of(HANDLE handle) {
+    return om_previous(&om, me->of->number, number_of(handle));
 }
 
 /* ---- Making and opening ---- */
@@ -135,8 +133,8 @@ NTSTATUS NTAPI NtOpenEvent(PHANDLE opened, ACCESS_MASK access, const OBJECT_ATTR
 
 NTSTATUS NTAPI NtPulseEvent(HANDLE event, PLONG previous) {
     uint32_t by = enter();
-    om_object_state before = state_of(event);
-    return ended_with(om_pulse_event(&om, by, number_of(event)), event, previous, before.signaled);
+    LONG before = before_of(event);
+    return ended_with(om_pulse_event(&om, by, number_of(event)), event, previous, before);
 }
 
 NTSTATUS NTAPI NtQueryEvent(HANDLE event, ULONG what, PVOID told, ULONG length, PULONG written) {
@@ -151,14 +149,14 @@ NTSTATUS NTAPI NtQueryEvent(HANDLE event, ULONG what, PVOID told, ULONG length, 
 
 NTSTATUS NTAPI NtResetEvent(HANDLE event, PLONG previous) {
     uint32_t by = enter();
-    om_object_state before = state_of(event);
-    return ended_with(om_reset_event(&om, by, number_of(event)), event, previous, before.signaled);
+    LONG before = before_of(event);
+    return ended_with(om_reset_event(&om, by, number_of(event)), event, previous, before);
 }
 
 NTSTATUS NTAPI NtSetEvent(HANDLE event, PLONG previous) {
     uint32_t by = enter();
-    om_object_state before = state_of(event);
-    return ended_with(om_set_event(&om, by, number_of(event)), event, previous, before.signaled);
+    LONG before = before_of(event);
+    return ended_with(om_set_event(&om, by, number_of(event)), event, previous, before);
 }
 
 /* ---- Mutants, whose count is 1 less how often they are owned ---- */
@@ -183,8 +181,8 @@ NTSTATUS NTAPI NtQueryMutant(HANDLE mutant, ULONG what, PVOID told, ULONG length
 
 NTSTATUS NTAPI NtReleaseMutant(HANDLE mutant, PLONG previous) {
     uint32_t by = enter();
-    om_object_state before = state_of(mutant);
-    return ended_with(om_release_mutex(&om, by, number_of(mutant)), mutant, previous, 1 - (LONG)before.count);
+    LONG before = before_of(mutant);
+    return ended_with(om_release_mutex(&om, by, number_of(mutant)), mutant, previous, before);
 }
 
 /* ---- Semaphores ---- */
@@ -218,10 +216,10 @@ NTSTATUS NTAPI NtReleaseSemaphore(HANDLE semaphore, ULONG count, PULONG previous
 NTSTATUS NTAPI NtCancelTimer(HANDLE timer, PBOOLEAN previous) {
     enter();
     tell_time();
-    om_object_state before = state_of(timer);
+    LONG before = before_of(timer);
     uint32_t status = cancel_timer(number_of(timer));
     if (status == OM_SUCCESS && previous != NULL) {
-        *previous = before.signaled;
+        *previous = (BOOLEAN)before;
     }
     return ended(status, timer);
 }
@@ -251,10 +249,10 @@ NTSTATUS NTAPI NtSetTimer(HANDLE timer, const LARGE_INTEGER *due, PTIMER_APC_ROU
     (void)resume;
     enter();
     tell_time();
-    om_object_state before = state_of(timer);
+    LONG before = before_of(timer);
     uint32_t status = set_timer(number_of(timer), due->QuadPart, period, (PTIMERAPCROUTINE)routine, argument);
     if (status == OM_SUCCESS && previous != NULL) {
-        *previous = before.signaled;
+        *previous = (BOOLEAN)before;
     }
     return ended(status, timer);
 }

@@ -59,16 +59,12 @@ size_t text(const call *c, uint64_t address, char *bytes, size_t capacity) {
     return length;
 }
 
-/* The same of a name, in printable ASCII: any other character, and %, is % with its number, so that two names stay two. */
+/* The same of a name, as om_spell has it. */
 size_t name(const call *c, uint64_t address, char *bytes, size_t capacity) {
     size_t length = 0;
     int width = c->is_wide ? 2 : 1;
     for (uint64_t one; length + 6 < capacity && (one = fetch(c, address, width)) != 0; address += (uint64_t)width) {
-        if (one < 0x20 || one > 0x7E || one == '%') {
-            length += (size_t)snprintf(bytes + length, 6, "%%%04X", (unsigned)one);
-        } else {
-            bytes[length++] = (char)one;
-        }
+        length += om_spell((uint16_t)one, bytes + length);
     }
     return length;
 }
