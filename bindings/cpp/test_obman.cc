@@ -177,6 +177,13 @@ static void looks() {
 
 // Names: a literal, its first bytes, a string, and what has no bytes. A name alone says that it is one.
 static void names() {
+    for (std::uint32_t character = 0; character < 0x10000; character++) {
+        char bytes[5];
+        std::uint16_t again = 0;
+        const std::size_t count = om_spell(static_cast<std::uint16_t>(character), bytes);
+        MUST((count == 1 || count == 5) && om_spelled(bytes, count, &again) == count && again == character);
+        MUST(std::all_of(bytes, bytes + count, [](char it) { return it >= 0x20 && it <= 0x7E; }));
+    }
     obman::manager m;
     std::uint32_t thread = m.spawn(1).value().thread;
     m.create_event(thread, {}, "ready", false, false).value();
