@@ -1,4 +1,3 @@
-pub mod Dumping
 pub mod Handing
 pub mod Savestates
 pub mod Scripts

@@ -1,5 +1,5 @@
--- What C is told of a save and of a load.
-use Rattle.std.specs.Prelude.{◌≡◌, ℕ, ◌<◌, ◌≤◌, List, ◌++◌, Option, Some, Ok, Err, true, drop, is_ok, length}
+-- What C is given of a save, and told of a load.
+use Rattle.std.specs.Prelude.{◌≡◌, ℕ, List, Option, Some, Ok, Err, true, is_ok}
 use Rattle.ob_codec.specs.declared.fault.TextFault.{TextFault}
 use Rattle.ob_codec.specs.Sealing.{unsealed}
 use Rattle.pin_core.specs.declared.shape.Shape.{Shape}
@@ -16,15 +16,6 @@ use Rattle.obman_c_base.specs.declared.owned.OwnedManager.{OwnedManager}
 -- the savestate of a manager with what the host keeps
 abbrev pub saved_of : OwnedManager → List ℕ
 saved_of held = saved_with held.kept held.manager
-
--- Where there is room for the savestate it is put there, 0 is told, and how many bytes it has; where it doesn't fit 122
--- is told, and how many it has; or 8, for want of memory, and nothing changes.
-pub data Saves (held : OwnedManager) (status : ℕ) (room after : List ℕ) (before count : ℕ) : Type 0 where
-  saves : status ≡ 0 → count ≡ length (saved_of held) → count ≤ length room
-      → after ≡ saved_of held ++ drop count room → Saves held status room after before count
-  small : status ≡ 122 → count ≡ length (saved_of held) → length room < count → after ≡ room
-      → Saves held status room after before count
-  lacks : status ≡ 8 → after ≡ room → count ≡ before → Saves held status room after before count
 
 -- a keeper of words that begins with some slots, and gave one reader
 abbrev pub keeper_over : Shape → List Slot → TableState → KeeperSeat

@@ -1,6 +1,6 @@
 //! All that a manager holds, as a text.
-ghost use Rattle.std.specs.Prelude.{◌≡◌};
-ghost use Rattle.obman_c_whole.specs.Dumping.{Dumps};
+ghost use Rattle.std.specs.Prelude.{◌≡◌, ℕ, List};
+ghost use Rattle.obman_c_whole.specs.Handing.{Gives};
 
 use crate::handing::hand_over;
 use ob_rights::{Fault, code_of};
@@ -16,7 +16,7 @@ pub extern "C" fn om_dump(
     text: &mut [u8],
     written: &mut usize,
 ) -> u32
-    ensures told { Dumps result text.old text.new written.old written.new }
+    ensures told { (told : List ℕ) × Gives told result text.old text.new written.old written.new }
     ensures same { owner.new.value ≡ owner.old.value }
 {
     match dump(alloc, &owner.lend().manager) {

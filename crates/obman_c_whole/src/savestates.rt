@@ -1,7 +1,8 @@
 //! Savestates.
 ghost use Rattle.std.specs.Prelude.{◌≡◌, IfErr, IfOk};
 ghost use Rattle.pin_words.specs.Seats.{TableState};
-ghost use Rattle.obman_c_whole.specs.Savestates.{Loads, Saves, loaded_owned};
+ghost use Rattle.obman_c_whole.specs.Handing.{Gives};
+ghost use Rattle.obman_c_whole.specs.Savestates.{Loads, loaded_owned, saved_of};
 
 use crate::handing::hand_over;
 use ob_codec::ReadFault;
@@ -20,7 +21,7 @@ pub extern "C" fn om_save(
     bytes: &mut [u8],
     written: &mut usize,
 ) -> u32
-    ensures saved { Saves owner.old.value result bytes.old bytes.new written.old written.new }
+    ensures saved { Gives (saved_of owner.old.value) result bytes.old bytes.new written.old written.new }
     ensures same { owner.new.value ≡ owner.old.value }
 {
     let held = owner.lend();

@@ -1,6 +1,5 @@
 //! A batch of calls, as the program reads and prints them.
-ghost use Rattle.std.specs.Prelude.{◌≡◌, ◌⊎◌};
-ghost use Rattle.obman_c_whole.specs.Handing.{HandsOver};
+ghost use Rattle.obman_c_whole.specs.Handing.{Gives};
 ghost use Rattle.obman_c_whole.specs.Scripts.{ScriptAnswered};
 
 use crate::handing::hand_over;
@@ -37,8 +36,7 @@ pub extern "C" fn om_script(
 /// Puts what was collected at the front of a room, where it fits, and says how long it is. The 8 never comes: a sink
 /// keeps what fits the room that it was made for.
 fn tell(collected: &Collected, room: &mut [u8], length: &mut usize) -> u32
-    ensures { HandsOver collected.now.io_trace.bytes result room.old room.new length.new
-        ⊎ ((result ≡ 8) × (room.new ≡ room.old) × (length.new ≡ length.old)) }
+    ensures { Gives collected.now.io_trace.bytes result room.old room.new length.old length.new }
 {
     if collected.len() > room.len() {
         *length = collected.len();
