@@ -47,6 +47,13 @@ def recorded(record):
     return lines[::2], b"".join(line.removeprefix(b"# ") for line in lines[1::2])
 
 
+def replayed(record):
+    """What a record answers whose first line has the options for it, and how the program answers that, where it does so otherwise, or nothing."""
+    options, lines = record.split(b"\n", 1)
+    answers = recorded(lines)[1]
+    return answers, wrong(ended(PROGRAM, *options.decode().split()[2:], seconds=120, input=record), (0, answers, b""))
+
+
 def first(*names):
     """A tool by the first of its names that is here, or nothing."""
     return next((name for name in names if name and shutil.which(name.split()[0])), None)
