@@ -1,25 +1,92 @@
 /* The lock, threads that sleep, and the clock. */
 #include "host.h"
 
+#include <linux/futex.h>
 #include <stdio.h>
 #include <stdlib.h>
+#include <sys/syscall.h>
 #include <time.h>
+#include <unistd.h>
 
 om_manager om;
 om_member host;
 _Thread_local thread *me;
 
-static pthread_mutex_t lock = PTHREAD_MUTEX_INITIALIZER;
+/* What the word of the lock says: CROWDED that somebody sleeps until it is given back. */
+enum { FREE, TAKEN, CROWDED };
+/* What that of a thread says, which looks for an answer, or sleeps until there is one. */
+enum { LOOKS, SLEEPS, ANSWERED, ENDED };
+/* How often a thread looks before it sleeps, and how many of its waits sleep at once where it was in vain. */
+enum { LOOKS_FOR_LOCK = 100, LOOKS_FOR_ANSWER = 200, SKIPS = 50 };
+enum { MOST_WAKING = 16 };
+
+static atomic_uint lock;
+static _Thread_local struct {
+    int count;
+    atomic_uint *words[MOST_WAKING];
+} waking; /* whom a thread is to wake */
+static unsigned waiting; /* how many threads wait */
 static pthread_once_t once = PTHREAD_ONCE_INIT;
 static pthread_key_t adopted; /* threads that CreateThread didn't begin */
-static pthread_cond_t clock_woken;
-static uint64_t clock_sleeps_until, clock_begins_at;
+static atomic_uint clock_calls;
+static uint64_t clock_sleeps_until, clock_begins_at; /* nothing is due before the first */
 static process *program;
 
 static void must(bool holds, const char *what) {
     if (!holds) {
         fprintf(stderr, "win32: %s\n", what);
         abort();
+    }
+}
+
+/* ---- The lock, and words on which threads sleep: https://man7.org/linux/man-pages/man2/futex.2.html ---- */
+
+/* Sleeps, if the word has this value, until it is woken, or until a moment of CLOCK_MONOTONIC. */
+static void sleep_on(atomic_uint *word, unsigned value, const struct timespec *until) {
+    syscall(SYS_futex, word, FUTEX_WAIT_BITSET_PRIVATE, value, until, NULL, FUTEX_BITSET_MATCH_ANY);
+}
+
+/* Wakes one. Where the word has gone that is nobody, or one that sleeps again. */
+static void wake_on(atomic_uint *word) {
+    syscall(SYS_futex, word, FUTEX_WAKE_PRIVATE, 1);
+}
+
+/* Wakes one when the caller gives the lock back. */
+static void wake_later(atomic_uint *word) {
+    if (waking.count == MOST_WAKING) {
+        wake_on(waking.words[--waking.count]);
+    }
+    waking.words[waking.count++] = word;
+}
+
+/* Looks so many times whether a word has another value. */
+static bool has_changed(atomic_uint *word, unsigned value, int looks) {
+    while (looks > 0 && atomic_load_explicit(word, memory_order_acquire) == value) {
+        __builtin_ia32_pause();
+        looks--;
+    }
+    return looks > 0;
+}
+
+static void take_lock(void) {
+    unsigned seen = FREE;
+    while (!atomic_compare_exchange_strong_explicit(&lock, &seen, TAKEN, memory_order_acquire, memory_order_relaxed)) {
+        if (!has_changed(&lock, seen, LOOKS_FOR_LOCK)) {
+            while (atomic_exchange_explicit(&lock, CROWDED, memory_order_acquire) != FREE) {
+                sleep_on(&lock, CROWDED, NULL);
+            }
+            return;
+        }
+        seen = FREE;
+    }
+}
+
+static void give_lock(void) {
+    if (atomic_exchange_explicit(&lock, FREE, memory_order_release) == CROWDED) {
+        wake_on(&lock);
+    }
+    while (waking.count > 0) {
+        wake_on(waking.words[--waking.count]);
     }
 }
 
@@ -43,6 +110,31 @@ static uint64_t next_moment(void) {
     return om_next_due(&om, &due) == OM_SUCCESS ? due : NEVER;
 }
 
+/* The clock sleeps no longer than until something is due. */
+static void tell_clock(void) {
+    uint64_t due = next_moment();
+    if (due < clock_sleeps_until) {
+        clock_sleeps_until = due;
+        atomic_fetch_add_explicit(&clock_calls, 1, memory_order_relaxed);
+        wake_later(&clock_calls);
+    }
+}
+
+bool is_nothing_due(void) {
+    return clock_sleeps_until == NEVER;
+}
+
+/* Tells a thread that waits why it waits no longer. */
+static void wake(thread *t, unsigned why) {
+    if (t->waits) {
+        t->waits = false;
+        waiting--;
+        if (atomic_exchange_explicit(&t->state, why, memory_order_acq_rel) == SLEEPS) {
+            wake_later(&t->state);
+        }
+    }
+}
+
 /* Behind each call, under the lock: wakes just those whose waits it has answered. */
 static void wake_answered(void) {
     om_answer answers[16];
@@ -52,8 +144,7 @@ static void wake_answered(void) {
         for (size_t i = 0; i < count; i++) {
             thread *t = thread_numbered(answers[i].thread);
             t->answer = answers[i].code;
-            t->is_answered = true;
-            pthread_cond_signal(&t->woken);
+            wake(t, ANSWERED);
         }
     } while (count == 16);
 }
@@ -76,9 +167,7 @@ static void take_ended(void) {
 void look_round(void) {
     wake_answered();
     take_ended();
-    if (next_moment() < clock_sleeps_until) {
-        pthread_cond_signal(&clock_woken);
-    }
+    tell_clock();
 }
 
 /* Tells the manager what the time is, by way of each moment at which something was due. */
@@ -92,30 +181,20 @@ void tell_time(void) {
 }
 
 static void *tick(void *unused) {
-    pthread_mutex_lock(&lock);
     for (;;) {
+        take_lock();
         tell_time();
         look_round();
-        clock_sleeps_until = next_moment();
-        if (clock_sleeps_until == NEVER) {
-            pthread_cond_wait(&clock_woken, &lock);
-        } else {
-            struct timespec t = clock_time(clock_sleeps_until);
-            pthread_cond_timedwait(&clock_woken, &lock, &t);
-        }
+        uint64_t until = clock_sleeps_until = next_moment();
+        unsigned calls = atomic_load_explicit(&clock_calls, memory_order_relaxed);
+        give_lock();
+        struct timespec t = clock_time(until);
+        sleep_on(&clock_calls, calls, until == NEVER ? NULL : &t);
     }
     return unused;
 }
 
 /* ---- Threads and the process ---- */
-
-static void begin_condition(pthread_cond_t *c) {
-    pthread_condattr_t monotonic;
-    pthread_condattr_init(&monotonic);
-    pthread_condattr_setclock(&monotonic, CLOCK_MONOTONIC);
-    pthread_cond_init(c, &monotonic);
-    pthread_condattr_destroy(&monotonic);
-}
 
 /* An object of the host's that stands for a thread or a process, and what is kept there. */
 static uint32_t stand_in(type of, kept *k, om_opening *made) {
@@ -151,7 +230,6 @@ uint32_t begin_process(om_member member, process **made) {
 void let_go(thread *t) {
     if (--t->users == 0) {
         drop_calls(t, NULL);
-        pthread_cond_destroy(&t->woken);
         free(t);
     }
 }
@@ -166,7 +244,6 @@ uint32_t begin_thread(process *of, uint32_t number, thread **made) {
     uint32_t status = t == NULL ? OM_ERROR_NOT_ENOUGH_MEMORY : om_set_thread_data(&om, number, (uintptr_t)t);
     if (status == OM_SUCCESS) {
         *t = (thread){.kept.end = thread_goes, .number = number, .of = of, .users = 2, .code = STILL_ACTIVE};
-        begin_condition(&t->woken);
         status = stand_in(A_THREAD, &t->kept, &t->own);
     }
     if (status != OM_SUCCESS) {
@@ -187,13 +264,13 @@ void end_thread(thread *t, DWORD code) {
     t->code = code;
     om_end_thread(&om, t->number);
     finish(&t->own);
-    pthread_cond_signal(&t->woken);
+    wake(t, ENDED);
     if (om_next_thread(&om, p->number, 0) == 0) {
         p->has_ended = true;
         p->code = code;
         finish(&p->own);
         if (p == program) {
-            pthread_mutex_unlock(&lock);
+            give_lock();
             exit((int)code);
         }
     }
@@ -212,7 +289,7 @@ _Noreturn void leave(void) {
     let_go(me);
     me = NULL;
     pthread_setspecific(adopted, NULL);
-    pthread_mutex_unlock(&lock);
+    give_lock();
     pthread_exit(NULL);
 }
 
@@ -220,7 +297,7 @@ static void *run(void *of) {
     thread *t = of;
     me = t;
     enter();
-    pthread_mutex_unlock(&lock);
+    give_lock();
     DWORD code = t->start(t->argument);
     enter();
     end_thread(t, code);
@@ -238,11 +315,11 @@ bool run_thread(thread *t) {
 
 /* A thread that CreateThread didn't begin has ended. */
 static void adopted_ends(void *of) {
-    pthread_mutex_lock(&lock);
+    take_lock();
     end_thread(of, 0);
     look_round();
     let_go(of);
-    pthread_mutex_unlock(&lock);
+    give_lock();
 }
 
 static void begin(void) {
@@ -255,7 +332,6 @@ static void begin(void) {
     clock_begins_at = ((uint64_t)(real.tv_sec - monotonic.tv_sec) + 11644473600u) * 10000000u; /* 1601 to 1970 */
     clock_begins_at += (uint64_t)(real.tv_nsec / 100) - (uint64_t)(monotonic.tv_nsec / 100);
     clock_sleeps_until = NEVER;
-    begin_condition(&clock_woken);
     must(om_new_reusing(&limits, &om) == OM_SUCCESS && om_advance(&om, now()) == OM_SUCCESS, "no manager");
     must(om_spawn(&om, SESSION, &host) == OM_SUCCESS && om_spawn(&om, SESSION, &member) == OM_SUCCESS, "no process");
     must(begin_process(member, &program) == OM_SUCCESS && begin_thread(program, member.thread, &me) == OM_SUCCESS, "no process");
@@ -273,8 +349,10 @@ static void adopt(void) {
 
 /* Takes the lock, and says the caller's thread as the library has it. */
 uint32_t enter(void) {
-    pthread_once(&once, begin);
-    pthread_mutex_lock(&lock);
+    if (me == NULL) {
+        pthread_once(&once, begin);
+    }
+    take_lock();
     if (me == NULL) {
         adopt();
     }
@@ -287,28 +365,52 @@ uint32_t enter(void) {
 /* Ends a call. */
 uint32_t unlocked(uint32_t status) {
     look_round();
-    pthread_mutex_unlock(&lock);
+    give_lock();
     return status;
 }
 
-/* Ends a call that says by TRUE that it has succeeded. */
-BOOL done(uint32_t status) {
-    unlocked(status);
+/* Ends a call of which nothing comes but answers of waits. */
+uint32_t answered(uint32_t status) {
+    if (waiting > 0) {
+        look_round();
+    }
+    give_lock();
+    return status;
+}
+
+/* Says by TRUE that a call has succeeded. */
+BOOL succeeded(uint32_t status) {
     if (status != OM_SUCCESS) {
         SetLastError(status);
     }
     return status == OM_SUCCESS;
 }
 
-/* The caller's wait is pending: sleeps until somebody's call has answered it. */
+/* Ends a call, and says that. */
+BOOL done(uint32_t status) {
+    return succeeded(unlocked(status));
+}
+
+/* The caller's wait is pending: gives the lock back, and sleeps until somebody's call has answered it. */
 uint32_t sleep_until_answered(void) {
-    while (!me->is_answered && !me->has_ended) {
-        pthread_cond_wait(&me->woken, &lock);
+    unsigned told = LOOKS;
+    atomic_store_explicit(&me->state, told, memory_order_relaxed);
+    me->waits = true;
+    waiting++;
+    unlocked(OM_SUCCESS);
+    if (me->skips > 0) {
+        me->skips--;
+    } else if (!has_changed(&me->state, told, LOOKS_FOR_ANSWER)) {
+        me->skips = SKIPS;
     }
-    if (me->has_ended) {
-        leave();
+    if (atomic_compare_exchange_strong(&me->state, &told, SLEEPS)) {
+        while (atomic_load_explicit(&me->state, memory_order_acquire) == SLEEPS) {
+            sleep_on(&me->state, SLEEPS, NULL);
+        }
     }
-    me->is_answered = false;
+    if (atomic_load_explicit(&me->state, memory_order_acquire) == ENDED) {
+        enter();
+    }
     return me->answer;
 }
 
@@ -318,16 +420,10 @@ void run_calls(void) {
         call first = *me->calls;
         free(me->calls);
         me->calls = first.next;
-        look_round();
-        pthread_mutex_unlock(&lock);
+        unlocked(OM_SUCCESS);
         first.routine(first.arguments[0], first.arguments[1], first.arguments[2]);
         enter();
     }
-}
-
-/* A handle as the library has it. What has more than 32 bits, as what stands for the caller itself, names nothing. */
-uint32_t number_of(HANDLE handle) {
-    return (uintptr_t)handle > UINT32_MAX ? 0 : (uint32_t)(uintptr_t)handle;
 }
 
 /* A process gets a handle to what the host has a handle to. */

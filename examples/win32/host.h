@@ -19,6 +19,7 @@
 
 #include <obman.h>
 #include <pthread.h>
+#include <stdatomic.h>
 #include <stdbool.h>
 
 #include "win32.h"
@@ -66,11 +67,12 @@ typedef struct thread {
     kept kept;
     uint32_t number;
     process *of;
-    om_opening own;       /* the object that stands for it, by the host's handle */
-    int users;            /* it goes when its object has ended and its own thread has left */
-    pthread_cond_t woken; /* where it sleeps */
-    bool is_answered;     /* its wait, with this code */
+    om_opening own;    /* the object that stands for it, by the host's handle */
+    int users;         /* it goes when its object has ended and its own thread has left */
+    atomic_uint state; /* where it looks, and sleeps */
+    bool waits;        /* until its wait is answered, with this code */
     uint32_t answer;
+    int skips;         /* how many of its waits sleep at once */
     bool is_alertable; /* its wait ends for a procedure call */
     call *calls;
     bool has_ended;
@@ -88,13 +90,15 @@ extern _Thread_local thread *me;
 uint32_t enter(void);
 void look_round(void);
 uint32_t unlocked(uint32_t status);
+uint32_t answered(uint32_t status);
+BOOL succeeded(uint32_t status);
 BOOL done(uint32_t status);
 _Noreturn void leave(void);
 uint32_t sleep_until_answered(void);
 void run_calls(void);
 uint64_t now(void);
 void tell_time(void);
-uint32_t number_of(HANDLE handle);
+bool is_nothing_due(void);
 uint32_t given(const om_opening *own, const process *to, ACCESS_MASK access, bool inherit, HANDLE *handle);
 uint32_t begin_process(om_member member, process **made);
 uint32_t begin_thread(process *of, uint32_t number, thread **made);
@@ -102,6 +106,11 @@ bool run_thread(thread *t);
 void let_go(thread *t);
 void end_thread(thread *t, DWORD code);
 void end_process(process *p, DWORD code);
+
+/* A handle as the library has it. What has more than 32 bits, as what stands for the caller itself, names nothing. */
+static inline uint32_t number_of(HANDLE handle) {
+    return (uintptr_t)handle > UINT32_MAX ? 0 : (uint32_t)(uintptr_t)handle;
+}
 
 /* names.c */
 typedef struct name {

@@ -264,14 +264,12 @@ static int64_t due_at(const LARGE_INTEGER *until) {
     return until == NULL ? OM_FOREVER : until->QuadPart;
 }
 
-/* Ends a call that answers with a wait's code, which is a status. */
+/* What a call answers that has waited: the code is a status. */
 static NTSTATUS waited(uint32_t status, uint32_t code) {
-    unlocked(status);
     return status == OM_SUCCESS ? (NTSTATUS)code : native(status);
 }
 
 NTSTATUS NTAPI NtDelayExecution(BOOLEAN alertable, const LARGE_INTEGER *until) {
-    enter();
     return waited(OM_SUCCESS, sleep_for(due_at(until), alertable));
 }
 
@@ -299,7 +297,6 @@ NTSTATUS NTAPI NtQueueApcThread(HANDLE handle, PNTAPCFUNC routine, ULONG_PTR one
 
 NTSTATUS NTAPI NtSignalAndWaitForSingleObject(HANDLE signal, HANDLE wait, BOOLEAN alertable, const LARGE_INTEGER *until) {
     uint32_t code = 0;
-    enter();
     uint32_t status = signal_and_wait(signal, wait, due_at(until), alertable, &code);
     return waited(status, code);
 }
@@ -313,14 +310,12 @@ NTSTATUS NTAPI NtTestAlert(void) {
 
 NTSTATUS NTAPI NtWaitForMultipleObjects(ULONG count, const HANDLE *handles, BOOLEAN any, BOOLEAN alertable, const LARGE_INTEGER *until) {
     uint32_t code = 0;
-    enter();
     uint32_t status = wait_for(handles, count, !any, due_at(until), alertable, &code);
     return waited(status, code);
 }
 
 NTSTATUS NTAPI NtWaitForSingleObject(HANDLE handle, BOOLEAN alertable, const LARGE_INTEGER *until) {
     uint32_t code = 0;
-    enter();
     uint32_t status = wait_for_one(handle, due_at(until), alertable, &code);
     return waited(status, code);
 }

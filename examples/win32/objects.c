@@ -174,9 +174,9 @@ HANDLE WINAPI CreateEventExW(LPSECURITY_ATTRIBUTES attributes, LPCWSTR name, DWO
 HANDLE WINAPI OpenEventA(DWORD access, BOOL inherit, LPCSTR name) { return opened_narrow(OM_EVENT, access, inherit, name); }
 HANDLE WINAPI OpenEventW(DWORD access, BOOL inherit, LPCWSTR name) { return opened_wide(OM_EVENT, access, inherit, name); }
 
-BOOL WINAPI PulseEvent(HANDLE event) { return done(om_pulse_event(&om, enter(), number_of(event))); }
-BOOL WINAPI ResetEvent(HANDLE event) { return done(om_reset_event(&om, enter(), number_of(event))); }
-BOOL WINAPI SetEvent(HANDLE event) { return done(om_set_event(&om, enter(), number_of(event))); }
+BOOL WINAPI PulseEvent(HANDLE event) { return succeeded(answered(om_pulse_event(&om, enter(), number_of(event)))); }
+BOOL WINAPI ResetEvent(HANDLE event) { return succeeded(answered(om_reset_event(&om, enter(), number_of(event)))); }
+BOOL WINAPI SetEvent(HANDLE event) { return succeeded(answered(om_set_event(&om, enter(), number_of(event)))); }
 
 /* ---- Mutexes ---- */
 
@@ -202,7 +202,7 @@ HANDLE WINAPI CreateMutexExW(LPSECURITY_ATTRIBUTES attributes, LPCWSTR name, DWO
 
 HANDLE WINAPI OpenMutexA(DWORD access, BOOL inherit, LPCSTR name) { return opened_narrow(OM_MUTEX, access, inherit, name); }
 HANDLE WINAPI OpenMutexW(DWORD access, BOOL inherit, LPCWSTR name) { return opened_wide(OM_MUTEX, access, inherit, name); }
-BOOL WINAPI ReleaseMutex(HANDLE mutex) { return done(om_release_mutex(&om, enter(), number_of(mutex))); }
+BOOL WINAPI ReleaseMutex(HANDLE mutex) { return succeeded(answered(om_release_mutex(&om, enter(), number_of(mutex)))); }
 
 /* ---- Semaphores ---- */
 
@@ -236,7 +236,7 @@ BOOL WINAPI ReleaseSemaphore(HANDLE semaphore, LONG count, LPLONG previous) {
     if (status == OM_SUCCESS && previous != NULL) {
         *previous = (LONG)before;
     }
-    return done(status);
+    return succeeded(answered(status));
 }
 
 /* ---- Waitable timers, but for their time (timers.c) ---- */

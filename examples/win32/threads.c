@@ -97,14 +97,14 @@ HANDLE WINAPI GetCurrentProcess(void) { return (HANDLE)(LONG_PTR)-1; }
 
 DWORD WINAPI GetCurrentProcessId(void) {
     enter();
-    return unlocked(id_of_process(me->of->number));
+    return answered(id_of_process(me->of->number));
 }
 
 HANDLE WINAPI GetCurrentThread(void) { return (HANDLE)(LONG_PTR)-2; }
 
 DWORD WINAPI GetCurrentThreadId(void) {
     enter();
-    return unlocked(id_of_thread(me));
+    return answered(id_of_thread(me));
 }
 
 BOOL WINAPI GetExitCodeProcess(HANDLE handle, LPDWORD code) {

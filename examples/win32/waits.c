@@ -41,43 +41,63 @@ void drop_calls(thread *t, const void *timer) {
     }
 }
 
-/* ---- Waits. They last until a moment as the library takes it. ---- */
+/* ---- Waits: whole calls, which take the lock and give it back. They last until a moment as the library takes it. ---- */
 
 /* What satisfies a wait at once goes before a call that is queued, and that before the moment. */
 static int64_t until(int64_t due, bool alertable) {
     return alertable && me->calls != NULL ? 0 : due;
 }
 
-/* Under the lock, which the caller has again when its wait is over: 0 and the wait's code, or why it is refused. */
+/* Ends a call that waits: 0 and the wait's code, or why it is refused. */
 static uint32_t waited_for(uint32_t status, bool alertable, uint32_t *code) {
-    look_round();
     if (status == OM_ERROR_IO_PENDING) {
         me->is_alertable = alertable;
         *code = sleep_until_answered();
-        me->is_alertable = false;
+        if (!alertable) {
+            return OM_SUCCESS;
+        }
+        enter();
         status = OM_SUCCESS;
     }
     if (status == OM_SUCCESS && alertable && me->calls != NULL && (*code == WAIT_TIMEOUT || *code == WAIT_IO_COMPLETION)) {
         *code = WAIT_IO_COMPLETION;
         run_calls();
     }
-    return status;
+    return answered(status);
+}
+
+/* How a wait is answered at first. Where nothing is due the time counts only for one that nothing satisfies at once. */
+static uint32_t begun(bool all, int64_t due, const uint32_t *numbers, size_t count, uint32_t *code) {
+    if (is_nothing_due()) {
+        bool has_time = due != 0 && due != OM_FOREVER;
+        uint32_t status = om_wait_until(&om, me->number, all, has_time ? 0 : due, numbers, count, code);
+        if (!has_time || status != OM_SUCCESS || *code != WAIT_TIMEOUT) {
+            return status;
+        }
+    }
+    tell_time();
+    return om_wait_until(&om, me->number, all, due, numbers, count, code);
 }
 
 /* One handle may be what stands for the caller itself: it waits by a handle of its own for that. */
 static uint32_t wait_behind(const HANDLE *signal, HANDLE handle, int64_t due, bool alertable, uint32_t *code) {
-    bool is_process = handle == GetCurrentProcess(), is_own = is_process || handle == GetCurrentThread();
+    enter();
+    bool is_process = handle == GetCurrentProcess(), is_own = number_of(handle) == 0 && (is_process || handle == GetCurrentThread());
     uint32_t status = is_own ? given(is_process ? &me->of->own : &me->own, me->of, SYNCHRONIZE, false, &handle) : OM_SUCCESS;
     uint32_t number = number_of(handle);
-    if (status == OM_SUCCESS) {
+    if (status != OM_SUCCESS) {
+        return unlocked(status);
+    }
+    due = until(due, alertable);
+    if (signal == NULL) {
+        status = begun(false, due, &number, 1, code);
+    } else {
         tell_time();
-        due = until(due, alertable);
-        status = signal == NULL ? om_wait_until(&om, me->number, false, due, &number, 1, code)
-                                : om_signal_and_wait(&om, me->number, number_of(*signal), number, due, code);
-        status = waited_for(status, alertable, code);
-        if (is_own) {
-            om_close(&om, me->number, number);
-        }
+        status = om_signal_and_wait(&om, me->number, number_of(*signal), number, due, code);
+    }
+    status = waited_for(status, alertable, code);
+    if (is_own) {
+        unlocked(om_close(&om, enter(), number));
     }
     return status;
 }
@@ -98,21 +118,22 @@ uint32_t wait_for(const HANDLE *handles, DWORD count, bool all, int64_t due, boo
     for (DWORD i = 0; i < count; i++) {
         numbers[i] = number_of(handles[i]);
     }
-    tell_time();
-    return waited_for(om_wait_until(&om, me->number, all, until(due, alertable), numbers, count, code), alertable, code);
+    enter();
+    return waited_for(begun(all, until(due, alertable), numbers, count, code), alertable, code);
 }
 
 /* 0 when the moment has come, or WAIT_IO_COMPLETION. */
 uint32_t sleep_for(int64_t due, bool alertable) {
     uint32_t code = WAIT_TIMEOUT;
+    enter();
     tell_time();
     waited_for(om_sleep(&om, me->number, until(due, alertable), &code), alertable, &code);
     return code == WAIT_TIMEOUT ? 0 : code;
 }
 
-/* Ends a call that answers with a wait's code. */
+/* What a call says that has waited. */
 static DWORD waited(uint32_t status, uint32_t code) {
-    return done(status) ? code : WAIT_FAILED;
+    return succeeded(status) ? code : WAIT_FAILED;
 }
 
 static void NTAPI call_user(ULONG_PTR routine, ULONG_PTR argument, ULONG_PTR unused) {
@@ -135,7 +156,6 @@ DWORD WINAPI QueueUserAPC(PAPCFUNC routine, HANDLE handle, ULONG_PTR argument) {
 
 DWORD WINAPI SignalObjectAndWait(HANDLE signal, HANDLE wait, DWORD milliseconds, BOOL alertable) {
     uint32_t code = 0;
-    enter();
     uint32_t status = signal_and_wait(signal, wait, om_due_in(milliseconds), alertable, &code);
     return waited(status, code);
 }
@@ -143,9 +163,7 @@ DWORD WINAPI SignalObjectAndWait(HANDLE signal, HANDLE wait, DWORD milliseconds,
 void WINAPI Sleep(DWORD milliseconds) { SleepEx(milliseconds, FALSE); }
 
 DWORD WINAPI SleepEx(DWORD milliseconds, BOOL alertable) {
-    enter();
     uint32_t code = sleep_for(om_due_in(milliseconds), alertable);
-    unlocked(OM_SUCCESS);
     if (milliseconds == 0) {
         sched_yield();
     }
@@ -158,7 +176,6 @@ DWORD WINAPI WaitForMultipleObjects(DWORD count, const HANDLE *handles, BOOL all
 
 DWORD WINAPI WaitForMultipleObjectsEx(DWORD count, const HANDLE *handles, BOOL all, DWORD milliseconds, BOOL alertable) {
     uint32_t code = 0;
-    enter();
     uint32_t status = wait_for(handles, count, all, om_due_in(milliseconds), alertable, &code);
     return waited(status, code);
 }
@@ -167,7 +184,6 @@ DWORD WINAPI WaitForSingleObject(HANDLE handle, DWORD milliseconds) { return Wai
 
 DWORD WINAPI WaitForSingleObjectEx(HANDLE handle, DWORD milliseconds, BOOL alertable) {
     uint32_t code = 0;
-    enter();
     uint32_t status = wait_for_one(handle, om_due_in(milliseconds), alertable, &code);
     return waited(status, code);
 }
