@@ -107,60 +107,73 @@ DWORD WINAPI GetCurrentThreadId(void) {
     return answered(id_of_thread(me));
 }
 
-BOOL WINAPI GetExitCodeProcess(HANDLE handle, LPDWORD code) {
+/* A process or a thread by a handle: the other one is NULL. */
+static uint32_t either_by(type of, HANDLE handle, ACCESS_MASK right, process **p, thread **t) {
+    *p = NULL;
+    *t = NULL;
+    return of == A_PROCESS ? process_by(handle, right, p) : thread_by(handle, right, t);
+}
+
+static BOOL code_of(type of, HANDLE handle, ACCESS_MASK right, LPDWORD code) {
     process *p;
+    thread *t;
     enter();
-    uint32_t status = process_by(handle, PROCESS_QUERY_LIMITED_INFORMATION, &p);
+    uint32_t status = either_by(of, handle, right, &p, &t);
     if (status == OM_SUCCESS) {
-        *code = p->code;
+        *code = p != NULL ? p->code : t->code;
     }
     return done(status);
 }
 
-BOOL WINAPI GetExitCodeThread(HANDLE handle, LPDWORD code) {
+static DWORD id_by(type of, HANDLE handle, ACCESS_MASK right) {
+    process *p;
     thread *t;
     enter();
-    uint32_t status = thread_by(handle, THREAD_QUERY_LIMITED_INFORMATION, &t);
-    if (status == OM_SUCCESS) {
-        *code = t->code;
+    uint32_t status = either_by(of, handle, right, &p, &t);
+    DWORD id = status != OM_SUCCESS ? 0 : p != NULL ? id_of_process(p->number) : id_of_thread(t);
+    return done(status) ? id : 0;
+}
+
+/* For the library a thread ends at once; its own code goes on until it makes its next call, since nobody can stop it elsewhere. */
+static BOOL terminate(type of, HANDLE handle, ACCESS_MASK right, DWORD code) {
+    process *p;
+    thread *t;
+    enter();
+    uint32_t status = either_by(of, handle, right, &p, &t);
+    if (status == OM_SUCCESS && p != NULL) {
+        end_process(p, code);
+    } else if (status == OM_SUCCESS) {
+        end_thread(t, code);
+    }
+    if (me->has_ended) {
+        leave();
     }
     return done(status);
 }
 
-DWORD WINAPI GetProcessId(HANDLE handle) {
-    process *p;
-    enter();
-    uint32_t status = process_by(handle, PROCESS_QUERY_LIMITED_INFORMATION, &p);
-    DWORD id = status == OM_SUCCESS ? id_of_process(p->number) : 0;
-    return done(status) ? id : 0;
+/* Ends a call that opens what stands for a process or a thread, if there is one. */
+static HANDLE opened_own(const om_opening *own, type of, ACCESS_MASK access, bool inherit) {
+    uint32_t kind = OM_HOST((uint32_t)of);
+    HANDLE opened = NULL;
+    ACCESS_MASK rights = rights_of(kind, access, rights_of(kind, GENERIC_ALL, 0));
+    return done(own == NULL ? OM_ERROR_INVALID_PARAMETER : given(own, me->of, rights, inherit, &opened)) ? opened : NULL;
 }
 
-DWORD WINAPI GetThreadId(HANDLE handle) {
-    thread *t;
-    enter();
-    uint32_t status = thread_by(handle, THREAD_QUERY_LIMITED_INFORMATION, &t);
-    DWORD id = status == OM_SUCCESS ? id_of_thread(t) : 0;
-    return done(status) ? id : 0;
-}
+BOOL WINAPI GetExitCodeProcess(HANDLE handle, LPDWORD code) { return code_of(A_PROCESS, handle, PROCESS_QUERY_LIMITED_INFORMATION, code); }
+BOOL WINAPI GetExitCodeThread(HANDLE handle, LPDWORD code) { return code_of(A_THREAD, handle, THREAD_QUERY_LIMITED_INFORMATION, code); }
+DWORD WINAPI GetProcessId(HANDLE handle) { return id_by(A_PROCESS, handle, PROCESS_QUERY_LIMITED_INFORMATION); }
+DWORD WINAPI GetThreadId(HANDLE handle) { return id_by(A_THREAD, handle, THREAD_QUERY_LIMITED_INFORMATION); }
 
 HANDLE WINAPI OpenProcess(DWORD access, BOOL inherit, DWORD id) {
-    HANDLE opened = NULL;
     enter();
     process *p = process_with_id(id);
-    return done(p == NULL ? OM_ERROR_INVALID_PARAMETER
-                          : given(&p->own, me->of, rights_of(OM_HOST(A_PROCESS), access, PROCESS_ALL_ACCESS), inherit, &opened))
-               ? opened
-               : NULL;
+    return opened_own(p != NULL ? &p->own : NULL, A_PROCESS, access, inherit);
 }
 
 HANDLE WINAPI OpenThread(DWORD access, BOOL inherit, DWORD id) {
-    HANDLE opened = NULL;
     enter();
     thread *t = thread_with_id(id);
-    return done(t == NULL ? OM_ERROR_INVALID_PARAMETER
-                          : given(&t->own, me->of, rights_of(OM_HOST(A_THREAD), access, THREAD_ALL_ACCESS), inherit, &opened))
-               ? opened
-               : NULL;
+    return opened_own(t != NULL ? &t->own : NULL, A_THREAD, access, inherit);
 }
 
 DWORD WINAPI ResumeThread(HANDLE handle) {
@@ -183,29 +196,5 @@ DWORD WINAPI ResumeThread(HANDLE handle) {
 
 BOOL WINAPI SwitchToThread(void) { return sched_yield() == 0; }
 
-BOOL WINAPI TerminateProcess(HANDLE handle, UINT code) {
-    process *p;
-    enter();
-    uint32_t status = process_by(handle, PROCESS_TERMINATE, &p);
-    if (status == OM_SUCCESS) {
-        end_process(p, code);
-    }
-    if (me->has_ended) {
-        leave();
-    }
-    return done(status);
-}
-
-/* For the library a thread ends at once; its own code goes on until it makes its next call, since nobody can stop it elsewhere. */
-BOOL WINAPI TerminateThread(HANDLE handle, DWORD code) {
-    thread *t;
-    enter();
-    uint32_t status = thread_by(handle, THREAD_TERMINATE, &t);
-    if (status == OM_SUCCESS) {
-        end_thread(t, code);
-    }
-    if (me->has_ended) {
-        leave();
-    }
-    return done(status);
-}
+BOOL WINAPI TerminateProcess(HANDLE handle, UINT code) { return terminate(A_PROCESS, handle, PROCESS_TERMINATE, code); }
+BOOL WINAPI TerminateThread(HANDLE handle, DWORD code) { return terminate(A_THREAD, handle, THREAD_TERMINATE, code); }

@@ -453,32 +453,20 @@ static void result(const line *call) {
     }
 }
 
-static void play_expire(const line *call) {
-    thread *of = waiter(call->wait);
-
-    if (!of)
-        puts("?");
-    else if (is_over(of, all.settle) || !expire(of))
-        puts("error 87");
-    else
-        printf("expired w%" PRIu32 "\n", call->wait);
-}
-
 /* (the worker tells each end by a procedure call as that of a wait whose time was up) */
-static void play_alerted(thread *of) {
-    of->seat.at->value = WAIT_IO_COMPLETION;
-    puts("done");
-}
-
-static void play_alert(const line *call) {
+static void end_wait(const line *call) {
     thread *of = waiter(call->wait);
 
-    if (!of)
+    if (!of) {
         puts("?");
-    else if (is_over(of, all.settle) || !expire(of))
+    } else if (is_over(of, all.settle) || !expire(of)) {
         puts("error 87");
-    else
-        play_alerted(of);
+    } else if (call->verb == VERB_EXPIRE) {
+        printf("expired w%" PRIu32 "\n", call->wait);
+    } else {
+        of->seat.at->value = WAIT_IO_COMPLETION;
+        puts("done");
+    }
 }
 
 static bool is_due(const object *of) { return of->is_there && of->is_due && of->due <= all.now; }
@@ -578,8 +566,8 @@ static void play(line *call) {
     case VERB_THREAD: start_thread(call); break;
     case VERB_TICK: tick(call); break;
     case VERB_RESULT: result(call); break;
-    case VERB_EXPIRE: play_expire(call); break;
-    case VERB_ALERT: play_alert(call); break;
+    case VERB_EXPIRE:
+    case VERB_ALERT: end_wait(call); break;
     case VERB_ENDTHREAD: play_endthread(call); break;
     case VERB_EXIT: play_exit(call); break;
     case VERB_COUNT: count(call); break;
