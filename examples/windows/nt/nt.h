@@ -1,0 +1,321 @@
+/* A host that runs 64-bit Windows programs at the system calls: ntdll, kernelbase, kernel32 and msvcrt of an installed Wine are guest code like the program itself,
+ * Unicorn is the processor, libobman the kernel's objects, and the host serves the Nt calls alone.
+ *
+ * main.c       the command line                    calls.c    which calls are served, and their arguments
+ * seeds.c      a program by many seeds             objects.c  events, mutexes, semaphores, timers, names, handles
+ * start.c      processes, and what each begins with  waits.c    waits, sleeps, alerts, keyed events
+ * memory.c     a process's memory                  control.c  threads and processes: begin, suspend, end
+ * image.c      programs and DLLs in it             context.c  registers told, exceptions, APCs
+ * threads.c    turns, the clock, the processor     files.c    the guests' drive, and files on it
+ * fault.c      which instruction of a block failed sections.c files as memory
+ * stuck.c      who waits for whom                  info.c     what is asked of system, processes and threads
+ * fast.c       Unicorn's stores, less slow         layout.h   what of Windows' own structures lies where */
+#ifndef NT_H
+#define NT_H
+
+#include "layout.h"
+
+#include <obman.h>
+#include <unicorn/unicorn.h>
+
+enum {
+    PROCESSES = 64, /* that live at a time */
+    THREADS = 4096, /* of all processes */
+    PAGE = 0x1000,
+    GRANULE = 0x10000, /* where memory begins that is asked for anywhere */
+    NT_NAME_MOST = 1024,
+    NO_END = 124, /* statuses of the host's own */
+    HOST_FAILED = 125,
+    SEEDS_MOST = 10000,
+    PER_UNIT = 10, /* instructions in 100 ns of the guests' time */
+    THREAD_NUMBER = 4 /* so many times the library's is the guest's, and a process's */
+};
+
+#define LIMITS {65536u, PROCESSES + 1u, THREADS + 1u, 16384u, 4294967295u, 1073741823u, 4294967295u, 2147483647u}
+
+/* What all guests together have of memory, reserved or not, since what is reserved can be written. */
+#define MEMORY_MOST (4ull << 30)
+
+/* The moment at which a run begins, in units of 100 ns since 1601, as the guests and the library have it: the first of January 2026. */
+#define BEGAN 134116992000000000u
+
+/* Where nothing is due until then the guests wait for ever: some 14,000 years. */
+#define LAST_MOMENT (UINT64_MAX / 4)
+
+/* Status codes, by their names in ntstatus.h. */
+#define STATUS_SUCCESS 0x00000000u
+#define STATUS_USER_APC 0x000000C0u
+#define STATUS_ALERTED 0x00000101u
+#define STATUS_TIMEOUT 0x00000102u
+#define STATUS_PENDING 0x00000103u
+#define STATUS_OBJECT_NAME_EXISTS 0x40000000u
+#define STATUS_IMAGE_NOT_AT_BASE 0x40000003u
+#define STATUS_BREAKPOINT 0x80000003u
+#define STATUS_SINGLE_STEP 0x80000004u
+#define STATUS_NO_MORE_FILES 0x80000006u
+#define STATUS_PARTIAL_COPY 0x8000000Du
+#define STATUS_NOT_IMPLEMENTED 0xC0000002u
+#define STATUS_INVALID_INFO_CLASS 0xC0000003u
+#define STATUS_INFO_LENGTH_MISMATCH 0xC0000004u
+#define STATUS_ACCESS_VIOLATION 0xC0000005u
+#define STATUS_INVALID_HANDLE 0xC0000008u
+#define STATUS_INVALID_CID 0xC000000Bu
+#define STATUS_INVALID_PARAMETER 0xC000000Du
+#define STATUS_NO_SUCH_FILE 0xC000000Fu
+#define STATUS_END_OF_FILE 0xC0000011u
+#define STATUS_NO_MEMORY 0xC0000017u
+#define STATUS_CONFLICTING_ADDRESSES 0xC0000018u
+#define STATUS_NOT_MAPPED_VIEW 0xC0000019u
+#define STATUS_ILLEGAL_INSTRUCTION 0xC000001Du
+#define STATUS_ACCESS_DENIED 0xC0000022u
+#define STATUS_BUFFER_TOO_SMALL 0xC0000023u
+#define STATUS_OBJECT_TYPE_MISMATCH 0xC0000024u
+#define STATUS_OBJECT_NAME_INVALID 0xC0000033u
+#define STATUS_OBJECT_NAME_NOT_FOUND 0xC0000034u
+#define STATUS_OBJECT_NAME_COLLISION 0xC0000035u
+#define STATUS_OBJECT_PATH_NOT_FOUND 0xC000003Au
+#define STATUS_SUSPEND_COUNT_EXCEEDED 0xC000004Au
+#define STATUS_THREAD_IS_TERMINATING 0xC000004Bu
+#define STATUS_INVALID_IMAGE_FORMAT 0xC000007Bu
+#define STATUS_NO_TOKEN 0xC000007Cu
+#define STATUS_INTEGER_DIVIDE_BY_ZERO 0xC0000094u
+#define STATUS_INSUFFICIENT_RESOURCES 0xC000009Au
+#define STATUS_FILE_IS_A_DIRECTORY 0xC00000BAu
+#define STATUS_NOT_SUPPORTED 0xC00000BBu
+#define STATUS_INVALID_PARAMETER_1 0xC00000EFu
+#define STATUS_STACK_OVERFLOW 0xC00000FDu
+#define STATUS_NOT_A_DIRECTORY 0xC0000103u
+#define STATUS_PROCESS_IS_TERMINATING 0xC000010Au
+#define STATUS_DLL_NOT_FOUND 0xC0000135u
+#define STATUS_HANDLE_NOT_CLOSABLE 0xC0000235u
+
+/* Memory, by the names in winnt.h: what is asked for, what its pages are, what a region is. */
+enum {
+    MEM_COMMIT = 0x1000,
+    MEM_RESERVE = 0x2000,
+    MEM_RELEASE = 0x8000,
+    MEM_FREE = 0x10000,
+    MEM_RESET = 0x80000,
+    PAGE_NOACCESS = 0x01,
+    PAGE_READONLY = 0x02,
+    PAGE_READWRITE = 0x04,
+    PAGE_EXECUTE_READ = 0x20,
+    PAGE_EXECUTE_READWRITE = 0x40,
+    PAGE_EXECUTE_WRITECOPY = 0x80,
+    ANY_EXECUTE = 0xF0,
+    IS_PRIVATE = 0x20000,
+    IS_MAPPED = 0x40000,
+    IS_IMAGE = 0x1000000
+};
+
+/* Where each process has what the host puts there: KUSER_SHARED_DATA; the address that Wine's stubs call, to which it says; and the page of that address, of halts
+ * that are never run: an instruction in it is a system call, or one of Wine's calls of its Unix side. */
+#define SHARED 0x7FFE0000u
+#define DISPATCH (SHARED + PAGE)
+#define SYSTEM_CALL (SHARED + 2 * PAGE)
+#define UNIX_CALL (SYSTEM_CALL + 0x10u)
+#define SHARED_SIZE (3 * PAGE)
+
+#define THIS_PROCESS UINT64_MAX
+#define THIS_THREAD (UINT64_MAX - 1)
+
+/* The registers of a thread by their places in `registers.whole`. */
+enum { RAX, RBX, RCX, RDX, RSI, RDI, RBP, RSP, R8, R9, R10, R11, R12, R13, R14, R15, RIP, FLAGS, WHOLE };
+
+/* All that a thread has of the processor. */
+typedef struct registers {
+    uint64_t whole[WHOLE];
+    uint8_t vectors[16][16];
+    uint8_t floats[8][16];
+    uint32_t vector_control;
+    uint16_t float_control, float_status, float_tags;
+} registers;
+
+typedef struct process process;
+
+/* A call that a thread makes as soon as it may: of a routine with three arguments. */
+typedef struct apc {
+    uint64_t routine, arguments[3];
+    struct apc *next;
+} apc;
+
+/* For what a thread waits in the library: an object; a moment alone; or, until a moment, an alert by NtAlertThreadByThreadId or the other side of a keyed event. */
+typedef enum waiting { RUNS, FOR_OBJECTS, FOR_TIME, FOR_ALERT, FOR_RELEASE, FOR_WAITER } waiting;
+
+typedef struct thread {
+    registers now;
+    uint32_t number; /* the library's; 0 where there is none */
+    process *of;
+    waiting waits;
+    bool alertable; /* its wait ends for an APC */
+    bool alerted;   /* its next wait for an alert ends at once */
+    bool has_apc;   /* it runs the first of its APCs when its call returns */
+    uint32_t suspended;
+    int32_t priority;
+    uint64_t block, stack, stack_size;
+    uint64_t entry;
+    uint64_t key;         /* of a keyed event, or the address of a wait for an alert */
+    uint8_t places[64];   /* of its wait's objects among the handles that it passed */
+    apc *apcs;
+    om_opening own; /* the object that stands for it, by the host's handle */
+} thread;
+
+/* The types of objects of the host's own. */
+typedef enum type { A_THREAD = 1, A_PROCESS, A_FILE, A_SECTION, A_KEYED_EVENT, AN_OBJECT_DIRECTORY } type;
+
+/* What the host keeps at an object of its own, to which the object's number points. */
+typedef struct kept {
+    uint32_t number; /* of a thread or process */
+    uint32_t code;   /* with which it has ended */
+    bool has_ended;
+    bool is_directory, is_standard; /* a file */
+    bool is_image, is_copied;       /* a section: of a program, or of a file's bytes */
+    int32_t priority;
+    int file;       /* of a file or a section: the descriptor, or -1 */
+    uint64_t at;    /* where it is read next */
+    uint64_t size;  /* of a section */
+    void *entries;  /* of a directory of which some were told: Linux' stream of them, and of what form they are */
+    char form[256];
+    char name[];    /* of a file, as the guests see it */
+} kept;
+
+typedef struct region {
+    uint64_t address, size;
+    uint8_t *bytes;
+    uint32_t protect, type;
+    bool is_committed, in_arena;
+} region;
+
+/* How many instructions the block at an address has. */
+typedef struct block_length {
+    uint64_t address;
+    uint32_t count;
+} block_length;
+
+enum { LOW_ARENA, HIGH_ARENA, ARENAS, BLOCKS = 65536 };
+
+struct process {
+    om_member member; /* the library's numbers of it and its first thread; 0 where there is none */
+    uc_engine *engine;
+    thread *loaded; /* whose registers the engine has */
+    region *regions; /* by rising address */
+    uint32_t regions_count, regions_room;
+    uint8_t *arenas[ARENAS];
+    uint64_t reserved; /* bytes of all regions */
+    uint64_t peb, image;
+    uint64_t ntdll, thread_start, user_start, exception_dispatcher, apc_dispatcher;
+    om_opening own;
+    block_length lengths[BLOCKS];
+};
+
+extern om_manager om;
+extern om_member host; /* the host's own process */
+extern process processes[PROCESSES];
+extern thread threads[THREADS];
+extern uint32_t threads_end; /* behind the last place where one is */
+extern thread *current;      /* the thread whose call is served */
+extern process *in;          /* whose memory and engine are meant */
+extern uint64_t instructions, instructions_most, calls_count, seed;
+extern bool tells_calls;
+extern uint32_t exit_code; /* of the first process */
+extern char wine_dlls[512], wine_nls[512];
+
+/* main.c */
+_Noreturn void stop(const char *format, ...) __attribute__((format(printf, 1, 2)));
+void must(uint32_t status, const char *what);
+void write_trace(void);
+
+/* seeds.c */
+int run_seeds(uint64_t from, uint64_t to, int (*program)(void));
+
+/* memory.c */
+void *bytes_at(uint64_t address, uint64_t size);  /* or the call ends with STATUS_ACCESS_VIOLATION */
+void *bytes_if(uint64_t address, uint64_t size);  /* or NULL */
+uint64_t get(uint64_t address, int size);
+void put(uint64_t address, uint64_t value, int size); /* nowhere, where that is 0 */
+void fill(uint64_t address, const void *bytes, uint64_t size);
+region *region_at(uint64_t address);
+void *map_at(uint64_t address, uint64_t size, uint32_t protect, uint32_t type);
+bool share_at(uint64_t address, int file, uint64_t offset);
+uint64_t map_anywhere(uint64_t size, uint64_t below, uint32_t protect, uint32_t type);
+void unmap(region *r);
+void end_memory(process *of);
+uint64_t whole_pages(uint64_t size);
+
+/* image.c */
+uint32_t map_image(int file, uint64_t *base, uint64_t *size);
+uint64_t export_of(uint64_t base, const char *name);
+bool is_program(const uint8_t *head, size_t length);
+void image_information(const uint8_t *head, uint64_t base, uint64_t file_size, uint64_t out);
+int open_dll(const char *name);
+
+/* threads.c */
+uint64_t now(void);
+void tell_time(void);
+void look_round(void);
+thread *thread_numbered(uint32_t number);
+process *process_numbered(uint32_t number);
+void take_floats(thread *t);
+void put_floats(thread *t);
+void begin_engine(void);
+bool run(void);
+extern bool ends_turn;
+
+/* fault.c */
+uint64_t failed_at(const thread *t, uint64_t block, uint64_t address);
+
+/* stuck.c */
+void tell_waits(void);
+
+/* calls.c */
+uint64_t arg(int i);
+void read_numbers(void);
+void serve(uint64_t stub);
+_Noreturn void refuse_pointer(uint64_t address);
+extern bool has_set_registers;
+
+/* start.c */
+void begin_first(const char *path, const char *command);
+thread *begin_thread(uint32_t number, uint64_t entry, uint64_t with, uint64_t reserve, uint64_t commit);
+uint64_t attribute_of(uint64_t list, uint64_t number, uint64_t *size);
+
+/* objects.c */
+om_opening host_object(type is, uint32_t number);
+kept *keep(om_object object, const char *name);
+uint32_t new_handle(type is, const char *name, uint32_t access, uint64_t attributes, kept **made);
+uint32_t new_named(type is, uint32_t access, uint64_t attributes, uint64_t to, kept **made);
+typedef uint32_t (*opener)(om_manager *m, uint32_t thread, uint32_t access, bool inherit, const char *name, size_t length, om_opening *opening);
+uint32_t open_named(opener by, uint32_t kind);
+uint64_t given(const om_opening *own, uint32_t access, bool inherit);
+uint32_t handle_of(uint64_t guest);
+uint32_t named(uint64_t handle, type is, uint32_t right, kept **found);
+uint32_t status_of(uint32_t error, uint64_t handle);
+uint32_t rights_of(uint32_t kind, uint32_t access);
+uint32_t answer_handle(uint64_t to, uint64_t handle);
+bool inherits(uint64_t attributes);
+void text_of(uint64_t unicode, char *out, size_t capacity);
+void name_of(uint64_t attributes, char *out, size_t capacity);
+void forget(kept *k);
+
+/* waits.c */
+void answered(thread *t, uint32_t code);
+
+/* control.c */
+uint32_t thread_by(uint64_t handle, uint32_t right, kept **k, thread **t);
+uint32_t process_by(uint64_t handle, uint32_t right, kept **k, process **p);
+void end_thread(thread *t, uint32_t code);
+void end_process(process *p, uint32_t code);
+void end_all(void);
+
+/* context.c */
+void raise_exception(thread *t, uint32_t code, const uint64_t *information, uint32_t count);
+void run_apc(thread *t, uint32_t status);
+void queue_apc(thread *t, uint64_t routine, uint64_t a, uint64_t b, uint64_t c);
+void first_context(uint8_t *context, uint64_t stack, uint64_t start, uint64_t entry, uint64_t with);
+
+/* files.c */
+void set_drive(const char *folder);
+int open_program(const char *name);
+uint32_t standard_file(int file);
+
+#endif

@@ -1,0 +1,232 @@
+/* Waits. Each has its moment in the library: those for objects, and those for what the library doesn't know, which sleep there until the host alerts them. */
+#include "nt.h"
+
+#include <string.h>
+
+/* ---- How they begin and end ---- */
+
+/* Until when a call waits that is passed a pointer to a moment: since 1601, or below 0 from now; for good without one. */
+static int64_t until(uint64_t pointer) {
+    return pointer == 0 ? OM_FOREVER : (int64_t)get(pointer, 8);
+}
+
+/* What a wait answers whose code is the library's, which are the same numbers but that the index is that of the handle that was passed. */
+static uint32_t placed(const thread *t, uint32_t code) {
+    uint32_t index = code & (OM_MAXIMUM_WAIT_OBJECTS - 1);
+    return code < OM_WAIT_OBJECT_0 + 64 || (OM_WAIT_ABANDONED_0 <= code && code < OM_WAIT_ABANDONED_0 + 64) ? code - index + t->places[index] : code;
+}
+
+/* Whether an alertable wait isn't begun, since an APC is there: that runs first. */
+static bool has_apc(bool alertable) {
+    current->has_apc = alertable && current->apcs != NULL;
+    return current->has_apc;
+}
+
+/* What a wait that began answers; where it is pending that is said when it ends. */
+static uint32_t begun(uint32_t error, uint32_t code, waiting waits, bool alertable) {
+    if (error == OM_ERROR_IO_PENDING) {
+        current->waits = waits;
+        current->alertable = alertable;
+        return STATUS_PENDING;
+    }
+    ends_turn = ends_turn || (error == OM_SUCCESS && code == OM_WAIT_TIMEOUT); /* so that what it polls for can come */
+    return error == OM_SUCCESS ? placed(current, code) : status_of(error, 0);
+}
+
+/* A wait of the library's for nothing, which the host or its moment ends. */
+static uint32_t sleep_for(waiting waits, int64_t due, bool alertable) {
+    uint32_t code;
+    tell_time();
+    return begun(om_sleep(&om, current->number, due, &code), code, waits, alertable);
+}
+
+/* A thread's wait has ended. */
+void answered(thread *t, uint32_t code) {
+    static const struct {
+        uint32_t alerted, timed_out;
+    } says[] = {
+        [FOR_OBJECTS] = {STATUS_USER_APC, STATUS_TIMEOUT},  [FOR_TIME] = {STATUS_USER_APC, STATUS_SUCCESS},
+        [FOR_ALERT] = {STATUS_ALERTED, STATUS_TIMEOUT},     [FOR_RELEASE] = {STATUS_SUCCESS, STATUS_TIMEOUT},
+        [FOR_WAITER] = {STATUS_SUCCESS, STATUS_TIMEOUT},
+    };
+    if (t == NULL) {
+        stop("an answer for no thread");
+    }
+    waiting was = t->waits;
+    uint32_t status = code == OM_WAIT_IO_COMPLETION ? says[was].alerted : code == OM_WAIT_TIMEOUT ? says[was].timed_out : placed(t, code);
+    t->waits = RUNS;
+    t->alertable = false;
+    t->now.whole[RAX] = status;
+    if (status == STATUS_USER_APC && t->apcs != NULL) {
+        run_apc(t, status);
+    }
+}
+
+/* ---- Objects ---- */
+
+/* A handle for a wait: one that stands for the caller or its process names none, so the wait has one of its own, which is to be closed. */
+static uint32_t waitable(uint64_t handle, bool *is_own) {
+    *is_own = handle == THIS_THREAD || handle == THIS_PROCESS;
+    return *is_own ? handle_of(given(handle == THIS_THREAD ? &current->own : &in->own, OM_SYNCHRONIZE, false)) : handle_of(handle);
+}
+
+/* A wait keeps its object without the handle. The host closes it, since a thread that waits can't. */
+static void close_own(uint32_t handle) {
+    om_opening none;
+    om_duplicate(&om, host.thread, in->member.process, handle, 0, 0, false, OM_DUPLICATE_CLOSE_SOURCE, &none);
+}
+
+static uint32_t wait_for(const uint32_t *handles, size_t count, bool all, bool alertable, int64_t due) {
+    uint32_t code;
+    if (has_apc(alertable)) {
+        return STATUS_USER_APC;
+    }
+    tell_time();
+    return begun(om_wait_until(&om, current->number, all, due, handles, count, &code), code, FOR_OBJECTS, alertable);
+}
+
+uint32_t NtWaitForSingleObject(void) {
+    bool is_own;
+    int64_t due = until(arg(2));
+    uint32_t handle = waitable(arg(0), &is_own);
+    current->places[0] = 0;
+    uint32_t status = wait_for(&handle, 1, false, (uint8_t)arg(1) != 0, due);
+    if (is_own) {
+        close_own(handle);
+    }
+    return status;
+}
+
+/* In a wait for any a handle may stand several times, as in those of thread pools; the library refuses that with 87, and the first place stands for all. */
+static uint32_t first_places(uint32_t *handles, uint32_t count) {
+    uint32_t kept = 0;
+    for (uint32_t i = 0; i < count; i++) {
+        uint32_t k = 0;
+        while (k < kept && handles[k] / 4 != handles[i] / 4) {
+            k++;
+        }
+        if (k == kept) {
+            current->places[kept] = (uint8_t)i;
+            handles[kept++] = handles[i];
+        }
+    }
+    return kept;
+}
+
+uint32_t NtWaitForMultipleObjects(void) {
+    uint32_t handles[OM_MAXIMUM_WAIT_OBJECTS], count = (uint32_t)arg(0);
+    bool any = (uint8_t)arg(2) != 0;
+    int64_t due = until(arg(4));
+    if (count == 0 || count > OM_MAXIMUM_WAIT_OBJECTS) {
+        return STATUS_INVALID_PARAMETER_1;
+    }
+    for (uint32_t i = 0; i < count; i++) {
+        handles[i] = handle_of(get(arg(1) + 8 * i, 8));
+        current->places[i] = (uint8_t)i;
+    }
+    count = any ? first_places(handles, count) : count;
+    return wait_for(handles, count, !any, (uint8_t)arg(3) != 0, due);
+}
+
+uint32_t NtSignalAndWaitForSingleObject(void) {
+    bool is_own, alertable = (uint8_t)arg(2) != 0;
+    uint32_t code, signal = handle_of(arg(0));
+    int64_t due = until(arg(3));
+    if (alertable && current->apcs != NULL) {
+        due = 0; /* the signal is given, and the APC ends the wait */
+    }
+    uint32_t handle = waitable(arg(1), &is_own);
+    current->places[0] = 0;
+    tell_time();
+    uint32_t error = om_signal_and_wait(&om, current->number, signal, handle, due, &code);
+    om_handle_info info;
+    bool is_there = om_query_handle(&om, in->member.process, handle, &info) == OM_SUCCESS;
+    uint32_t status = error == OM_ERROR_INVALID_HANDLE ? status_of(error, is_there ? signal : 0) : begun(error, code, FOR_OBJECTS, alertable);
+    if (status == STATUS_TIMEOUT && has_apc(alertable)) {
+        status = STATUS_USER_APC;
+    }
+    if (is_own) {
+        close_own(handle);
+    }
+    return status;
+}
+
+/* ---- Moments and alerts ---- */
+
+uint32_t NtDelayExecution(void) {
+    bool alertable = (uint8_t)arg(0) != 0;
+    int64_t due = until(arg(1));
+    ends_turn = true;
+    if (has_apc(alertable)) {
+        return STATUS_USER_APC;
+    }
+    uint32_t status = sleep_for(FOR_TIME, due, alertable);
+    return status == STATUS_TIMEOUT ? STATUS_SUCCESS : status;
+}
+
+uint32_t NtYieldExecution(void) {
+    ends_turn = true;
+    return STATUS_SUCCESS;
+}
+
+uint32_t NtWaitForAlertByThreadId(void) {
+    int64_t due = until(arg(1));
+    if (current->alerted) {
+        current->alerted = false;
+        return STATUS_ALERTED;
+    }
+    current->key = arg(0);
+    return sleep_for(FOR_ALERT, due, false);
+}
+
+uint32_t NtAlertThreadByThreadId(void) {
+    thread *t = arg(0) % THREAD_NUMBER == 0 && arg(0) / THREAD_NUMBER <= THREADS + 1 ? thread_numbered((uint32_t)(arg(0) / THREAD_NUMBER)) : NULL;
+    if (t == NULL || t->of != in) {
+        return STATUS_INVALID_CID;
+    }
+    if (t->waits == FOR_ALERT) {
+        must(om_alert(&om, t->number), "an alert");
+    } else {
+        t->alerted = true;
+    }
+    return STATUS_SUCCESS;
+}
+
+/* ---- Keyed events: each wait meets a release of the same key in the same process, and the one that came first waits for the other (Learn has no page of them) ---- */
+
+uint32_t NtCreateKeyedEvent(void) {
+    kept *k;
+    return new_named(A_KEYED_EVENT, (uint32_t)arg(1), arg(2), arg(0), &k);
+}
+
+static uint32_t meet(waiting mine, waiting other) {
+    int64_t due = until(arg(3));
+    uint32_t status = arg(0) == 0 ? STATUS_SUCCESS : named(arg(0), A_KEYED_EVENT, mine == FOR_RELEASE ? 1 : 2, NULL);
+    if (status != STATUS_SUCCESS || arg(1) % 2 != 0) {
+        return status != STATUS_SUCCESS ? status : STATUS_INVALID_PARAMETER_1;
+    }
+    for (thread *t = threads; t < threads + threads_end; t++) {
+        if (t->number != 0 && t->waits == other && t->of == in && t->key == arg(1)) {
+            must(om_alert(&om, t->number), "a keyed event");
+            return STATUS_SUCCESS;
+        }
+    }
+    current->key = arg(1);
+    return sleep_for(mine, due, false);
+}
+
+static uint32_t open_keyed(om_manager *m, uint32_t by, uint32_t access, bool inherit, const char *name, size_t length, om_opening *opening) {
+    return om_open_host(m, by, A_KEYED_EVENT, access, inherit, name, length, opening);
+}
+
+uint32_t NtOpenKeyedEvent(void) {
+    return open_named(open_keyed, OM_HOST(A_KEYED_EVENT));
+}
+
+uint32_t NtWaitForKeyedEvent(void) {
+    return meet(FOR_RELEASE, FOR_WAITER);
+}
+
+uint32_t NtReleaseKeyedEvent(void) {
+    return meet(FOR_WAITER, FOR_RELEASE);
+}
