@@ -37,7 +37,8 @@ static uint32_t begun(uint32_t error, uint32_t code, waiting waits, bool alertab
 static uint32_t sleep_for(waiting waits, int64_t due, bool alertable) {
     uint32_t code;
     tell_time();
-    return begun(om_sleep(&om, current->number, due, &code), code, waits, alertable);
+    uint32_t error = om_sleep(&om, current->number, due, &code);
+    return begun(error, code, waits, alertable);
 }
 
 /* A thread's wait has ended. */
@@ -82,19 +83,24 @@ static uint32_t wait_for(const uint32_t *handles, size_t count, bool all, bool a
         return STATUS_USER_APC;
     }
     tell_time();
-    return begun(om_wait_until(&om, current->number, all, due, handles, count, &code), code, FOR_OBJECTS, alertable);
+    uint32_t error = om_wait_until(&om, current->number, all, due, handles, count, &code);
+    return begun(error, code, FOR_OBJECTS, alertable);
 }
 
-uint32_t NtWaitForSingleObject(void) {
+static uint32_t wait_for_one(uint64_t object, bool alertable, int64_t due) {
     bool is_own;
-    int64_t due = until(arg(2));
-    uint32_t handle = waitable(arg(0), &is_own);
+    uint32_t handle = waitable(object, &is_own);
     current->places[0] = 0;
-    uint32_t status = wait_for(&handle, 1, false, (uint8_t)arg(1) != 0, due);
+    uint32_t status = wait_for(&handle, 1, false, alertable, due);
     if (is_own) {
         close_own(handle);
     }
     return status;
+}
+
+uint32_t NtWaitForSingleObject(void) {
+    int64_t due = until(arg(2));
+    return wait_for_one(arg(0), (uint8_t)arg(1) != 0, due);
 }
 
 /* In a wait for any a handle may stand several times, as in those of thread pools; the library refuses that with 87, and the first place stands for all. */
@@ -115,17 +121,20 @@ static uint32_t first_places(uint32_t *handles, uint32_t count) {
 
 uint32_t NtWaitForMultipleObjects(void) {
     uint32_t handles[OM_MAXIMUM_WAIT_OBJECTS], count = (uint32_t)arg(0);
-    bool any = (uint8_t)arg(2) != 0;
+    bool any = (uint8_t)arg(2) != 0, alertable = (uint8_t)arg(3) != 0;
     int64_t due = until(arg(4));
     if (count == 0 || count > OM_MAXIMUM_WAIT_OBJECTS) {
         return STATUS_INVALID_PARAMETER_1;
+    }
+    if (count == 1) {
+        return wait_for_one(get(arg(1), 8), alertable, due); /* which is how Wine's kernelbase waits for one */
     }
     for (uint32_t i = 0; i < count; i++) {
         handles[i] = handle_of(get(arg(1) + 8 * i, 8));
         current->places[i] = (uint8_t)i;
     }
     count = any ? first_places(handles, count) : count;
-    return wait_for(handles, count, !any, (uint8_t)arg(3) != 0, due);
+    return wait_for(handles, count, !any, alertable, due);
 }
 
 uint32_t NtSignalAndWaitForSingleObject(void) {
