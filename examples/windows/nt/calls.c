@@ -91,11 +91,11 @@ static uint32_t serve_number(uint64_t number) {
     return status;
 }
 
-/* What of Wine's Unix side ntdll asks for: the time. Its other calls are about code of Linux, of which there is none here. */
+/* What of Wine's Unix side ntdll asks for: the time. Its other calls are about code of Linux, such as how to unwind it, of which there is none here. */
 static uint32_t serve_unix(void) {
     enum { SYSTEM_TIME_PRECISE = 2 };
     if ((uint32_t)current->now.whole[RDX] != SYSTEM_TIME_PRECISE) {
-        return STATUS_NOT_SUPPORTED;
+        return STATUS_UNSUCCESSFUL;
     }
     put(current->now.whole[R8], now(), 8);
     return STATUS_SUCCESS;

@@ -258,7 +258,7 @@ uint32_t NtQueueApcThread(void) {
     thread *t;
     uint32_t status = thread_by(arg(0), 0x10, NULL, &t); /* THREAD_SET_CONTEXT */
     if (status != STATUS_SUCCESS || t == NULL) {
-        return status != STATUS_SUCCESS ? status : 0xC0000001u; /* STATUS_UNSUCCESSFUL: it has ended */
+        return status != STATUS_SUCCESS ? status : STATUS_UNSUCCESSFUL; /* it has ended */
     }
     if (arg(1) != 0) {
         queue_apc(t, arg(1), arg(2), arg(3), arg(4));

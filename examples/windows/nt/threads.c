@@ -255,8 +255,10 @@ static void raise_fault(thread *t, uc_err error) {
     if (fault_kind >= 0) {
         t->now.whole[RIP] = fault_kind == 8 ? fault_address : failed_at(t, block_at, fault_address);
         raise_exception(t, STATUS_ACCESS_VIOLATION, information, 2);
-    } else if (error == UC_ERR_INSN_INVALID || error == UC_ERR_OK) {
-        raise_exception(t, STATUS_ILLEGAL_INSTRUCTION, NULL, 0); /* or it halts, which programs may not */
+    } else if (error == UC_ERR_OK) {
+        raise_exception(t, STATUS_PRIVILEGED_INSTRUCTION, NULL, 0); /* it halts */
+    } else if (error == UC_ERR_INSN_INVALID) {
+        raise_exception(t, STATUS_ILLEGAL_INSTRUCTION, NULL, 0);
     } else {
         raise_exception(t, STATUS_ACCESS_VIOLATION, (uint64_t[2]){0, UINT64_MAX}, 2);
     }
