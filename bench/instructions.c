@@ -87,6 +87,17 @@ static void pins(void) {
     done(om_reader_unpin(&reader, pinned.slot, pinned.generation));
 }
 
+static void found(void) {
+    om_handle_info info;
+    done(om_find(&m, 1, "there", 5, &info));
+}
+
+static void named_by_it(void) {
+    char name[OM_NAME_MOST];
+    om_row row;
+    done(om_name_of(&m, pinned.slot, pinned.generation, name, sizeof name, &row));
+}
+
 static const struct {
     const char *name;
     void (*make)(void);
@@ -105,6 +116,8 @@ static const struct {
     {"a release of a semaphore, and a wait for it", posted},
     {"a timer that is set, and the tick that fires it", fires},
     {"a pin and its release", pins},
+    {"the object of a name", found},
+    {"the name of an object", named_by_it},
 };
 
 static void begin(void) {
