@@ -135,9 +135,10 @@ static void wake(thread *t, unsigned why) {
     }
 }
 
-/* Behind each call, under the lock: wakes just those whose waits it has answered. */
-static void wake_answered(void) {
+/* Under the lock: wakes just those whose waits are answered, and says whether there are any. */
+static bool has_woken(void) {
     om_answer answers[16];
+    unsigned before = waiting;
     size_t count;
     do {
         om_take_answered(&om, answers, 16, &count);
@@ -147,9 +148,10 @@ static void wake_answered(void) {
             wake(t, ANSWERED);
         }
     } while (count == 16);
+    return waiting < before;
 }
 
-/* And lets go what was kept at objects that have ended. Nobody pins an object here. */
+/* Lets go what was kept at objects that have ended. Nobody pins an object here. */
 static void take_ended(void) {
     om_reaping ended[16];
     size_t count;
@@ -164,8 +166,9 @@ static void take_ended(void) {
     } while (count == 16);
 }
 
+/* Behind each call, under the lock. */
 void look_round(void) {
-    wake_answered();
+    has_woken();
     take_ended();
     tell_clock();
 }
@@ -369,10 +372,10 @@ uint32_t unlocked(uint32_t status) {
     return status;
 }
 
-/* Ends a call of which nothing comes but answers of waits. */
+/* Ends a call of which nothing comes but answers of waits, which may have kept an object. */
 uint32_t answered(uint32_t status) {
-    if (waiting > 0) {
-        look_round();
+    if (waiting > 0 && has_woken()) {
+        take_ended();
     }
     give_lock();
     return status;
@@ -397,7 +400,8 @@ uint32_t sleep_until_answered(void) {
     atomic_store_explicit(&me->state, told, memory_order_relaxed);
     me->waits = true;
     waiting++;
-    unlocked(OM_SUCCESS);
+    tell_clock();
+    answered(OM_SUCCESS);
     if (me->skips > 0) {
         me->skips--;
     } else if (!has_changed(&me->state, told, LOOKS_FOR_ANSWER)) {
