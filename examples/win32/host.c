@@ -381,14 +381,6 @@ uint32_t answered(uint32_t status) {
     return status;
 }
 
-/* Says by TRUE that a call has succeeded. */
-BOOL succeeded(uint32_t status) {
-    if (status != OM_SUCCESS) {
-        SetLastError(status);
-    }
-    return status == OM_SUCCESS;
-}
-
 /* Ends a call, and says that. */
 BOOL done(uint32_t status) {
     return succeeded(unlocked(status));

@@ -91,7 +91,6 @@ uint32_t enter(void);
 void look_round(void);
 uint32_t unlocked(uint32_t status);
 uint32_t answered(uint32_t status);
-BOOL succeeded(uint32_t status);
 BOOL done(uint32_t status);
 _Noreturn void leave(void);
 uint32_t sleep_until_answered(void);
@@ -106,6 +105,14 @@ bool run_thread(thread *t);
 void let_go(thread *t);
 void end_thread(thread *t, DWORD code);
 void end_process(process *p, DWORD code);
+
+/* Says by TRUE that a call has succeeded. */
+static inline BOOL succeeded(uint32_t status) {
+    if (status != OM_SUCCESS) {
+        SetLastError(status);
+    }
+    return status == OM_SUCCESS;
+}
 
 /* A handle as the library has it. What has more than 32 bits, as what stands for the caller itself, names nothing. */
 static inline uint32_t number_of(HANDLE handle) {

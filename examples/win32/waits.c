@@ -81,10 +81,12 @@ static uint32_t begun(bool all, int64_t due, const uint32_t *numbers, size_t cou
 
 /* One handle may be what stands for the caller itself: it waits by a handle of its own for that. */
 static uint32_t wait_behind(const HANDLE *signal, HANDLE handle, int64_t due, bool alertable, uint32_t *code) {
-    enter();
-    bool is_process = handle == GetCurrentProcess(), is_own = number_of(handle) == 0 && (is_process || handle == GetCurrentThread());
-    uint32_t status = is_own ? given(is_process ? &me->of->own : &me->own, me->of, SYNCHRONIZE, false, &handle) : OM_SUCCESS;
-    uint32_t number = number_of(handle);
+    uint32_t by = enter(), number = number_of(handle), status = OM_SUCCESS;
+    bool is_own = number == 0 && (handle == GetCurrentProcess() || handle == GetCurrentThread());
+    if (is_own) {
+        status = given(handle == GetCurrentProcess() ? &me->of->own : &me->own, me->of, SYNCHRONIZE, false, &handle);
+        number = number_of(handle);
+    }
     if (status != OM_SUCCESS) {
         return unlocked(status);
     }
@@ -93,7 +95,7 @@ static uint32_t wait_behind(const HANDLE *signal, HANDLE handle, int64_t due, bo
         status = begun(false, due, &number, 1, code);
     } else {
         tell_time();
-        status = om_signal_and_wait(&om, me->number, number_of(*signal), number, due, code);
+        status = om_signal_and_wait(&om, by, number_of(*signal), number, due, code);
     }
     status = waited_for(status, alertable, code);
     if (is_own) {
