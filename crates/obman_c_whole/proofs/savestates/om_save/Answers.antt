@@ -9,6 +9,6 @@ pub returns-in-Ok-clause-saved : goal.returns-in-Ok-clause-saved
 returns-in-Ok-clause-saved c =
     gives
     (subst (λ (bytes : List ℕ). HandsOver bytes c.hand_over.result c.args.bytes.now c.hand_over.new.room c.hand_over.new.length)
-    (c.as_slice-saved.ensures.value ∙ c.in-Ok.ensures.saved
+    (c.as_slice.ensures.value ∙ c.in-Ok.ensures.saved
     ∙ ap (λ (o : OwnedManager). saved_of o) c.lend-held.ensures.value)
     c.hand_over.ensures)

@@ -13,5 +13,5 @@ returns-in-Ok-run_whole c =
           c.tell.new.length)
           (ended.1 ∙ ap (λ (front : List ℕ). front ++ ended.0) c.new-sink.ensures.bytes)
           over)
-      | lacks none room length ↦ scripts.lacks c.in-Ok.limits.ensures.allowed none room length
+      | lacks none room length ↦ scripts.lacks c.in-Ok.ensures.allowed none room length
     ]
