@@ -5,3 +5,4 @@ pub mod StorageThreads
 pub mod Phasing
 pub mod SlotLemmas
 pub mod NextLemmas
+mod Cited

@@ -1,14 +1,11 @@
 -- The next slot with a body, by the slots that are in use.
-use Rattle.std.proofs.Common.{◌≡◌, ◌∙◌, ap, ℕ, ◌+◌, ◌<◌, ◌≤◌, List, length, map, get_or, Option, Some, None, Bool, true, false, arith, ⊎_elim}
+use Rattle.ob_arena.proofs.Cited.{◌≡◌, ◌∙◌, ap, ℕ, ◌+◌, ◌<◌, ◌≤◌, List, length, map, get_or, Option, Some, None, Bool, true, false, arith, ⊎_elim, get_or_default, get_or_past, Vacant, is_occupied, is_in_use}
 use Rattle.std.proofs.Math.ListN.{get_or-map}
 use Rattle.std.proofs.lemmas.Bool.{cases_lt}
-use Rattle.std.proofs.lemmas.List.{get_or_default, get_or_past}
 use Rattle.least.specs.From.{IsAtMost, IsLeastFrom}
 use Rattle.least.specs.Taken.{is_taken}
 use Rattle.least.proofs.NextLemmas.{none_found}
 use Rattle.ob_arena.specs.declared.phase.Phase.{Phase}
-use Rattle.ob_arena.specs.declared.phase.Phase.TheVariants.{Vacant}
-use Rattle.ob_arena.specs.Phases.{is_occupied, is_in_use}
 
 module _ (ps : List Phase) (taken : List Bool) (used : taken ≡ map is_in_use ps) where
   taken_at : (k : ℕ) → is_taken taken k ≡ is_in_use (get_or ps k Vacant)

@@ -1,22 +1,14 @@
 -- What the phases say of the slots, and what a change of one slot does to them.
-use Rattle.std.proofs.Common.{◌≡◌, ◌∙◌, sym, ap, refl, subst, cond, ℕ, zero, suc, ◌+◌, ◌-◌, ◌<◌, ◌≤◌, List, [], ◌∷◌, length, map, replicate, get_or, set, Option, Some, None, Bool, true, false, ltb, arith, lt-ltb, zero-add}
-use Rattle.std.specs.Prelude.{is_some, is_none, not, ◌&&◌, slice_get, IsSome, count_by}
+use Rattle.ob_arena.proofs.Cited.{◌≡◌, ◌∙◌, sym, ap, refl, cond, ℕ, zero, suc, ◌+◌, ◌-◌, ◌<◌, ◌≤◌, List, [], ◌∷◌, length, map, replicate, get_or, set, Option, Some, None, Bool, true, false, ltb, arith, lt-ltb, zero-add, is_some, is_none, not, ◌&&◌, slice_get, IsSome, count_by, ext_get_or, get_or_default, get_or-replicate, get_or-set_same, get_or_past, map-set, length-map, length-set, length-replicate, Vacant, Occupied, Retired, is_vacant, is_occupied, is_retired, is_in_use, IsFilled, is_vacant_at, least_vacant, vacant_count, with_body, without_body, with_retired, vacant_slots, slots_shown, ArenaInvariant}
 use Rattle.std.specs.List.{range_with_len, position_or_len}
 use Rattle.std.proofs.Math.ListN.{get_or-map}
 use Rattle.std.proofs.Math.Seq.{map-set_same}
-use Rattle.std.proofs.lemmas.Bool.{and_parts, ltb-true}
 use Rattle.std.proofs.lemmas.List.Sums.{sum_by-cons, prefix_len-le-length, position_or_len_is, fails_before_first, passes_at_first}
 use Rattle.std.proofs.lemmas.List.FromFn.{get_or-range_with_len, length-range_with_len}
 use Rattle.std.proofs.lemmas.List.Folds.{find_at}
-use Rattle.std.proofs.lemmas.List.{ext_get_or, get_or_default, get_or-replicate, get_or-set_same, get_or_past, map-set, length-map, length-set, length-replicate}
 use Rattle.std.proofs.lemmas.Option.{slice_get-get_or, slice_get_past}
 use Rattle.least.specs.Taken.{least_free, taken_count}
-use Rattle.least.proofs.CountLemmas.{none_first, one_first}
 use Rattle.ob_arena.specs.declared.phase.Phase.{Phase}
-use Rattle.ob_arena.specs.declared.phase.Phase.TheVariants.{Vacant, Occupied, Retired}
-use Rattle.ob_arena.specs.Phases.{is_vacant, is_occupied, is_retired, is_in_use}
-use Rattle.ob_arena.specs.Slots.{IsFilled, is_vacant_at, least_vacant, vacant_count, with_body, without_body, with_retired, vacant_slots}
-use Rattle.ob_arena.specs.Arena.{slots_shown, ArenaInvariant}
 
 abbrev one_if : Bool → ℕ
 one_if b = cond b 1 0
@@ -27,10 +19,10 @@ counted_first : (p : ℕ → Bool) (x : Bool) (taken : List Bool) (a : ℕ) → 
     → count_by p (range_with_len a (suc (length taken))) + taken_count (x ∷ taken) ≡ suc (length taken)
 counted_first p true taken a here rest =
     let none = ap one_if here in
-    omega (arith, none, rest, one_first taken, sum_by-cons (λ k. cond (p k) 1 0) a (range_with_len (a + 1) (length taken)))
+    search (arith, sum_by-cons)
 counted_first p false taken a here rest =
     let one = ap one_if here in
-    omega (arith, one, rest, none_first taken, sum_by-cons (λ k. cond (p k) 1 0) a (range_with_len (a + 1) (length taken)))
+    search (arith, sum_by-cons)
 
 at_first : (a : ℕ) → a ≡ a + 0
 at_first a = omega arith
@@ -50,19 +42,14 @@ module _ {B : Type 0} (ss : List (Option B)) (ps : List Phase) (taken : List Boo
   length_phases = search (arith, length-map)
 
   pub length-taken : length taken ≡ length ss
-  length-taken = ap length tied.in_use ∙ length-map ps is_in_use ∙ length_phases
+  length-taken = search (arith, length-map)
 
   pub occupied_at : (k : ℕ) → is_occupied (get_or ps k Vacant) ≡ is_some (get_or ss k None)
   occupied_at k = sym (get_or-map is_occupied ps k Vacant) ∙ ap (λ (l : List Bool). get_or l k false) tied.occupied
       ∙ get_or-map is_some ss k None
 
   by_phase : (p : Phase) (s : Option B) → is_occupied p ≡ is_some s → (is_none s && not (is_retired p)) ≡ is_vacant p
-  by_phase Vacant None h = refl
-  by_phase Vacant (Some x) h = cc
-  by_phase Occupied None h = cc
-  by_phase Occupied (Some x) h = refl
-  by_phase Retired None h = refl
-  by_phase Retired (Some x) h = cc
+  by_phase = search arith
 
   -- a slot is vacant where its phase is
   pub vacant_phase : (k : ℕ) → is_vacant_at (slots_shown ss ps) k
@@ -86,21 +73,12 @@ module _ {B : Type 0} (ss : List (Option B)) (ps : List Phase) (taken : List Boo
     pub phase : get_or ps k Vacant ≡ Vacant
     pub free : slice_get taken k ≡ Some false
 
-  vacant_is : (p : Phase) → is_vacant p ≡ true → p ≡ Vacant
-  vacant_is Vacant h = refl
-  vacant_is Occupied h = cc
-  vacant_is Retired h = cc
-
   free_at : (k : ℕ) → k < length ss → slice_get taken k ≡ Some (is_in_use (get_or ps k Vacant))
   free_at k lt = slice_get-get_or taken k false (let n = length-taken in omega arith)
       ∙ ap Some (ap (λ (l : List Bool). get_or l k false) tied.in_use ∙ get_or-map is_in_use ps k Vacant)
 
   pub free_slot : (k : ℕ) → is_vacant_at (slots_shown ss ps) k ≡ true → IsFree k
-  free_slot k h =
-      let both = and_parts (ltb k (length ss)) (is_vacant (get_or ps k Vacant)) (sym (vacant_phase k) ∙ h) in
-      let lt : k < length ss = ltb-true k (length ss) both.0 in
-      let phase = vacant_is (get_or ps k Vacant) both.1 in
-      search (arith, free_at)
+  free_slot k h = search (arith, vacant_phase, free_at)
 
   -- what is known of a slot with a body
   pub record IsHeld (k : ℕ) : Type 0 where
@@ -109,13 +87,10 @@ module _ {B : Type 0} (ss : List (Option B)) (ps : List Phase) (taken : List Boo
     pub phase : get_or ps k Vacant ≡ Occupied
 
   occupied_is : (p : Phase) → is_occupied p ≡ true → p ≡ Occupied
-  occupied_is Vacant h = cc
-  occupied_is Occupied h = refl
-  occupied_is Retired h = cc
+  occupied_is = search arith
 
   some_of : (s : Option B) → IsSome s → (x : B) × (s ≡ Some x)
-  some_of None h = cc
-  some_of (Some x) h = (x, refl)
+  some_of = search arith
 
   within_of : (k : ℕ) (x : B) → get_or ss k None ≡ Some x → k < length ss
   within_of k x e = search (arith, get_or_past)
@@ -162,9 +137,7 @@ module _ {B : Type 0} (ss : List (Option B)) (ps : List Phase) (taken : List Boo
 
   -- the least number that isn't taken is the least vacant slot
   free_is_vacant : (p : Phase) → not (is_in_use p) ≡ is_vacant p
-  free_is_vacant Vacant = refl
-  free_is_vacant Occupied = refl
-  free_is_vacant Retired = refl
+  free_is_vacant = search arith
 
   vacant_taken : (k : ℕ) → k < length ss → is_vacant_at (slots_shown ss ps) k ≡ not (get_or taken k false)
   vacant_taken k lt = vacant_phase k ∙ ap (λ (b : Bool). b && is_vacant (get_or ps k Vacant)) (lt-ltb k (length ss) lt)
@@ -174,10 +147,7 @@ module _ {B : Type 0} (ss : List (Option B)) (ps : List Phase) (taken : List Boo
   -- the numbers that aren't taken are those of the vacant slots
   vacant_and_taken : count_by (is_vacant_at (slots_shown ss ps)) (range_with_len 0 (length ss)) + taken_count taken
       ≡ length ss
-  vacant_and_taken = subst (λ (n : ℕ). count_by (is_vacant_at (slots_shown ss ps)) (range_with_len 0 n) + taken_count taken
-      ≡ n) length-taken
-      (counted_range (is_vacant_at (slots_shown ss ps)) taken 0 (λ k lt. let within : k < length ss = (let n = length-taken
-      in omega arith) in ap (is_vacant_at (slots_shown ss ps)) (zero-add k) ∙ vacant_taken k within))
+  vacant_and_taken = search (arith, counted_range, length-taken, vacant_taken)
 
   pub taken_few : taken_count taken ≤ length ss
   taken_few = omega (arith, vacant_and_taken)

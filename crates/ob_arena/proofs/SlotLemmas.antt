@@ -1,8 +1,5 @@
 -- What the callers of an arena need of a vacant slot, and of the least.
-use Rattle.std.proofs.Common.{arith}
-use Rattle.std.proofs.Common.{◌≡◌, ◌<◌, ℕ, List, [], ◌∷◌, length, get_or, Some, None, Bool, true, false}
-use Rattle.std.specs.Prelude.{find}
-use Rattle.ob_arena.specs.Slots.{Slots, body_at, is_vacant_at, least_vacant}
+use Rattle.ob_arena.proofs.Cited.{arith, ◌≡◌, ◌<◌, ℕ, List, [], ◌∷◌, length, Some, None, Bool, true, find, Slots, body_at, is_vacant_at, least_vacant}
 
 -- what is found passes the test
 found_passes : {X : Type 0} (p : X → Bool) (xs : List X) (x : X) → find p xs ≡ Some x → p x ≡ true
@@ -19,8 +16,3 @@ vacant_within s slot h = search arith
 -- has no body
 pub vacant_empty : {B : Type 0} (s : Slots B) (slot : ℕ) → is_vacant_at s slot ≡ true → body_at s slot ≡ None
 vacant_empty s slot h = search arith
-
--- and isn't retired
-pub vacant_unretired : {B : Type 0} (s : Slots B) (slot : ℕ) → is_vacant_at s slot ≡ true
-    → get_or s.retired slot false ≡ false
-vacant_unretired s slot h = search arith

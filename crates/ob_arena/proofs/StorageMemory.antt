@@ -2,8 +2,7 @@
 -- pointer and of three parts are to the machine.
 use Rattle.ob_arena.proofs.Steps.{◌≡◌, refl, sym, ap, subst, ◌∙◌, ℕ, zero, suc, ◌+◌, ◌*◌, ◌<◌, ◌^◌, arith, zero-mul, List, [], ◌∷◌, ◌++◌, length, set, get_or, replicate, Ura, full_share, SProp, ent, sep, emp, ex, guard, via, Fml, Lft, ftrue, fsep, fat, froom, Ty, Args, a_type, ty_array, dcons, dnil, bare, Val, vstruct, vcons, vnil, of_list, size, align, capped, size-raw, align-raw, Logic, sem, fact, fact_i, Item, Goal, Seq, Step, step, prop, ‵, raw, some, ◌⊛◌, ◌$◌, ◌∵◌, !, qed, by, move, keep, skip, use0, use1, use2, pick, split, check, show, frame, fsplit, fjoin, fpick, fpack, feq_i, feq_l, rewrite, done, RattleType, Valss, Typed, Is, shows, param, bounded, layout, Laws, param_laws, part_at, Ptr, RawPtr, ptr_val, makes_shadow, nothing, peeks, Shape, Struct, within, shape, Tuple, tuple_type, part_in, part_out, Option, Some, None, type_size, El, R, el_x, elτ, Good, word}
 use denote.Struct.Declared as Declared
-use Rattle.std.proofs.alloc.Calls.{Al}
-use Rattle.ob_arena.specs.Memory.{slot, slots, slot_lent, slots_lent}
+use Rattle.ob_arena.proofs.Cited.{Al, slot, slots, slot_lent, slots_lent}
 use Rattle.ob_arena.specs.contracts.storage.Storage as StorageType
 use Rattle.ob_arena.specs.contracts.storage.Front as FrontType
 

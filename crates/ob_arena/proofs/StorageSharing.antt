@@ -1,7 +1,6 @@
 -- A `&` to a storage can be made wherever one to each of its bodies can.
-use Rattle.std.proofs.Common.{arith}
+use Rattle.ob_arena.proofs.Cited.{arith, slot, slots, slot_lent, slots_lent, fit, storage_owns, storage_lends}
 use Rattle.ob_arena.proofs.Steps.{ℕ, ◌+◌, List, [], ◌∷◌, Ura, Lft, Incl, ftrue, ffalse, Logic, RattleType, RowLaws, Laws, Ptr, block_ptr, null_ptr, ShrLaws, said, beside_shr_laws, nothing_shr_laws, said_shr_laws, Shares-less, Lends, Lends-both, Lends-nothing, Lends-said, Lends-false, Option, Some, None, type_size}
-use Rattle.ob_arena.specs.Memory.{slot, slots, slot_lent, slots_lent, fit, storage_owns, storage_lends}
 
 module _ (B : RattleType) (L : RowLaws B) where
   slot_laws : (b o : ℕ) (s : Option B.Denot) → ShrLaws (slot_lent B b o s)

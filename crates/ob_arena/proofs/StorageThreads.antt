@@ -1,11 +1,8 @@
 -- A storage crosses threads where its bodies do, and a title where its allocator does.
-use Rattle.std.proofs.Common.{arith}
+use Rattle.ob_arena.proofs.Cited.{arith, IsSend, IsSync, Frees, Common, AllSend, part_keyless, owning_send, sendable, Ghosts, slots, slots_lent, storage_owns, storage_lends}
 use Rattle.ob_arena.proofs.Steps.{ℕ, ◌+◌, List, [], ◌∷◌, full_share, RattleType, Ptr, block_ptr, null_ptr, Option, Some, None, type_size}
 use base.Shift.{Keyless}
 use denote.Struct.Owning.{fields}
-use denote.Param.Send.{IsSend, IsSync, Frees, Common, AllSend, part_keyless, owning_send, sendable}
-use Rattle.std.specs.declared.alloc.Allocator.{Ghosts}
-use Rattle.ob_arena.specs.Memory.{slots, slots_lent, storage_owns, storage_lends}
 use Rattle.ob_arena.specs.contracts.storage.Storage as StorageType
 use Rattle.ob_arena.specs.contracts.storage.Title as TitleType
 

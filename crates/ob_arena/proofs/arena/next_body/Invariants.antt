@@ -1,6 +1,4 @@
-use Rattle.std.proofs.Common.{◌≡◌, ℕ, ◌-◌, ◌<◌, ◌≤◌, false, get_or, length}
-use Rattle.ob_arena.specs.declared.phase.Phase.TheVariants.{Vacant}
-use Rattle.ob_arena.specs.Phases.{is_occupied}
+use Rattle.ob_arena.proofs.Cited.{◌≡◌, ℕ, ◌-◌, ◌<◌, ◌≤◌, false, get_or, length, Vacant, is_occupied}
 use Rattle.ob_arena.proofs.arena.next_body.Given as goal
 
 abbrev pub invariant-loop-slot : goal.invariant-loop-slot

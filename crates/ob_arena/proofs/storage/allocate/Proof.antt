@@ -3,8 +3,7 @@ use Rattle.ob_arena.proofs.Steps.{◌≡◌, refl, sym, ap, subst, true, false, 
 use denote.Struct.Declared as Declared
 use Rattle.std.specs.contracts.result.Result as ResultType
 use Rattle.std.specs.contracts.alloc.AllocError as ErrorType
-use Rattle.std.proofs.alloc.Calls.{Al, second, Answer-typed, takes_key, Takes, at_takes, Answered, Takes-goes, Takes-gives, answers}
-use Rattle.ob_arena.specs.Memory.{slots}
+use Rattle.ob_arena.proofs.Cited.{Al, second, Answer-typed, takes_key, Takes, at_takes, Answered, Takes-goes, Takes-gives, answers, slots}
 use Rattle.ob_arena.proofs.StorageMemory.{StorageOf, FrontOf, Mark, sz, mark, mark_made, pointer_made, uncapped, memory_of, memory_size, memory_align, args_of, Heap, three_parts, three_made, of_room}
 use Rattle.ob_arena.specs.contracts.storage.Title as TitleType
 use Rattle.ob_arena.specs.contracts.storage.allocate as contract

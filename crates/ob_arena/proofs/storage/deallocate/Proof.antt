@@ -1,7 +1,6 @@
 -- `deallocate` makes one block of the empty slots, and gives it back by the allocator's token.
 use Rattle.ob_arena.proofs.Steps.{◌≡◌, refl, sym, ap, subst, ◌∙◌, ℕ, ◌*◌, ◌<◌, ◌^◌, arith, List, [], ◌∷◌, ◌++◌, T, replicate, length-replicate, Ura, SProp, ent, never, id⊢, Lft, Share, Incl-trans, ftrue, froom, flft, Fn, named, w64, ty_unit, ty_array, inst_fn, Val, has_ty, WT, vptr, vint, vunit, capped_fits, Memory, align, capped, Routine, Env, Calls, Loops, WpFn, Tables, ◌⊑◌, Fun, fact, tables, tables_of, WpFn-mono, FmC, fm_of, Logic, Item, at_ret, ⋆, ‵, raw, ◌⊛◌, given, later, await, learn, ◌$◌, ◌∵◌, !, qed, by, move, keep, use1, split, join, group, rewrite, fsplit, fsplit3, fjoin, feq_i, feq_l, flt_l, suffices, done, whole, sub, stop, fld, unit_lit, of_opd, bin, size_word, align_word, and_then, no_more, first, blocks, exec, returns, enter, alloc_all, pass_all, free_all, look_at, get, get_in, sets, lands_last, is, env, RefOf, usize, yes, no, hidden_shr, RattleType, owns, Ptr, ptr_val, in_a_block, Bor, ShrRef, plain, nothing, calls_at_last, Clauses, Ended, closing, on_entry, Meets, triple_of, Triple, entered, needs, Stays, stay_dropped, walk_of, ends_at, Goes-dropped, walk_Meets, None, El, R, elτ, as_raw, word, word-Good, after}
-use Rattle.std.proofs.alloc.Calls.{Al, second, token, gives_key, Gives, at_gives, Gives-goes, Gives-Gives, Goes-blank}
-use Rattle.ob_arena.specs.Memory.{storage_owns, title_owns}
+use Rattle.ob_arena.proofs.Cited.{Al, second, token, gives_key, Gives, at_gives, Gives-goes, Gives-Gives, Goes-blank, storage_owns, title_owns}
 use Rattle.ob_arena.proofs.StorageMemory.{StorageOf, FrontOf, sz, Slot, mark, mark_had, pointer_had, uncapped, memory_of, memory_size, memory_align, args_of, Heap, to_room}
 use Rattle.ob_arena.specs.contracts.storage.Title as TitleType
 use Rattle.ob_arena.specs.contracts.storage.deallocate as contract

@@ -1,6 +1,4 @@
-use Rattle.std.proofs.Common.{sym, subst}
-use Rattle.std.specs.Prelude.{IsSome}
-use Rattle.ob_arena.specs.Slots.{Slots, body_at}
+use Rattle.ob_arena.proofs.Cited.{sym, subst, IsSome, Slots, body_at}
 use Rattle.ob_arena.proofs.Phasing.{held_slot}
 use Rattle.ob_arena.proofs.arena.Arena.get.Goals as goal
 

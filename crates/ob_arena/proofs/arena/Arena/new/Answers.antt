@@ -1,5 +1,4 @@
-use Rattle.std.proofs.Common.{arith}
-use Rattle.std.proofs.lemmas.List.{length-replicate}
+use Rattle.ob_arena.proofs.Cited.{arith, length-replicate}
 use Rattle.ob_arena.proofs.Phasing.{tied_new}
 use Rattle.ob_arena.proofs.arena.Arena.new.Goals as goal
 

@@ -1,10 +1,5 @@
-use Rattle.std.proofs.Common.{get_or, ℕ}
-use Rattle.std.proofs.Common.{arith}
-use Rattle.std.specs.Prelude.{is_some}
+use Rattle.ob_arena.proofs.Cited.{get_or, ℕ, arith, is_some, Vacant, is_occupied, body_at}
 use Rattle.least.proofs.NextLemmas.{same_test}
-use Rattle.ob_arena.specs.declared.phase.Phase.TheVariants.{Vacant}
-use Rattle.ob_arena.specs.Phases.{is_occupied}
-use Rattle.ob_arena.specs.Slots.{body_at}
 use Rattle.ob_arena.proofs.Phasing.{occupied_at}
 use Rattle.ob_arena.proofs.arena.Arena.next_occupied.Goals as goal
 

@@ -1,8 +1,4 @@
-use Rattle.std.proofs.Common.{◌∙◌, refl, sym, ap, length, length-set, set, List}
-use Rattle.std.specs.Prelude.{Option}
-use Rattle.ob_arena.specs.declared.phase.Phase.TheVariants.{Occupied}
-use Rattle.ob_arena.specs.Slots.{Slots, is_vacant_at, with_body}
-use Rattle.ob_arena.specs.Arena.{slots_shown}
+use Rattle.ob_arena.proofs.Cited.{◌∙◌, refl, sym, ap, length, length-set, set, List, Option, Occupied, Slots, is_vacant_at, with_body, slots_shown}
 use Rattle.ob_arena.proofs.Phasing.{free_slot, tied_put, shown_put, retied}
 use Rattle.ob_arena.proofs.arena.Arena.put.Goals as goal
 

@@ -1,6 +1,4 @@
-use Rattle.std.proofs.Common.{◌∙◌, ap}
-use Rattle.std.proofs.Common.{arith}
-use Rattle.ob_arena.specs.Slots.{Slots, is_vacant_at}
+use Rattle.ob_arena.proofs.Cited.{◌∙◌, ap, arith, Slots, is_vacant_at}
 use Rattle.ob_arena.proofs.Phasing.{free_slot, tied_retire, shown_retire}
 use Rattle.ob_arena.proofs.arena.Arena.retire.Goals as goal
 

@@ -1,9 +1,4 @@
-use Rattle.std.proofs.Common.{◌∙◌, refl, sym, ap, subst, length, length-set, set, List}
-use Rattle.std.proofs.Common.{arith}
-use Rattle.std.specs.Prelude.{IsSome, Option}
-use Rattle.ob_arena.specs.declared.phase.Phase.TheVariants.{Vacant}
-use Rattle.ob_arena.specs.Slots.{Slots, body_at, without_body}
-use Rattle.ob_arena.specs.Arena.{slots_shown}
+use Rattle.ob_arena.proofs.Cited.{◌∙◌, refl, sym, ap, subst, length, length-set, set, List, arith, IsSome, Option, Vacant, Slots, body_at, without_body, slots_shown}
 use Rattle.ob_arena.proofs.Phasing.{held_slot, held_number, tied_take, shown_take, retied, vacant_taken_from}
 use Rattle.ob_arena.proofs.arena.Arena.take.Goals as goal
 

@@ -1,5 +1,4 @@
-use denote.RattleType.{RattleType}
-use denote.Param.Send.{IsSend}
+use Rattle.ob_arena.proofs.Cited.{RattleType, IsSend}
 use Rattle.ob_arena.proofs.StorageThreads.{storage_send}
 use Rattle.ob_arena.specs.contracts.storage.Storage.{the_row}
 

@@ -1,5 +1,4 @@
-use denote.RattleType.{RattleType}
-use denote.Param.Send.{IsSync}
+use Rattle.ob_arena.proofs.Cited.{RattleType, IsSync}
 use Rattle.ob_arena.proofs.StorageThreads.{storage_sync}
 use Rattle.ob_arena.specs.contracts.storage.Storage.{the_row}
 

@@ -1,7 +1,6 @@
 -- `empty` reads a body, and its slot is room again.
 use Rattle.ob_arena.proofs.Steps.{◌≡◌, refl, sym, subst, ◌∙◌, ℕ, ◌+◌, ◌*◌, ◌<◌, ◌^◌, arith, List, [], ◌∷◌, ◌++◌, length, set, get_or, length-set, Ura, full_share, SProp, ent, sep, never, id⊢, Lft, GName, Share, ftrue, fat, froom, flft, fobs, fbor, Fn, named, w64, inst_fn, Val, vptr, vint, Env, Calls, Loops, WpFn, Tables, Logic, fact, tables, tables_of, WpFn-mono, Borrowed, Item, at_ret, ⋆, ‵, ◌⊛◌, some, given, learn, pick, ◌$◌, ◌∵◌, !, qed, by, move, keep, use1, use2, split, join, rewrite, fsplit, fsplit3, fjoin, fjoin3, feq_i, feq_l, flt_l, flt_i, suffices, frame, done, whole, sub, stop, fld, of_opd, bin, size_lit, load, look, first, blocks, exec, returns, enter, alloc_all, pass_all, free_all, look_at, get, get_in, through, sets, sets_last, take_at, give_at, env, RefMutOf, usize, yes, no, mem, layout, owns, Ptr, in_a_block, MutBor, MutRef, plain, nothing, opens, closes, spared, Clauses, Ended, closing, on_entry, Meets, triple_of, entered, run_framed, needs, Stays, stay_dropped, stay_ref, walk_of, ends_at, Goes-dropped, Goes-ref, walk_Meets, Some, None, El, R, args, elτ, times_below, one_below, as_raw, Good, word, word-Good, after}
-use Rattle.ob_arena.specs.Slots.{IsFilled}
-use Rattle.ob_arena.specs.Memory.{slot, slots, storage_owns}
+use Rattle.ob_arena.proofs.Cited.{IsFilled, slot, slots, storage_owns}
 use Rattle.ob_arena.proofs.StorageMemory.{StorageOf, FrontOf, sz, Slot, pointer_had, says_both, body_out, filled_within, Others, slot_out, slot_in}
 use Rattle.ob_arena.specs.contracts.storage.Storage.empty.Key.{name as #self}
 use Rattle.ob_arena.proofs.storage.Storage.empty.Statement as stated

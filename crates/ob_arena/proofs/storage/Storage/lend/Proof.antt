@@ -1,7 +1,6 @@
 -- `lend` gives a `&mut` to a body, and the storage follows what is written there.
 use Rattle.ob_arena.proofs.Steps.{◌≡◌, refl, sym, subst, ◌∙◌, ℕ, ◌+◌, ◌*◌, ◌<◌, ◌^◌, arith, List, [], ◌∷◌, ◌++◌, length, set, get_or, length-set, Ura, full_share, SProp, ent, sep, never, id⊢, Lft, GName, Share, Fml, ftrue, fsep, fat, flft, fobs, fbor, Fn, named, w64, inst_fn, Val, vptr, vint, Env, Calls, Loops, WpFn, Tables, Logic, sem, fact, tables, tables_of, WpFn-mono, Borrowed, Item, at_ret, ⋆, ‵, raw, ◌⊛◌, some, later, await, pick, group, ◌$◌, ◌∵◌, !, qed, by, move, keep, use1, use2, split, join, rewrite, fsplit, fsplit3, fjoin, fjoin3, fpack, feq_l, flt_l, flt_i, suffices, frame, done, whole, sub, stop, fld, of_opd, bin, size_lit, addr, first, blocks, exec, returns, enter, alloc_all, pass_all, free_all, look_at, get, get_in, through, sets, sets_last, take_at, give_at, env, RefMutOf, usize, no, mem, cell_at, part_of, layout, owns, Ptr, block_ptr, in_a_block, MutBor, MutRef, plain, mut_ref_to, nothing, opens, spared, follows, Part, lends_Part, Clauses, Ended, closing, on_entry, Meets, triple_of, entered, run_framed, says, needs, Stays, stay_dropped, walk_of, ends_at, Goes-dropped, Goes-spent_ref, walk_Meets, Some, None, El, R, args, el_x, times_below, one_below, word, word-Good, after}
-use Rattle.ob_arena.specs.Slots.{IsFilled}
-use Rattle.ob_arena.specs.Memory.{slot, slots, storage_owns}
+use Rattle.ob_arena.proofs.Cited.{IsFilled, slot, slots, storage_owns}
 use Rattle.ob_arena.specs.StorageLends.{with_slots}
 use Rattle.ob_arena.proofs.StorageMemory.{StorageOf, FrontOf, Mark, sz, Slot, pointer_had, filled_within, Others, slot_out, slot_in}
 use Rattle.ob_arena.specs.contracts.storage.Storage.lend.Key.{name as #self}

@@ -1,7 +1,6 @@
 -- `show` gives a `&` to the body that the storage lends.
 use Rattle.ob_arena.proofs.Steps.{◌≡◌, refl, sym, subst, ◌∙◌, ℕ, ◌+◌, ◌*◌, ◌<◌, ◌^◌, arith, List, [], ◌∷◌, ◌++◌, length, get_or, Ura, full_share, SProp, ent, never, id⊢, Lft, Share, ftrue, fat, flft, Fn, named, w64, inst_fn, Val, vptr, vint, Env, Calls, Loops, WpFn, Tables, Logic, fact, tables, tables_of, WpFn-mono, Item, at_ret, ⋆, ‵, ◌⊛◌, ◌$◌, ◌∵◌, !, qed, by, move, keep, skip, use1, split, join, rewrite, fsplit, fjoin, feq_i, feq_l, flt_l, suffices, frame, done, whole, sub, stop, fld, of_opd, bin, size_lit, addr, first, blocks, exec, returns, enter, alloc_all, pass_all, free_all, look_at, get, get_in, through, sets, sets_last, take_at, give_at, env, RefOf, usize, yes, no, hidden_shr, hide, unhide, layout, owns, Ptr, in_a_block, Bor, ShrRef, plain, nothing, spared, Clauses, Ended, closing, on_entry, Meets, triple_of, entered, run_framed, says, needs, Stays, stay_dropped, walk_of, ends_at, Goes-dropped, walk_Meets, Some, None, El, R, args, el_x, times_below, one_below, word, word-Good, after}
-use Rattle.ob_arena.specs.Slots.{IsFilled}
-use Rattle.ob_arena.specs.Memory.{slot_lent, storage_lends}
+use Rattle.ob_arena.proofs.Cited.{IsFilled, slot_lent, storage_lends}
 use Rattle.ob_arena.proofs.StorageMemory.{StorageOf, FrontOf, sz, Slot, pointer_had, filled_within, slot_seen}
 use Rattle.ob_arena.specs.contracts.storage.Storage.show.Key.{name as #self}
 use Rattle.ob_arena.proofs.storage.Storage.show.Statement as stated

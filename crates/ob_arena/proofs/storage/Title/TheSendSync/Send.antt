@@ -1,6 +1,4 @@
-use denote.RattleType.{RattleType}
-use denote.Param.Send.{IsSend, Frees}
-use Rattle.std.specs.declared.alloc.Allocator.{Ghosts}
+use Rattle.ob_arena.proofs.Cited.{RattleType, IsSend, Frees, Ghosts}
 use Rattle.ob_arena.proofs.StorageThreads.{title_send}
 use Rattle.ob_arena.specs.contracts.storage.Title.{the_row}
 

@@ -1,6 +1,4 @@
-use denote.RattleType.{RattleType}
-use denote.Param.Send.{IsSync}
-use Rattle.std.specs.declared.alloc.Allocator.{Ghosts}
+use Rattle.ob_arena.proofs.Cited.{RattleType, IsSync, Ghosts}
 use Rattle.ob_arena.proofs.StorageThreads.{title_sync}
 use Rattle.ob_arena.specs.contracts.storage.Title.{the_row}
 
