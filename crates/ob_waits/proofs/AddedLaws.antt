@@ -1,17 +1,5 @@
 -- One more wait at the end.
-use Rattle.ob_codec.proofs.AtPlace.{at_place}
-use Rattle.std.proofs.Common.{◌≡◌, ℕ, zero, suc, ◌<◌, ◌≤◌, List, [], ◌∷◌, ◌++◌, length, Option, Some, None, refl, ◌∙◌, sym, arith, get_or, Bool, true, false, inl, inr}
-use Rattle.std.specs.List.{list_any}
-use Rattle.std.specs.Prelude.{◌==◌, ◌⊎◌}
-use Rattle.std.proofs.lemmas.List.{get_or_past, get_or_append_left, get_or_push, length_push}
-use Rattle.pin_core.specs.declared.id.Id.{Id}
-use Rattle.ob_waits.specs.declared.wait.Mode.{Mode}
-use Rattle.ob_waits.specs.declared.wait.Wait.{Wait}
-use Rattle.ob_waits.specs.declared.wait.State.TheVariants.{Answered}
-use Rattle.ob_waits.specs.Rules.{thread_of, IsWaitable, WaitWaitable, Within}
-use Rattle.ob_waits.specs.RisingNumbers.{IsOrdered, numbers_of}
-use Rattle.ob_waits.specs.Waits.{new_wait, nowhere, is_code, is_pending, names_slot, number_of}
-use Rattle.ob_waits.specs.PendingIndex.{PendingIndex, IsRight, HasPlace, IsTracked}
+use Rattle.ob_waits.proofs.Cited.{at_place, ◌≡◌, ℕ, zero, suc, ◌<◌, ◌≤◌, List, [], ◌∷◌, ◌++◌, length, Option, Some, None, refl, ◌∙◌, sym, arith, get_or, Bool, true, false, inl, inr, list_any, ◌==◌, ◌⊎◌, get_or_past, get_or_append_left, get_or_push, length_push, Id, Mode, Wait, Answered, thread_of, IsWaitable, WaitWaitable, Within, IsOrdered, numbers_of, new_wait, nowhere, is_code, is_pending, names_slot, number_of, PendingIndex, IsRight, HasPlace, IsTracked}
 use Rattle.ob_waits.proofs.TrackedLaws.{no_number}
 
 -- some element passes

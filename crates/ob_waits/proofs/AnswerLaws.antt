@@ -1,14 +1,5 @@
 -- The answered waits are known in order while waits come, are answered and go.
-use Rattle.ob_codec.proofs.AtPlace.{at_place}
-use Rattle.std.proofs.Common.{◌≡◌, ◌≢◌, ◌⊎◌, ℕ, ◌+◌, ◌<◌, ◌≤◌, List, [], ◌∷◌, ◌++◌, ◌-◌, length, Option, Some, None, refl, ap, ◌∙◌, sym, subst, arith, get_or, set, true, false, inl, inr}
-use Rattle.std.specs.Prelude.{IfSome}
-use Rattle.std.proofs.lemmas.List.{length-set, get_or_past, get_or_push, get_or-set_same, get_or-set_other}
-use Rattle.std.proofs.lemmas.Bool.{cases_eq}
-use Rattle.least.specs.From.{IsAtMost, IsLeastFrom}
-use Rattle.ob_waits.specs.declared.wait.Wait.{Wait}
-use Rattle.ob_waits.specs.Answers.{is_answered, AnsweredNumbers, IsAnswered, AreToldBut, AreTold, ThinsAnswered}
-use Rattle.ob_waits.specs.Rules.{thread_of, IsRising, Within}
-use Rattle.ob_waits.specs.Waits.{answered, is_pending}
+use Rattle.ob_waits.proofs.Cited.{at_place, ◌≡◌, ◌≢◌, ◌⊎◌, ℕ, ◌+◌, ◌<◌, ◌≤◌, List, [], ◌∷◌, ◌++◌, ◌-◌, length, Option, Some, None, refl, ap, ◌∙◌, sym, subst, arith, get_or, set, true, false, inl, inr, IfSome, length-set, get_or_past, get_or_push, get_or-set_same, get_or-set_other, cases_eq, IsAtMost, IsLeastFrom, Wait, is_answered, AnsweredNumbers, IsAnswered, AreToldBut, AreTold, ThinsAnswered, thread_of, IsRising, Within, is_pending}
 use Rattle.ob_waits.proofs.AddedLaws.{by_number}
 use Rattle.ob_waits.proofs.NumberLaws.{last_most, within_left, within_last}
 
@@ -23,10 +14,6 @@ told_room {u = u} {u' = u'} queue out_of_order longer told = record {
   each = search arith;
   placed = search arith;
 }
-
-unanswered : (w : Option Wait) → is_pending w ≡ true → is_answered w ≡ false
-unanswered None h = absurd (cc (h))
-unanswered (Some w) h = search arith
 
 -- a wait comes, of a thread that had none; one that is answered still has to be told
 pub told_came : (ws : List (Option Wait)) (w : Wait) (u : AnsweredNumbers) → w.thread < length u.out_of_order
@@ -59,35 +46,10 @@ told_came ws w u place told = record {
 -- one that is pending hasn't
 pub told_added : (ws : List (Option Wait)) (w : Wait) (u : AnsweredNumbers) → is_pending (Some w) ≡ true
     → w.thread < length u.out_of_order → AreTold ws u → AreTold (ws ++ Some w ∷ []) u
-told_added ws w u pending place told = record {
-  rising = came.rising;
-  out_of_order = came.out_of_order;
-  each = λ t n apart own. search (arith, get_or_push, came.each);
-  placed = came.placed;
-}
+told_added ws w u pending place told = search (arith, get_or_push, came.each, came.out_of_order, came.placed, came.rising)
   where
     came : AreToldBut (Some (length ws)) (ws ++ Some w ∷ []) u
     came = told_came ws w u place told
-
-pub told_answered : (ws : List (Option Wait)) (n code : ℕ) (u : AnsweredNumbers) → is_pending (get_or ws n None) ≡ true
-    → AreTold ws u → AreToldBut (Some n) (set ws n (answered (get_or ws n None) code)) u
-told_answered ws n code u pending told = record {
-  rising = told.rising;
-  out_of_order = λ t m h. let old = told.out_of_order t m h in elim (cases_eq m n) [
-    | inl same ↦ absurd (let passes : is_answered (get_or ws n None) ≡ true =
-        search arith in
-        let no' = unanswered (get_or ws n None) pending in cc (passes, no'))
-    | inr other ↦ subst (IsAnswered t) (sym (get_or-set_other ws n m x None other)) old
-  ];
-  each = search (arith, get_or-set_other);
-  placed = λ t m own. told.placed t m (sym (same m) ∙ own);
-}
-  where
-    x : Option Wait
-    x = answered (get_or ws n None) code
-
-    same : (m : ℕ) → thread_of (get_or (set ws n x) m None) ≡ thread_of (get_or ws m None)
-    same m = grind (arith, at_place)
 
 -- and its number is put at the end of the list, or at its thread
 pub told_fresh : (ws : List (Option Wait)) (n : ℕ) (u u' : AnsweredNumbers) → u'.queue ≡ u.queue ++ n ∷ []
@@ -99,19 +61,6 @@ told_fresh ws n u u' queue out_of_order rising told = record {
   each = search (arith, within_last, within_left);
   placed = search arith;
 }
-
-pub told_late : (ws : List (Option Wait)) (n t : ℕ) (u : AnsweredNumbers) → IsAnswered t (get_or ws n None)
-    → ((m : ℕ) → thread_of (get_or ws m None) ≡ Some t → m ≡ n) → AreToldBut (Some n) ws u
-    → AreTold ws (record u { out_of_order = set u.out_of_order t (Some n) })
-told_late ws n t u own alone told = record {
-  rising = told.rising;
-  out_of_order = search (arith, get_or-set_other, get_or-set_same);
-  each = λ s m apart h. search (arith, get_or-set_other, get_or-set_same);
-  placed = search (arith, length-set);
-}
-  where
-    place : t < length u.out_of_order
-    place = told.placed t n own.0
 
 -- a wait goes
 module _ (ws : List (Option Wait)) (n t : ℕ) (own : thread_of (get_or ws n None) ≡ Some t) where
@@ -125,7 +74,7 @@ module _ (ws : List (Option Wait)) (n t : ℕ) (own : thread_of (get_or ws n Non
     out_of_order = λ s m h. let old = told.out_of_order s m h in subst (IsAnswered s) (sym (get_or-set_other ws n m None None (λ same.
         let e : Some t ≡ Some s = search arith in
         let thread : t ≡ s = cc (e) in free (ap (λ i. get_or u.out_of_order i None) thread ∙ h ∙ ap Some same)))) old;
-    each = λ s m apart h. search (arith, get_or-set_same, get_or_past, get_or-set_other);
+    each = search (arith, get_or-set_other, get_or-set_same, get_or_past);
     placed = λ s m h. told.placed s m (was m s h);
   }
 
@@ -142,7 +91,7 @@ module _ (ws : List (Option Wait)) (n t : ℕ) (own : thread_of (get_or ws n Non
           search arith in
           other (let thread : s ≡ t = cc (e) in thread)))) old
     ];
-    each = λ s m apart h. search (arith, get_or-set_same, get_or_past, get_or-set_other);
+    each = search (arith, get_or-set_other, get_or-set_same, get_or_past);
     placed = search (arith, get_or-set_other, get_or-set_same, get_or_past, length-set);
   }
 
@@ -177,10 +126,8 @@ least_told ws u after first second result told passes above least passes' above'
   least = λ n le own.
       let thread = answered_thread (get_or ws n None) own in
       elim (told.each thread.0 n (λ e. cc (e)) thread.1) [
-        | inl w ↦
-            search arith
-        | inr at ↦
-            search arith
+        | inl w ↦ search arith
+        | inr at ↦ search arith
       ];
 }
 

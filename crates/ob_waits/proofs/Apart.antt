@@ -1,14 +1,6 @@
 -- A wait is ready or not by the bodies of the slots that it names; so after a change in some slots, only waits that
 -- name one can become ready.
-use Rattle.std.proofs.Common.{◌≡◌, ℕ, ◌<◌, List, [], ◌∷◌, length, Option, Some, None, refl, arith, get_or, set, Bool, true, eqb}
-use Rattle.std.specs.List.{position_or_len, list_any, list_all}
-use Rattle.std.proofs.lemmas.List.Folds.{list_any_at}
-use Rattle.std.proofs.lemmas.List.{get_or-set_other}
-use Rattle.pin_core.specs.declared.id.Id.{Id}
-use Rattle.ob_body.specs.declared.body.Body.{Body}
-use Rattle.ob_waits.specs.declared.wait.Wait.{Wait}
-use Rattle.ob_waits.specs.Rules.{IsSettled, IsReadyAt}
-use Rattle.ob_waits.specs.Waits.{nowhere, is_ready, first_signaled, names_slot}
+use Rattle.ob_waits.proofs.Cited.{◌≡◌, ℕ, ◌<◌, List, [], ◌∷◌, length, Option, None, refl, arith, get_or, set, Bool, true, eqb, position_or_len, list_any, list_all, list_any_at, get_or-set_other, Id, Body, Wait, IsSettled, IsReadyAt, nowhere, is_ready, first_signaled, names_slot}
 
 abbrev pub in_slot : ℕ → Id → Bool
 in_slot k id = eqb id.slot k
@@ -47,8 +39,7 @@ first_same bodies after t ids same = search (arith, first_agree)
 pub ready_same : (bodies after : List (Option Body)) (w : Option Wait)
     → ((k : ℕ) → names_slot k w ≡ true → get_or after k None ≡ get_or bodies k None)
     → is_ready after w ≡ is_ready bodies w
-ready_same bodies after None same = refl
-ready_same bodies after (Some w) same = search (arith, all_agree, first_same)
+ready_same = search (arith, all_agree, first_same)
 
 -- The theorem: where no wait was ready and one slot changed, each wait that is ready names the slot.
 pub ready_named : (bodies : List (Option Body)) (waits : List (Option Wait)) (k : ℕ) (x : Option Body)

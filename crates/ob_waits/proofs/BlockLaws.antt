@@ -1,16 +1,6 @@
 -- The blocks of an object, counted along a list of numbers.
-use Rattle.ob_codec.proofs.AtPlace.{at_place}
-use Rattle.std.proofs.Common.{◌≡◌, ℕ, suc, ◌-◌, ◌+◌, ◌<◌, ◌≤◌, List, [], ◌∷◌, length, Option, None, refl, ap, ◌∙◌, arith, get_or, set, inl, inr, Bool, true, false}
-use Rattle.std.specs.Prelude.{sum_by, count_by, ◌==◌}
-use Rattle.std.specs.List.{list_any}
+use Rattle.ob_waits.proofs.Cited.{at_place, ◌≡◌, ℕ, suc, ◌-◌, ◌+◌, ◌<◌, ◌≤◌, List, [], ◌∷◌, length, Option, None, refl, ap, ◌∙◌, arith, get_or, set, inl, inr, true, sum_by, count_by, ◌==◌, list_any, Id, Wait, blocks_in, names_slot, ids_of, get_or_past, get_or-set_other, set_past, sum_by-cons, sum_by-set, Within, IsRising, IsOrdered}
 use Rattle.pin_core.specs.Holds.{same_id}
-use Rattle.pin_core.specs.declared.id.Id.{Id}
-use Rattle.ob_waits.specs.declared.wait.Wait.{Wait}
-use Rattle.ob_waits.specs.Waits.{blocks_in, names_slot, ids_of}
-use Rattle.std.proofs.lemmas.List.{get_or_past, get_or-set_other, set_past}
-use Rattle.std.proofs.lemmas.List.Sums.{sum_by-cons, sum_by-set}
-use Rattle.ob_waits.specs.Rules.{Within, IsRising}
-use Rattle.ob_waits.specs.RisingNumbers.{IsOrdered}
 use Rattle.ob_waits.proofs.Writes.{set_none}
 
 sum_same : (g h : ℕ → ℕ) (ns : List ℕ) → ((k : ℕ) → Within k ns → g k ≡ h k) → sum_by g ns ≡ sum_by h ns
@@ -64,14 +54,7 @@ length-ordered m ns numbers = let le = ordered_below 0 m ns numbers.rising (λ k
 ids_named : (id : Id) (ids : List Id) → 0 < count_by (same_id id) ids
     → list_any (λ (x : Id). x.slot == id.slot) ids ≡ true
 ids_named id [] some = absurd (omega arith)
-ids_named id (x ∷ ids) some = by (x.slot == id.slot) refl (ids_named id ids)
-  where
-    by : (b : Bool) → (x.slot == id.slot) ≡ b → (0 < count_by (same_id id) ids
-        → list_any (λ (y : Id). y.slot == id.slot) ids ≡ true)
-        → list_any (λ (y : Id). y.slot == id.slot) (x ∷ ids) ≡ true
-    by true is rest = grind arith
-    by false is rest = let later : list_any (λ (y : Id). y.slot == id.slot) ids ≡ true =
-        rest (grind arith) in grind arith
+ids_named id (x ∷ ids) some = search (arith, ids_named id ids)
 
 pub blocks_named : (id : Id) (w : Option Wait) → 0 < blocks_in id w → names_slot id.slot w ≡ true
 blocks_named id w some = ids_named id (ids_of w) some

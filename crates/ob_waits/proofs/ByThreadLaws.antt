@@ -1,13 +1,6 @@
 -- What is found by each number at its thread, and how that changes.
-use Rattle.std.proofs.Common.{◌≡◌, ◌<◌, ◌≤◌, ◌+◌, ℕ, suc, List, Option, Some, None, refl, ap, ◌∙◌, sym, subst, arith, get_or, cond, inl, inr, eqb}
-use Rattle.std.proofs.lemmas.Bool.{cases_eq}
+use Rattle.ob_waits.proofs.Cited.{◌≡◌, ◌<◌, ◌≤◌, ◌+◌, ℕ, suc, List, Option, Some, None, refl, ap, ◌∙◌, sym, subst, arith, get_or, cond, inl, inr, eqb, cases_eq, Wait, NumberedWait, listed, IsSparse, thread_of, AreByThread, IsOfThread, answered_at, found, number_at, wait_of_thread, wait_at, answered, number_of}
 use Rattle.std.proofs.lemmas.Option.{same_Some, none-some}
-use Rattle.ob_waits.specs.declared.wait.Wait.{Wait}
-use Rattle.ob_waits.specs.declared.numbered_wait.NumberedWait.{NumberedWait}
-use Rattle.ob_waits.specs.Listed.{listed, IsSparse}
-use Rattle.ob_waits.specs.Rules.{thread_of}
-use Rattle.ob_waits.specs.ByThread.{AreByThread, IsOfThread, answered_at, found, number_at, wait_of_thread, wait_at}
-use Rattle.ob_waits.specs.Waits.{answered, number_of}
 use Rattle.ob_waits.proofs.ListedLaws.{value_at}
 use Rattle.ob_waits.proofs.PlaceLaws.{alike}
 use Rattle.ob_waits.proofs.TrackedLaws.{no_number, number_is, number_none}
@@ -15,13 +8,11 @@ use Rattle.ob_waits.proofs.TrackedLaws.{no_number, number_is, number_none}
 -- what has a number, or a wait, is there
 number_there : (p : Option NumberedWait) (n : ℕ) → number_at p ≡ Some n
     → (h : NumberedWait) × (p ≡ Some h) × (h.number ≡ n)
-number_there None n is = absurd (none-some n is)
-number_there (Some h) n is = (h, refl, same_Some h.number n is)
+number_there = search (arith, none-some, same_Some)
 
 wait_there : (p : Option NumberedWait) (w : Wait) → wait_at p ≡ Some w
     → (h : NumberedWait) × (p ≡ Some h) × (h.wait ≡ w)
-wait_there None w is = absurd (none-some w is)
-wait_there (Some h) w is = (h, refl, same_Some h.wait w is)
+wait_there = search (arith, none-some, same_Some)
 
 module _ (given : ℕ) (by_thread : List (Option NumberedWait)) (threads : ℕ → Option ℕ)
     (s : AreByThread given by_thread threads) where
@@ -38,7 +29,7 @@ module _ (given : ℕ) (by_thread : List (Option NumberedWait)) (threads : ℕ �
           let at = wait_there (get_or by_thread t None) w (ap (λ o. wait_at (wait_of_thread by_thread o)) (sym e) ∙ is) in
           let own = s.each t at.0 at.1 in
           let same : at.0.number ≡ n = search arith in
-          let thread : w.thread ≡ t = ap (λ (x : Wait). x.thread) (sym at.2) ∙ own.own in search arith
+          let thread : w.thread ≡ t = search arith in search arith
 
   none : (n : ℕ) → (0 < n → n ≤ given → ⊥) → found by_thread threads n ≡ None
   none n out = by (found by_thread threads n) refl
@@ -70,11 +61,7 @@ module _ (given : ℕ) (by_thread : List (Option NumberedWait)) (threads : ℕ �
 
   pub number_held : (t n : ℕ) → thread_of (get_or (listed (suc given) (found by_thread threads)) n None) ≡ Some t
       → number_at (get_or by_thread t None) ≡ Some n
-  number_held t n own = by (found by_thread threads n) refl
-    where
-      by : (o : Option Wait) → found by_thread threads n ≡ o → number_at (get_or by_thread t None) ≡ Some n
-      by None e = search (arith, number_reads)
-      by (Some w) e = search (arith, found_of_thread, number_reads)
+  number_held t n own = search (arith, found_of_thread, number_reads)
 
   pub number_held_is : (t : ℕ) → number_at (get_or by_thread t None)
       ≡ number_of t (listed (suc given) (found by_thread threads))
@@ -99,9 +86,6 @@ module _ (given : ℕ) (by_thread : List (Option NumberedWait)) (threads : ℕ �
 -- lists by thread, and threads, that read as they did
 module _ (given : ℕ) (by_thread by_thread' : List (Option NumberedWait)) (threads threads' : ℕ → Option ℕ) (same : (i : ℕ)
     → get_or by_thread' i None ≡ get_or by_thread i None) (known : (q : ℕ) → threads' q ≡ threads q) where
-  pub same_found : (q : ℕ) → found by_thread' threads' q ≡ found by_thread threads q
-  same_found q = search arith
-
   pub same_by_thread : AreByThread given by_thread threads → AreByThread given by_thread' threads'
   same_by_thread s = record {
     each = λ t h is. let old = s.each t h (sym (same t) ∙ is) in
@@ -123,10 +107,6 @@ module _ (given given' n t : ℕ) (x : Option ℕ) (y : Option NumberedWait) (by
   other : (i : ℕ) → (t ≡ i → ⊥) → get_or by_thread' i None ≡ get_or by_thread i None
   other i apart = search arith
 
-  pub changed_found : (q : ℕ) → found by_thread' threads' q
-      ≡ cond (eqb n q) (wait_at (wait_of_thread by_thread' x)) (found by_thread threads q)
-  changed_found q = search arith
-
   pub changed_by_thread : AreByThread given' by_thread' threads'
   changed_by_thread = record {
     each = λ u h is. elim (cases_eq t u) [
@@ -136,11 +116,7 @@ module _ (given given' n t : ℕ) (x : Option ℕ) (y : Option NumberedWait) (by
           let fits = old.fits in
           search arith
     ];
-    is_there = λ q u is. elim (cases_eq n q) [
-      | inl same ↦ let at = stands u (sym (known q ∙ alike n q x (threads q) same) ∙ is) in
-          search arith
-      | inr apart ↦ search arith
-    ];
+    is_there = search (arith, alike);
   }
 
 -- a wait comes to stand at its thread, with the next number
@@ -187,8 +163,7 @@ module _ (given n t : ℕ) (by_thread by_thread' : List (Option NumberedWait)) (
         search arith
 
     number_still : (p : Option NumberedWait) → number_at (answered_at code p) ≡ number_at p
-    number_still None = refl
-    number_still (Some h) = refl
+    number_still = search arith
 
     pub answered_found : (q : ℕ) → found by_thread' threads q
         ≡ cond (eqb n q) (answered (found by_thread threads n) code) (found by_thread threads q)

@@ -1,20 +1,11 @@
 -- How the numbers of blocks change with the waits, by slot and by Id.
-use Rattle.std.proofs.Common.{◌≡◌, ℕ, ◌+◌, ◌*◌, ◌<◌, ◌≤◌, List, [], ◌∷◌, ◌++◌, length, Option, Some, None, refl, ap, ◌∙◌, subst, arith, get_or, set, map, Bool, true, false, cond}
-use Rattle.std.specs.Prelude.{count_by, sum_by, ◌==◌}
-use Rattle.std.specs.List.{list_any}
-use Rattle.std.proofs.lemmas.List.{length-set, length-map, get_or_past, get_or-set_same, get_or-set_other, get_or-map, ext_get_or}
+use Rattle.ob_waits.proofs.Cited.{◌≡◌, ℕ, ◌+◌, ◌*◌, ◌<◌, ◌≤◌, List, [], ◌∷◌, ◌++◌, length, Option, Some, None, refl, ap, ◌∙◌, subst, arith, get_or, set, map, Bool, true, false, cond, count_by, sum_by, ◌==◌, list_any, length-set, length-map, get_or_past, get_or-set_same, get_or-set_other, ext_get_or, sum_by-cons, sum_by-append, sum_by-le, get_or-le-sum_by, count_by-le-length, false_from_ne_true, Id, Mode, Wait, thread_of, WaitsInvariant, nowhere, new_wait, answered, ids_of, names_slot, slot_places, slot_blocks, blocks_in, blocks_among, Scene, is_ready, effect, settled, number_of, numbered_ids, thread_ids, is_waits_of, unless_of}
+use Rattle.std.proofs.lemmas.List.{get_or-map}
 use Rattle.std.proofs.lemmas.List.Elements.{All-from_get_or}
 use Rattle.std.proofs.lemmas.List.Quantifiers.{position-Some}
-use Rattle.std.proofs.lemmas.List.Sums.{sum_by-cons, sum_by-append, sum_by-le, get_or-le-sum_by, count_by-le-length}
-use Rattle.std.proofs.lemmas.Bool.{false_from_ne_true}
 use Rattle.pin_core.specs.Holds.{same_id}
-use Rattle.pin_core.specs.declared.id.Id.{Id}
-use Rattle.ob_waits.specs.declared.wait.Mode.{Mode}
-use Rattle.ob_waits.specs.declared.wait.Wait.{Wait}
-use Rattle.ob_waits.specs.Rules.{thread_of, WaitsInvariant}
-use Rattle.ob_waits.specs.Waits.{nowhere, new_wait, answered, ids_of, names_slot, slot_places, slot_blocks, blocks_in, blocks_among, Scene, is_ready, effect, settled, answered_wait, number_of, numbered_ids, thread_ids, is_waits_of, unless_of}
 use Rattle.ob_waits.proofs.BlockLaws.{sum_cleared}
-use Rattle.ob_waits.proofs.Settling.{answers, settled_by_effects}
+use Rattle.ob_waits.proofs.Settling.{settled_by_effects}
 use Rattle.ob_waits.proofs.TrackedLaws.{thread_waits, waits_thread, no_number}
 
 -- a wait becomes pending
@@ -69,8 +60,7 @@ sum_dropped : (f : Option Wait → ℕ) (g : List Id → ℕ) → ((w : Option W
 sum_dropped f g same zero t ws kept = by (number_of t ws) refl
   where
     by : (n : Option ℕ) → number_of t ws ≡ n → sum_by f (map (unless_of t) ws) + g (thread_ids t ws) ≡ sum_by f ws
-    by None is =
-        search (arith, dropped_missing)
+    by None is = search (arith, dropped_missing)
     by (Some n) is =
         let all = ap (sum_by f) (dropped_found ws t n kept is) in
         let ids = ap (λ m. g (numbered_ids ws m)) is in
@@ -94,8 +84,7 @@ places_named k (x ∷ xs) h = by (x.slot == k) refl (places_named k xs)
         → 0 < slot_places k (x ∷ xs)
     by true is later = let e = sum_by-cons (λ (y : Id). cond (y.slot == k) 1 0) x xs in
         search arith
-    by false is later = let e = sum_by-cons (λ (y : Id). cond (y.slot == k) 1 0) x xs in
-        let some = later (grind arith) in omega arith
+    by false is later = search (arith, sum_by-cons)
 
 -- each place of a list counts in its slot
 pub places_at : (ids : List Id) (i : ℕ) → i < length ids → 0 < slot_places (get_or ids i nowhere).slot ids
@@ -128,10 +117,7 @@ slot_blocks-few k ws kept = sum_by-le (λ w. slot_places k (ids_of w)) 64 ws
 -- settling answers waits
 blocks_effect : (id : Id) (s : Scene) (n : ℕ) → is_ready s.objects.bodies (get_or s.waits n None) ≡ true
     → blocks_among id (effect s n).waits ≤ blocks_among id s.waits
-blocks_effect id s n ready =
-    let a = answers s n ready in
-    let e = ap (blocks_among id) a.waits in
-    let c = sum_cleared (blocks_in id) refl s.waits n (answered_wait a.wait a.code) refl in omega arith
+blocks_effect id s n ready = search (arith, sum_cleared)
 
 pub blocks_settled : (id : Id) (scene : Scene) → blocks_among id (settled scene).waits ≤ blocks_among id scene.waits
 blocks_settled id scene = settled_by_effects (λ (a b : Scene). blocks_among id b.waits ≤ blocks_among id a.waits)

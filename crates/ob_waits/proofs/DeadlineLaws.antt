@@ -1,45 +1,19 @@
 -- Deadlines go on being ahead and listed while waits come, are answered and go, and the code finds those that are over.
-use Rattle.ob_codec.proofs.AtPlace.{at_place}
-use Rattle.std.proofs.Common.{◌≡◌, ◌⊎◌, ℕ, ◌++◌, ◌∷◌, [], ◌<◌, ◌≤◌, List, length, Option, Some, None, refl, ap, ◌∙◌, sym, subst, arith, get_or, set, true, false, inl, inr}
-use Rattle.std.specs.Prelude.{IfSome, is_some, map}
-use Rattle.std.proofs.Math.ListN.{get_or-map}
-use Rattle.std.proofs.lemmas.List.{get_or-set_same, get_or-set_other}
-use Rattle.std.proofs.lemmas.Bool.{cases_eq}
+use Rattle.ob_waits.proofs.Cited.{at_place, ◌≡◌, ◌⊎◌, ℕ, ◌++◌, ◌∷◌, [], ◌<◌, ◌≤◌, List, length, Option, Some, None, refl, ap, ◌∙◌, sym, arith, get_or, set, true, false, inl, inr, IfSome, is_some, map, get_or-map, get_or-set_same, get_or-set_other, cases_eq, Id, Mode, Wait, Answered, AreListed, AreTimely, deadline_of, is_overdue, IsAfter, thread_of, new_wait, number_of}
 use Rattle.least.specs.Dues.{is_by, IsLeast, NotAfter}
 use Rattle.ob_body.specs.Timer.{is_due}
-use Rattle.pin_core.specs.declared.id.Id.{Id}
-use Rattle.ob_waits.specs.declared.wait.Mode.{Mode}
-use Rattle.ob_waits.specs.declared.wait.Wait.{Wait}
-use Rattle.ob_waits.specs.declared.wait.State.TheVariants.{Answered}
-use Rattle.ob_waits.specs.Deadlines.{AreListed, AreTimely, deadline_of, is_overdue}
-use Rattle.ob_waits.specs.Form.{IsAfter}
-use Rattle.ob_waits.specs.CountedBodies.{CountedBodies}
-use Rattle.ob_waits.specs.Rules.{thread_of}
-use Rattle.ob_waits.specs.Waits.{Scene, new_wait, number_of, settled}
 use Rattle.ob_waits.proofs.AddedLaws.{by_number}
 use Rattle.ob_waits.proofs.Keeping.{Fade}
-use Rattle.ob_waits.proofs.Staying.{settled_stays}
 use Rattle.ob_waits.proofs.TrackedLaws.{no_number}
 
 -- a wait is what it was, or has no deadline any more
 abbrev Follows : Option Wait → Option Wait → Type 0
 Follows old new = (new ≡ old) ⊎ (deadline_of new ≡ None)
 
-pub timely_by : (clock : ℕ) (ws ws' : List (Option Wait)) (dues : List (Option ℕ))
-    → ((n : ℕ) → Follows (get_or ws n None) (get_or ws' n None)) → AreTimely clock ws dues → AreTimely clock ws' dues
-timely_by clock ws ws' dues follows timely = search arith
-
 -- some waits were answered
 pub timely_faded : (clock : ℕ) (ws ws' : List (Option Wait)) (dues : List (Option ℕ)) → Fade ws ws'
     → AreTimely clock ws dues → AreTimely clock ws' dues
 timely_faded clock ws ws' dues fade timely = search arith
-
-pub timely_settled : (clock : ℕ) (before after : CountedBodies) (ws ws' : List (Option Wait)) (dues : List (Option ℕ))
-    → ◌≡◌ {A = Scene} (record { objects = after; waits = ws' }) (settled (record { objects = before; waits = ws }))
-    → AreTimely clock ws dues → AreTimely clock ws' dues
-timely_settled clock before after ws ws' dues value timely =
-    timely_faded clock ws ws' dues (subst (Fade ws) (sym (ap (λ (s : Scene). s.waits) value))
-    (settled_stays (record { objects = before; waits = ws })).fade) timely
 
 -- one went
 pub timely_removed : (clock : ℕ) (ws : List (Option Wait)) (n : ℕ) (dues : List (Option ℕ)) → AreTimely clock ws dues
@@ -86,8 +60,7 @@ pub timely_answered : (clock : ℕ) (ws : List (Option Wait)) (t code : ℕ) (d 
     → number_of t ws ≡ None
     → AreTimely clock ws dues → AreTimely clock (ws
     ++ Some (record { thread = t; deadline = d; state = Answered code }) ∷ []) dues
-timely_answered clock ws t code d dues alone timely =
-    grind (arith, at_place)
+timely_answered clock ws t code d dues alone timely = grind (arith, at_place)
 
 -- where none that is listed is due, no wait is overdue
 pub none_overdue : (now : ℕ) (ws : List (Option Wait)) (dues : List (Option ℕ))
@@ -111,7 +84,7 @@ listed_at ws dues n d listed is = by (get_or ws n None) refl
   where
     by : (w : Option Wait) → get_or ws n None ≡ w → (t : ℕ) × (get_or dues t None ≡ Some d)
     by None at = search arith
-    by (Some w) at = (w.thread, listed.each n w.thread d (ap thread_of at) is)
+    by (Some w) at = (w.thread, search arith)
 
 not_before_least : (ws : List (Option Wait)) (dues : List (Option ℕ)) (least : Option ℕ) → AreListed ws dues
     → IsLeast dues least → (n d : ℕ) → get_or (map deadline_of ws) n None ≡ Some d → NotAfter least d
@@ -144,5 +117,4 @@ least_deadline ws dues n due listed is over = record {
 pub least_overdue : (ws : List (Option Wait)) (dues : List (Option ℕ)) (n : Option ℕ) (due : ℕ) → AreListed ws dues
     → IsLeast dues (Some due) → is_some n ≡ true → IfSome n (λ m. is_overdue due (get_or ws m None) ≡ true)
     → IsLeast (map deadline_of ws) (Some due)
-least_overdue ws dues None due listed is some over = absurd (cc (some))
-least_overdue ws dues (Some n) due listed is some over = search (arith, least_deadline)
+least_overdue = search (arith, least_deadline)

@@ -1,13 +1,6 @@
 -- What relates the bodies of a slot before and after a change, said of all slots: where it relates a body to what a
 -- thread leaves of it, and to none, a satisfied wait and the blocks that leave keep to it.
-use Rattle.std.proofs.Common.{arith, ℕ, List, [], ◌∷◌, Option, None, get_or, set, Bool, true, false, cond}
-use Rattle.ob_codec.proofs.AtPlace.{at_place}
-use Rattle.pin_core.specs.declared.id.Id.{Id}
-use Rattle.ob_body.specs.declared.body.Body.{Body}
-use Rattle.ob_waits.specs.declared.wait.Mode.{Mode}
-use Rattle.ob_waits.specs.declared.wait.Mode.TheVariants.{Any, All}
-use Rattle.ob_waits.specs.CountedBodies.{CountedBodies, slot_acquired, without_block, without_blocks}
-use Rattle.ob_waits.specs.Waits.{with_acquired, with_all_acquired, bodies_after}
+use Rattle.ob_waits.proofs.Cited.{arith, ℕ, List, [], ◌∷◌, Option, None, get_or, set, Bool, cond, at_place, Id, Body, Mode, CountedBodies, slot_acquired, without_block, without_blocks, with_acquired, with_all_acquired, bodies_after}
 
 abbrev pub Bodies : Type 0
 Bodies = List (Option Body)
@@ -34,17 +27,15 @@ module _ (R : Option Body → Option Body → Type 0) (same : (x : Option Body) 
 
     pub slots-taken : (mode : Mode) (ids : List Id) (bodies : Bodies)
         → EachSlot R bodies (bodies_after mode u bodies ids)
-    slots-taken Any ids bodies = search (arith, slots-one)
-    slots-taken All ids bodies = slots-all ids bodies
+    slots-taken = search (arith, slots-one, slots-all)
 
     module _ (ends : (x : Option Body) → R x None) where
       slots-if : (b : Bool) (bodies : Bodies) (i : ℕ) → EachSlot R bodies (cond b (set bodies i None) bodies)
-      slots-if true bodies i = search (arith, slots-set)
-      slots-if false bodies i = λ k. same (get_or bodies k None)
+      slots-if = search (arith, slots-set)
 
       slots-left : (ids : List Id) (objects : CountedBodies)
           → EachSlot R objects.bodies (without_blocks objects ids).bodies
-      slots-left [] objects = λ k. same (get_or objects.bodies k None)
+      slots-left [] objects = search arith
       slots-left (id ∷ ids) objects = search (arith, slots-both, slots-if, slots-left ids (without_block objects id))
 
       -- a wait of the thread is satisfied, and its blocks leave

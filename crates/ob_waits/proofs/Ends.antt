@@ -1,17 +1,5 @@
 -- Objects end where their last block leaves: what that keeps.
-use Rattle.std.proofs.Common.{◌≡◌, ℕ, ◌+◌, ◌-◌, List, [], ◌∷◌, length, Option, Some, None, refl, ◌∙◌, arith, get_or, cond, eqb}
-use Rattle.std.specs.Prelude.{is_some}
-use Rattle.std.proofs.lemmas.List.{length-set, get_or-set_other}
-use Rattle.pin_core.specs.declared.id.Id.{Id}
-use Rattle.ob_body.specs.declared.body.Body.{Body}
-use Rattle.ob_waits.specs.declared.wait.Mode.{Mode}
-use Rattle.ob_waits.specs.declared.wait.Mode.TheVariants.{Any, All}
-use Rattle.ob_waits.specs.declared.wait.Wait.{Wait}
-use Rattle.ob_waits.specs.declared.wait.State.{State}
-use Rattle.ob_waits.specs.declared.wait.State.TheVariants.{Pending, Answered}
-use Rattle.ob_waits.specs.CountedBodies.{CountedBodies, slot_acquired, bodies_left, without_block, without_blocks}
-use Rattle.ob_waits.specs.Rules.{HasBodies}
-use Rattle.ob_waits.specs.Waits.{nowhere, first_signaled, with_acquired, with_all_acquired, bodies_after, Scene, effect_of, effect_at, settled}
+use Rattle.ob_waits.proofs.Cited.{◌≡◌, ℕ, ◌+◌, ◌-◌, List, [], ◌∷◌, length, Option, Some, None, refl, ◌∙◌, arith, get_or, cond, eqb, is_some, length-set, get_or-set_other, Id, Body, Mode, Wait, State, Pending, Answered, CountedBodies, slot_acquired, bodies_left, without_block, without_blocks, HasBodies, with_acquired, with_all_acquired, bodies_after, Scene, effect_of, effect_at, settled}
 use Rattle.ob_waits.proofs.Settling.{settled_by_effects}
 use Rattle.ob_waits.proofs.EachSlot.{slots-taken}
 use Rattle.ob_waits.proofs.References.{left_one}
@@ -22,8 +10,7 @@ abbrev HasStill : Option Body → Option Body → Type 0
 HasStill x y = is_some y ≡ is_some x
 
 has_still : (t : ℕ) (x : Option Body) → HasStill x (slot_acquired t x)
-has_still t None = refl
-has_still t (Some b) = refl
+has_still = search arith
 
 -- a thread took what it waits for
 ends_taken : (mode : Mode) (t : ℕ) (ids : List Id) (objects : CountedBodies) → HasBodies objects
@@ -49,19 +36,16 @@ ends_all (id ∷ ids) objects has = ends_all ids (without_block objects id) (end
 
 ends_of : (scene : Scene) (n : ℕ) (w : Wait) (st : State) → HasBodies scene.objects
     → HasBodies (effect_of scene n w st).objects
-ends_of scene n w (Pending mode ids) has =
-    search (arith, ends_taken, ends_all)
-ends_of scene n w (Answered code) has = has
+ends_of = search (arith, ends_taken, ends_all)
 
 ends_at : (scene : Scene) (n : ℕ) (w : Option Wait) → HasBodies scene.objects → HasBodies (effect_at scene n w).objects
-ends_at scene n None has = has
-ends_at scene n (Some w) has = ends_of scene n w w.state has
+ends_at = search (arith, ends_of)
 
 -- The theorem: where a slot has a body exactly where something refers to its object, it still does after settling.
 pub ends_settled : (scene : Scene) → HasBodies scene.objects → HasBodies (settled scene).objects
 ends_settled scene = settled_by_effects (λ (a b : Scene). HasBodies a.objects
     → HasBodies b.objects) (λ s has. has) (λ a b c x y has. y (x has))
-    (λ s n ready. ends_at s n (get_or s.waits n None)) scene
+    (search (arith, ends_at)) scene
 
 -- handles stay, and no slot comes or goes
 pub record SameSizes (objects after : CountedBodies) : Type 0 where
@@ -86,9 +70,7 @@ length-all t (id ∷ ids) bodies = search (arith, length-set, length-all t ids (
 
 pub length-after : (mode : Mode) (t : ℕ) (bodies : List (Option Body)) (ids : List Id)
     → length (bodies_after mode t bodies ids) ≡ length bodies
-length-after Any t bodies ids = let id = get_or ids (first_signaled t bodies ids) nowhere in
-    search (arith, length-set)
-length-after All t bodies ids = length-all t ids bodies
+length-after = search (arith, length-all, length-set)
 
 sizes_of : (scene : Scene) (n : ℕ) (w : Wait) (st : State) → SameSizes scene.objects (effect_of scene n w st).objects
 sizes_of scene n w (Pending mode ids) =
@@ -96,7 +78,7 @@ sizes_of scene n w (Pending mode ids) =
     sizes_both scene.objects (record scene.objects { bodies = after })
     (without_blocks (record scene.objects { bodies = after }) ids)
     (search (arith, length-after))
-    (sizes_left ids (record scene.objects { bodies = after }))
+    (search (arith, sizes_left))
 sizes_of scene n w (Answered code) = sizes_same scene.objects
 
 sizes_at : (scene : Scene) (n : ℕ) (w : Option Wait) → SameSizes scene.objects (effect_at scene n w).objects
@@ -105,4 +87,4 @@ sizes_at scene n (Some w) = sizes_of scene n w w.state
 
 pub sizes_settled : (scene : Scene) → SameSizes scene.objects (settled scene).objects
 sizes_settled scene = settled_by_effects (λ (a b : Scene). SameSizes a.objects b.objects) (λ s. sizes_same s.objects)
-    (λ a b c. search arith) (λ s n ready. sizes_at s n (get_or s.waits n None)) scene
+    (λ a b c. search arith) (search (arith, sizes_at)) scene

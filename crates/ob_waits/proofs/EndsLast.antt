@@ -1,32 +1,11 @@
 -- To end an object where its last block leaves is to settle first and then end every object to which nothing refers.
-use Rattle.ob_codec.proofs.AtPlace.{at_place}
-use Rattle.std.proofs.Common.{◌≡◌, ℕ, zero, suc, ◌+◌, ◌-◌, ◌<◌, List, [], ◌∷◌, length, Option, Some, None, refl, ap, ◌∙◌, sym, subst, arith, get_or, set, Bool, true, false, cond, inl, inr, eqb, ltb}
-use Rattle.std.specs.Prelude.{is_some}
-use Rattle.std.specs.List.{position_or_len, list_any}
-use Rattle.std.proofs.lemmas.List.{length-set, get_or_past, ext_get_or}
+use Rattle.ob_waits.proofs.Cited.{at_place, ◌≡◌, ℕ, zero, suc, ◌+◌, ◌-◌, ◌<◌, List, [], ◌∷◌, length, Option, None, refl, ap, ◌∙◌, sym, subst, arith, get_or, set, Bool, true, false, cond, inl, inr, eqb, ltb, position_or_len, list_any, length-set, get_or_past, ext_get_or, passes_at_first, cases_lt, lt-ltb, le-ltb, nat_tests, Id, Body, Mode, Wait, State, Pending, Answered, CountedBodies, slot_acquired, blocks_left, without_block, without_blocks, HasBodies, HasBlocks, all_blocks_left, plain_effect, plain_effect_of, plain_effect_at, settled_plainly, settled_plainly_within, slot_ended, body_ended, ended, with_ends, nowhere, is_abandoned, first_signaled, list_ready, state_ready, is_ready, first_ready, with_acquired, with_all_acquired, bodies_after, code_of, ids_of, state_ids, Scene, effect, effect_of, effect_at, settled, settled_within}
 use Rattle.std.proofs.lemmas.List.FromFn.{get_or-map-range_with_len, length-map-range_with_len}
-use Rattle.std.proofs.lemmas.List.Sums.{passes_at_first}
-use Rattle.std.proofs.lemmas.Bool.{cases_lt, lt-ltb, le-ltb}
-use Rattle.std.proofs.lemmas.Bool.Decides.{nat_tests}
-use Rattle.pin_core.specs.declared.id.Id.{Id}
-use Rattle.ob_body.specs.declared.body.Body.{Body}
-use Rattle.ob_waits.specs.declared.wait.Mode.{Mode}
 use Rattle.ob_waits.specs.declared.wait.Mode.TheVariants.{Any, All}
-use Rattle.ob_waits.specs.declared.wait.Wait.{Wait}
-use Rattle.ob_waits.specs.declared.wait.State.{State}
-use Rattle.ob_waits.specs.declared.wait.State.TheVariants.{Pending, Answered}
-use Rattle.ob_waits.specs.CountedBodies.{CountedBodies, slot_acquired, blocks_left, without_block, without_blocks}
-use Rattle.ob_waits.specs.Rules.{HasBodies}
-use Rattle.ob_waits.specs.Ends.{HasBlocks, all_blocks_left, plain_effect, plain_effect_of, plain_effect_at, settled_plainly, settled_plainly_within, slot_ended, body_ended, ended, with_ends}
-use Rattle.ob_waits.specs.Waits.{nowhere, is_abandoned, first_signaled, list_ready, state_ready, is_ready, first_ready, with_acquired, with_all_acquired, bodies_after, code_of, ids_of, state_ids, Scene, effect, effect_of, effect_at, settled, settled_within}
 use Rattle.ob_waits.proofs.Settling.{settled_first}
 use Rattle.ob_waits.proofs.References.{counts_at}
 use Rattle.ob_waits.proofs.Apart.{in_slot, SameAt, named_at, any_agree, first_same, ready_same}
 use Rattle.ob_waits.proofs.Counted.{named_counts}
-
--- slot by slot
-pub ended_none : (handles blocks : ℕ) → slot_ended handles blocks None ≡ None
-ended_none handles blocks = search arith
 
 pub ended_at : (objects : CountedBodies) (k : ℕ) → get_or (ended objects).bodies k None ≡ body_ended objects k
 ended_at objects k = search (arith, get_or-map-range_with_len, get_or_past, length-map-range_with_len)
@@ -38,14 +17,8 @@ is_ended objects bodies len each = ext_get_or None bodies (ended objects).bodies
 pub length-ended : (objects : CountedBodies) → length (ended objects).bodies ≡ length objects.bodies
 length-ended objects = search (arith, length-map-range_with_len)
 
--- where each slot has a body exactly where something refers to it, nothing is left to end
-pub unended : (handles blocks : ℕ) (x : Option Body) → is_some x ≡ ltb 0 (handles + blocks)
-    → x ≡ slot_ended handles blocks x
-unended handles blocks x has = search arith
-
 pub none_to_end : (objects : CountedBodies) → HasBodies objects → objects ≡ ended objects
-none_to_end objects has =
-    search (arith, is_ended)
+none_to_end objects has = search (arith, is_ended)
 
 one_ended : (t : ℕ) (objects : CountedBodies) (id : Id) →
     with_acquired t (ended objects).bodies id ≡ (ended
@@ -56,7 +29,7 @@ one_ended t objects id = is_ended (record objects { bodies = with_acquired t obj
     (grind (arith, nat_tests, at_place, ended_at))
   where
     x : Option Body
-    x = slot_acquired t (get_or (ended objects).bodies id.slot None)
+    x = grind (arith, nat_tests, at_place, id.slot)
 
     y : Option Body
     y = slot_acquired t (get_or objects.bodies id.slot None)
@@ -103,8 +76,7 @@ IsReferred objects ids = (k : ℕ) → list_any (in_slot k) ids ≡ true → 0 <
 
 bodies_same : (objects : CountedBodies) (ids : List Id) → IsReferred objects ids
     → SameAt objects.bodies (ended objects).bodies ids
-bodies_same objects ids has k named =
-    search (arith, ended_at)
+bodies_same objects ids has k named = search (arith, ended_at)
 
 ready_ended : (objects : CountedBodies) (w : Option Wait) → IsReferred objects (ids_of w)
     → is_ready (ended objects).bodies w ≡ is_ready objects.bodies w
@@ -128,15 +100,12 @@ code_ended Any t objects ids has ready =
     let lt : i < length ids = grind arith in
     let same = abandoned_ended objects ids has (get_or ids i nowhere) (named_at ids i lt) in
     search arith
-code_ended All t objects ids has ready = ap {B = ℕ} (λ b. cond b 128 0)
-    (search (arith, abandoned_ended, any_agree))
+code_ended All t objects ids has ready = ap {B = ℕ} (λ b. cond b 128 0) (search (arith, abandoned_ended, any_agree))
 
 after_ended : (mode : Mode) (t : ℕ) (objects : CountedBodies) (ids : List Id) → IsReferred objects ids
     → bodies_after mode t (ended objects).bodies ids
     ≡ (ended (record objects { bodies = bodies_after mode t objects.bodies ids })).bodies
-after_ended Any t objects ids has =
-    search (arith, one_ended, first_ended)
-after_ended All t objects ids has = all_ended t ids objects
+after_ended = search (arith, one_ended, all_ended, first_ended)
 
 -- so an effect is a plain effect and ends after it
 effect_of_ended : (scene : Scene) (n : ℕ) (w : Wait) (st : State) → IsReferred scene.objects (state_ids st)
@@ -153,8 +122,7 @@ effect_of_ended scene n w (Answered code) has ready = absurd (cc)
 
 effect_at_ended : (scene : Scene) (n : ℕ) (w : Option Wait) → IsReferred scene.objects (ids_of w)
     → is_ready scene.objects.bodies w ≡ true → effect_at (with_ends scene) n w ≡ with_ends (plain_effect_at scene n w)
-effect_at_ended scene n None has ready = absurd (cc)
-effect_at_ended scene n (Some w) has ready = effect_of_ended scene n w w.state has ready
+effect_at_ended = search (arith, effect_of_ended)
 
 referred : (scene : Scene) → HasBlocks scene → (n : ℕ) → IsReferred scene.objects (ids_of (get_or scene.waits n None))
 referred scene has n k named = search (arith, named_counts, has.each)
@@ -188,7 +156,7 @@ lockstep (suc fuel) scene has =
     let first : first_ready (ended scene.objects).bodies scene.waits ≡ k = first_ready_ended scene has in
     elim (cases_lt k (length scene.waits)) [
       | inl lt ↦ (let ready : is_ready scene.objects.bodies (get_or scene.waits k None) ≡ true =
-          passes_at_first (is_ready scene.objects.bodies) scene.waits None lt in
+          search (arith, passes_at_first) in
           let ready' : is_ready (ended scene.objects).bodies (get_or scene.waits k None) ≡ true =
           search (arith, ended_at, ready_same, named_counts) in
           settled_first fuel (with_ends scene) k ready' first

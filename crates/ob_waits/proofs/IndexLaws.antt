@@ -1,11 +1,5 @@
 -- The lists of the slots, where one of them changes.
-use Rattle.std.proofs.lemmas.Bool.Decides.{nat_tests}
-use Rattle.ob_codec.proofs.AtPlace.{at_place}
-use Rattle.std.proofs.Common.{arith, ◌≡◌, ℕ, ◌<◌, List, length, Option, get_or, set}
-use Rattle.std.proofs.lemmas.List.{get_or_read}
-use Rattle.ob_waits.specs.declared.wait.Wait.{Wait}
-use Rattle.ob_waits.specs.Rules.{Within}
-use Rattle.ob_waits.specs.RisingNumbers.{IsOrdered, numbers_of, AreOrdered, KeepsPending, KeepsEach, Thins, ThinsEach}
+use Rattle.ob_waits.proofs.Cited.{nat_tests, at_place, arith, ◌≡◌, ℕ, ◌<◌, List, length, Option, get_or, set, get_or_read, Wait, Within, IsOrdered, numbers_of, AreOrdered, KeepsPending, KeepsEach, Thins, ThinsEach}
 use Rattle.ob_waits.proofs.NumberLaws.{thins_both}
 
 thins_changed : (waits : List (Option Wait)) (lists : List (List ℕ)) (k : ℕ) (new : List ℕ)

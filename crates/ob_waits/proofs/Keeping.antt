@@ -1,12 +1,5 @@
 -- What the waits keep while some of them are answered.
-use Rattle.ob_codec.proofs.AtPlace.{at_place}
-use Rattle.std.proofs.Common.{◌≡◌, ℕ, List, [], ◌∷◌, length, Option, Some, None, refl, ap, ◌∙◌, sym, subst, arith, get_or, set, Bool, true, false, inl, inr}
-use Rattle.std.proofs.lemmas.List.{get_or-set_same, get_or-set_other}
-use Rattle.std.proofs.lemmas.Bool.{cases_eq}
-use Rattle.ob_body.specs.declared.body.Body.{Body}
-use Rattle.ob_waits.specs.declared.wait.Wait.{Wait}
-use Rattle.ob_waits.specs.Rules.{WaitWaitable, thread_of, WaitsInvariant, WaitHasRoom, WaitsHaveRoom, Fits}
-use Rattle.ob_waits.specs.Waits.{is_code, is_ready, Scene, answered_wait, effect, passed, settled, is_pending, names_slot}
+use Rattle.ob_waits.proofs.Cited.{nat_tests, at_place, ◌≡◌, ℕ, List, [], ◌∷◌, length, Option, Some, None, refl, ap, sym, subst, arith, get_or, set, Bool, true, false, inl, inr, get_or-set_same, get_or-set_other, cases_eq, Body, Wait, WaitWaitable, thread_of, WaitsInvariant, WaitHasRoom, WaitsHaveRoom, Fits, is_code, is_ready, Scene, answered_wait, effect, passed, settled, is_pending, names_slot}
 use Rattle.ob_waits.proofs.Settling.{Answers, answers, ready_within, RoomKept, settled_by_effects}
 
 -- a wait is what it was, or answered
@@ -17,10 +10,6 @@ pub record Fades (old new : Option Wait) : Type 0 where
   pub pending : is_pending new ≡ true → is_pending old ≡ true
   pub stays : is_pending new ≡ true → new ≡ old
 
-pub fades_answered : (w : Wait) (code : ℕ) → (WaitWaitable (Some w) → is_code code ≡ true)
-    → Fades (Some w) (answered_wait w code)
-fades_answered w code coded = search arith
-
 -- some waits were answered
 pub record Fade (old new : List (Option Wait)) : Type 0 where
   pub len : length new ≡ length old
@@ -30,10 +19,7 @@ pub fade_none : (ws : List (Option Wait)) → Fade ws ws
 fade_none ws = search arith
 
 pub fade_both : (a b c : List (Option Wait)) → Fade a b → Fade b c → Fade a c
-fade_both a b c ab bc = record {
-  len = bc.len ∙ ab.len;
-  each = λ n. let x = ab.each n in let y = bc.each n in search arith;
-}
+fade_both a b c ab bc = search arith
 
 -- the wait of one number was
 pub fade_one : (ws : List (Option Wait)) (n code : ℕ) (w : Wait) → get_or ws n None ≡ Some w
@@ -42,8 +28,7 @@ fade_one ws n code w own coded = grind (arith, at_place)
 
 pub effect_fades : (scene : Scene) (n : ℕ) → is_ready scene.objects.bodies (get_or scene.waits n None) ≡ true
     → Fade scene.waits (effect scene n).waits
-effect_fades scene n ready = let a = answers scene n ready in
-    subst (λ ws. Fade scene.waits ws) (sym a.waits) (fade_one scene.waits n a.code a.wait a.own a.coded)
+effect_fades scene n ready = grind (arith, nat_tests, at_place, fade_one)
 
 -- a pass answers some waits
 pub passed_fades : (ns : List ℕ) (scene : Scene) → Fade scene.waits (passed ns scene).waits
@@ -60,9 +45,7 @@ effect_kept scene n ready k = search (arith, effect_fades, kept_faded)
 -- an effect leaves the room of the other threads, and the waits that are pending are theirs
 pub room_other : (limit u : ℕ) (bodies after : List (Option Body)) (w : Option Wait) → RoomKept limit u bodies after
     → (thread_of w ≡ Some u → ⊥) → WaitHasRoom limit bodies w → WaitHasRoom limit after w
-room_other limit u bodies after None kept other room = tt
-room_other limit u bodies after (Some w) kept other room =
-    search arith
+room_other = search arith
 
 pub effect_room : (limit : ℕ) (scene : Scene) (n : ℕ) → is_ready scene.objects.bodies (get_or scene.waits n None) ≡ true
     → WaitsInvariant scene.waits → WaitsHaveRoom limit scene.objects.bodies scene.waits
@@ -120,4 +103,4 @@ settled_fits limit scene = settled_by_effects (λ (a b : Scene). Fits limit a.ob
 
 pub settled_fades : (scene : Scene) → Fade scene.waits (settled scene).waits
 settled_fades scene = settled_by_effects (λ (a b : Scene). Fade a.waits b.waits) (λ s. fade_none s.waits)
-    (λ a b c. fade_both a.waits b.waits c.waits) effect_fades scene
+    (search (arith, fade_both)) effect_fades scene

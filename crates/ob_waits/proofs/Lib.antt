@@ -32,3 +32,4 @@ pub mod StandingLaws
 pub mod ReadLaws
 pub mod WriteLaws
 pub mod RenewedLaws
+mod Cited

@@ -1,16 +1,6 @@
 -- Settling over the numbers of several slots: always the least number above the last one takes effect next.
-use Rattle.std.proofs.Common.{◌≡◌, ℕ, zero, suc, ◌<◌, ◌≤◌, List, [], ◌∷◌, length, Some, None, sym, subst, arith, eqb, get_or, Option, true, false, inl, inr, leb, leb-true}
+use Rattle.ob_waits.proofs.Cited.{◌≡◌, ℕ, zero, suc, ◌<◌, ◌≤◌, List, [], ◌∷◌, length, Some, None, sym, subst, arith, eqb, get_or, Option, true, false, inl, inr, leb, get_or_default, cases_lt, false_from_ne_true, Id, IsAtMost, list_any_at, IsNext, IsNextOf, numbers_of, slot_signaled, Within, IsRising, IsReadyBy, IsSettled, nowhere, Scene, has_slot, ids_of, is_ready, names_slot, passed, settled}
 use Rattle.std.specs.List.Sorted.{IsPartitionedBy, IsPartitionPoint}
-use Rattle.std.proofs.lemmas.List.{get_or_default}
-use Rattle.std.proofs.lemmas.Bool.{cases_lt, false_from_ne_true}
-use Rattle.pin_core.specs.declared.id.Id.{Id}
-use Rattle.least.specs.From.{IsAtMost}
-use Rattle.std.proofs.lemmas.List.Folds.{list_any_at}
-use Rattle.ob_waits.specs.RisingNumbers.{IsNext, IsNextOf, numbers_of}
-use Rattle.ob_waits.specs.CountedBodies.{slot_signaled}
-use Rattle.ob_waits.specs.Rules.{Within, IsRising, IsReadyAtOne, IsReadyBy, IsSettled}
-use Rattle.ob_waits.specs.PendingIndex.{AreIndexed}
-use Rattle.ob_waits.specs.Waits.{nowhere, Scene, has_slot, ids_of, is_ready, names_slot, passed, settled}
 use Rattle.ob_waits.proofs.Keeping.{passed_fades}
 use Rattle.ob_waits.proofs.Settling.{ready_pending}
 use Rattle.ob_waits.proofs.PassLaws.{by_passed, steps, unready}
@@ -30,8 +20,7 @@ within_index : (k : ℕ) (ns : List ℕ) → Within k ns → (i : ℕ) × (i < l
 within_index k [] w = absurd w
 within_index k (x ∷ ns) w = elim w [
   | inl same ↦ (zero, omega arith, sym same)
-  | inr later ↦ let at =
-      within_index k ns later in (suc at.0, (let lt = at.1 in omega arith), at.2)
+  | inr later ↦ let at = within_index k ns later in (suc at.0, (let lt = at.1 in omega arith), at.2)
 ]
 
 pub parted : (ns : List ℕ) (last : ℕ) → IsRising ns → IsPartitionedBy (λ n. leb n last) ns
@@ -40,31 +29,13 @@ parted ns last r = search (arith, rising_at)
 module _ (ns : List ℕ) (last at : ℕ) (rising : IsRising ns)
     (point : IsPartitionPoint (λ n. leb n last ≡ true) (λ n. leb n last ≡ false) ns at) where
   from_there : (k : ℕ) → Within k ns → last < k → (i : ℕ) × (at ≤ i) × (i < length ns) × (get_or ns i 0 ≡ k)
-  from_there k w above =
-      let i = within_index k ns w in (
-        i.0,
-        elim (cases_lt i.0 at) [
-          | inl lt ↦ absurd (let low : leb (get_or ns i.0 0) last ≡ true = point.0 i.0 0 (omega arith) lt in
-              let le = leb-true (get_or ns i.0 0) last low in let is = i.2 in omega arith)
-          | inr le ↦ le
-        ],
-        i.1,
-        i.2,
-      )
+  from_there k w above = search (arith, within_index, point.0)
 
   pub next_there : at < length ns → IsNext last ns (Some (get_or ns at 0))
-  next_there lt = record {
-    above = search arith;
-    least = λ k w above. let i = from_there k w above in let le = rising_at ns rising at i.0 0 i.1 i.2 in
-        let is = i.3 in omega arith;
-  }
+  next_there lt = search (arith, rising_at, from_there)
 
   pub next_none : length ns ≤ at → IsNext last ns None
-  next_none past = record {
-    above = tt;
-    least = λ k w above. let i = from_there k w above in let a = i.1 in
-        let b = i.2 in absurd (omega arith);
-  }
+  next_none past = search (arith, from_there)
 
 -- what is ready is so by one of the slots, and stands above the last number; the slots have the numbers of all waits
 -- that name them
@@ -72,10 +43,6 @@ pub record Remains (last : ℕ) (lists : List (List ℕ)) (ids : List Id) (s : S
   pub above : (k : ℕ) → is_ready s.objects.bodies (get_or s.waits k None) ≡ true → last < k
   pub by : IsReadyBy (has_slot ids) s.objects.bodies s.waits
   pub listed : (slot k : ℕ) → names_slot slot (get_or s.waits k None) ≡ true → Within k (numbers_of lists slot)
-
-pub remains_first : (ids : List Id) (order : List ℕ) (lists : List (List ℕ)) (s : Scene) → get_or s.waits 0 None ≡ None
-    → AreIndexed s.waits order lists → IsReadyAtOne ids s.objects.bodies s.waits → Remains 0 lists ids s
-remains_first ids order lists s none a at = search arith
 
 pub record Goes (m : ℕ) (lists : List (List ℕ)) (ids : List Id) (s after : Scene) : Type 0 where
   pub same : settled after ≡ settled s

@@ -1,13 +1,6 @@
 -- A number put at the end of a list, and a list thinned.
-use Rattle.std.proofs.Common.{◌≡◌, ℕ, zero, suc, ◌+◌, ◌-◌, ◌<◌, ◌≤◌, List, [], ◌∷◌, ◌++◌, length, Option, None, refl, ap, ◌∙◌, sym, subst, arith, get_or, set, Bool, true, false, inl, inr, cond, take, drop}
-use Rattle.std.specs.Prelude.{◌⊎◌, filter}
+use Rattle.ob_waits.proofs.Cited.{◌≡◌, ℕ, zero, suc, ◌+◌, ◌-◌, ◌<◌, ◌≤◌, List, [], ◌∷◌, ◌++◌, length, Option, None, refl, ap, ◌∙◌, sym, arith, get_or, set, Bool, true, false, inl, inr, cond, take, drop, ◌⊎◌, filter, drop-append-le, drop-set, drop-take, drop_more, get_or_default, get_or-set_other, length-drop, length-set, length-take, take_more, take_more_set, cases_lt, Wait, Within, IsRising, IsOrdered, KeepsPending, ends_with, has_pending, Thins, is_pending}
 use Rattle.std.proofs.Math.Seq.{take-length}
-use Rattle.std.proofs.lemmas.List.{drop-append-le, drop-set, drop-take, drop_more, get_or_default, get_or-set_other, length-drop, length-set, length-take, take_more, take_more_set}
-use Rattle.std.proofs.lemmas.Bool.{cases_lt}
-use Rattle.ob_waits.specs.declared.wait.Wait.{Wait}
-use Rattle.ob_waits.specs.Rules.{Within, IsRising}
-use Rattle.ob_waits.specs.RisingNumbers.{IsOrdered, HasAll, KeepsPending, ends_with, has_pending, Thins}
-use Rattle.ob_waits.specs.Waits.{is_pending}
 
 pub within_left : (n m : ℕ) (ns : List ℕ) → Within n ns → Within n (ns ++ m ∷ [])
 within_left n m [] i = absurd i
@@ -21,8 +14,7 @@ pub within_either : (n m : ℕ) (ns : List ℕ) → Within n (ns ++ m ∷ []) �
 within_either n m [] i = search arith
 within_either n m (x ∷ ns) i = elim i [
   | inl same ↦ inl (inl same)
-  | inr later ↦
-      elim (within_either n m ns later) [ inl old ↦ inl (inr old) | inr last ↦ inr last ]
+  | inr later ↦ elim (within_either n m ns later) [ inl old ↦ inl (inr old) | inr last ↦ inr last ]
 ]
 
 pub rising_push : (m : ℕ) (ns : List ℕ) → ((k : ℕ) → Within k ns → k < m) → IsRising ns → IsRising (ns ++ m ∷ [])
@@ -30,8 +22,7 @@ rising_push m [] below r = ((λ k later. absurd later), tt)
 rising_push m (x ∷ ns) below r = (
   (λ k later. elim (within_either k m ns later) [
     | inl old ↦ r.0 k old
-    | inr last ↦
-        omega (arith, below x (inl refl))
+    | inr last ↦ omega (arith, below x (inl refl))
   ]),
   rising_push m ns (λ k i. below k (inr i)) r.1,
 )
@@ -41,11 +32,6 @@ pub within_at : (ns : List ℕ) (i : ℕ) → i < length ns → Within (get_or n
 within_at [] i lt = absurd (omega arith)
 within_at (x ∷ ns) zero lt = inl refl
 within_at (x ∷ ns) (suc i) lt = inr (within_at ns i (omega arith))
-
--- the last number is there
-pub within_end : (n : ℕ) (ns : List ℕ) → ends_with n ns ≡ true → Within n ns
-within_end n ns h =
-    search (arith, within_at)
 
 -- no number of a list is above its last
 pub last_most : (k x : ℕ) (ns : List ℕ) → IsRising (x ∷ ns) → Within k (x ∷ ns) → k ≤ get_or (x ∷ ns) (length ns) 0
@@ -83,16 +69,14 @@ last_replaced l m ns o =
 -- a list of numbers is what is before its last one, and that one; where another stands in its place, only that differs
 split_last : (items : List ℕ) → 0 < length items
     → items ≡ take (length items - 1) items ++ get_or items (length items - 1) 0 ∷ []
-split_last items some =
-    let all : length items - 1 + 1 ≡ length items = omega arith in
-    sym (take-length items) ∙ ap (λ m. take m items) (sym all) ∙ take_more items (length items - 1) 0 (omega arith)
+split_last items some = search (arith, take-length, take_more)
 
 split_set : (m : ℕ) (items : List ℕ) → 0 < length items
     → set items (length items - 1) m ≡ take (length items - 1) items ++ m ∷ []
 split_set m items some =
     let long : length (set items (length items - 1) m) ≡ length items = length-set items (length items - 1) m in
     let all : length items - 1 + 1 ≡ length items = omega arith in
-    sym (take-length (set items (length items - 1) m)) ∙ ap (λ k. take k (set items (length items - 1) m)) (long ∙ sym all)
+    sym (search (arith, take-length)) ∙ ap (λ k. take k (set items (length items - 1) m)) (long ∙ sym all)
     ∙ take_more_set items (length items - 1) m (omega arith)
 
 -- another number stands in the place of the last one
@@ -123,35 +107,19 @@ replaced {l = l} {m = m} {start = start} {end = end} items sizes in_order unequa
 
 module _ {l m : ℕ} {old new : List ℕ} (r : IsReplaced l m old new) where
   pub ordered_replaced : IsOrdered m old → IsOrdered m new
-  ordered_replaced o = subst (IsOrdered m) (sym r.is) (last_replaced l m r.front (subst (IsOrdered m) r.was o))
+  ordered_replaced o = search (arith, last_replaced, r.is, r.was)
 
   pub within_replaced : Within m new
-  within_replaced = subst (Within m) (sym r.is) (within_last m r.front)
+  within_replaced = search (arith, within_last)
 
   pub keeps_replaced : (waits : List (Option Wait)) → is_pending (get_or waits l None) ≡ false
       → KeepsPending waits old new
-  keeps_replaced waits over = record {
-    each = λ k pending i. subst (Within k) (sym r.is) (elim (within_either k l r.front (subst (Within k) r.was i)) [
-      | inl before ↦ within_left k m r.front before
-      | inr last ↦ absurd (let was = ap (λ n. is_pending (get_or waits n None)) last in cc (was, pending, over))
-    ]);
-  }
+  keeps_replaced waits over = search (arith, within_left, within_either)
 
   -- where that one is of a pending wait, and the other isn't, all are below the other
   pub below_pending : (waits : List (Option Wait)) → is_pending (get_or waits l None) ≡ true
       → is_pending (get_or waits m None) ≡ false → IsOrdered m old → (k : ℕ) → Within k old → k < m
-  below_pending waits pending fresh o k i =
-      let o' : IsOrdered m (r.front ++ l ∷ []) = subst (IsOrdered m) r.was o in
-      let most : l ≤ m = o'.below l (within_last l r.front) in
-      let below : l < m = elim (cases_lt l m) [
-        | inl lt ↦ lt
-        | inr le ↦ absurd (let same : l ≡ m = omega arith in
-            let was = ap (λ n. is_pending (get_or waits n None)) same in cc (was, pending, fresh))
-      ] in
-      elim (within_either k l r.front (subst (Within k) r.was i)) [
-        | inl before ↦ (let lt = below_last k l r.front o'.rising before in omega arith)
-        | inr last ↦ omega arith
-      ]
+  below_pending waits pending fresh o k i = search (arith, within_last, within_either, below_last, r.was)
 
 -- the numbers that pass, of the first ones, so many, and all others
 module _ (p : ℕ → Bool) where
@@ -223,12 +191,7 @@ thins_front waits count numbers new is = search (arith, sifted_is, sifted_within
 -- a first number whose wait is not pending leaves
 pub thins_first : (waits : List (Option Wait)) (ns : List ℕ) (i : ℕ) → i < length ns
     → is_pending (get_or waits (get_or ns i 0) None) ≡ false → Thins waits (drop i ns) (drop (i + 1) ns)
-thins_first waits ns i lt over = subst (λ (old : List ℕ). Thins waits old (drop (i + 1) ns)) (sym (drop_more ns i 0 lt))
-    (record {
-      rising = λ r. r.1;
-      only = λ k w. inr w;
-      keeps = search arith;
-    })
+thins_first waits ns i lt over = search (arith, drop_more)
 
 pub thins_both : (waits : List (Option Wait)) (a b c : List ℕ) → Thins waits a b → Thins waits b c → Thins waits a c
 thins_both waits a b c x y = search arith
@@ -236,12 +199,6 @@ thins_both waits a b c x y = search arith
 pub ordered_thinned : (m : ℕ) (waits : List (Option Wait)) (old new : List ℕ) → Thins waits old new → IsOrdered m old
     → IsOrdered m new
 ordered_thinned m waits old new t numbers = search arith
-
--- a thinned list still has the waits of a test that only pending waits pass
-pub all_thinned : (test : Option Wait → Bool) (waits : List (Option Wait)) (old new : List ℕ)
-    → ((w : Option Wait) → test w ≡ true → is_pending w ≡ true) → Thins waits old new → HasAll test old waits
-    → HasAll test new waits
-all_thinned test waits old new pending t all = search arith
 
 -- a list without its last number, of a wait that is not pending
 pub thins_last : (ws : List (Option Wait)) (old new : List ℕ) (n : ℕ) → old ≡ new ++ n ∷ []

@@ -1,25 +1,7 @@
 -- Numbers take effect one after another where they are ready: that is settling, as long as none that is ready is below
 -- the next.
-use Rattle.ob_codec.proofs.AtPlace.{at_place}
-use Rattle.std.proofs.Common.{◌≡◌, ℕ, zero, suc, ◌+◌, ◌<◌, ◌≤◌, List, [], ◌∷◌, length, Option, Some, None, refl, ◌∙◌, sym, subst, arith, drop, eqb, get_or, ltb, set, Bool, true, false, inl, inr}
-use Rattle.std.specs.List.{list_any}
-use Rattle.std.specs.Prelude.{◌&&◌, not, IfSome}
-use Rattle.std.proofs.lemmas.Bool.Decides.{nat_tests}
-use Rattle.std.proofs.lemmas.List.{drop_all, drop_more}
-use Rattle.std.proofs.lemmas.List.Folds.{list_any_at}
-use Rattle.std.proofs.lemmas.List.Sums.{count_by-le-length, fails_before_first, passes_at_first}
-use Rattle.std.proofs.lemmas.Bool.{cases_lt, true_from_ne_false}
-use Rattle.pin_core.specs.declared.id.Id.{Id}
-use Rattle.ob_body.specs.declared.body.Body.{Body}
-use Rattle.ob_waits.specs.declared.wait.Mode.{Mode}
+use Rattle.ob_waits.proofs.Cited.{at_place, ◌≡◌, ℕ, zero, suc, ◌+◌, ◌<◌, ◌≤◌, List, [], ◌∷◌, length, Option, Some, None, refl, ◌∙◌, sym, subst, arith, drop, eqb, get_or, set, Bool, true, false, inl, inr, list_any, ◌&&◌, not, IfSome, drop_all, drop_more, list_any_at, count_by-le-length, fails_before_first, passes_at_first, cases_lt, true_from_ne_false, Id, Body, Mode, Pending, Wait, numbers_of, Thins, CountedBodies, slot_signaled, AreIndexed, Covers, IsOnlyIn, IsReadyAt, IsReadyBy, IsRising, IsSettled, IsSpent, thread_of, nowhere, Scene, answered, is_ready, is_pending, ids_of, first_ready, first_signaled, is_signaled, effect, passed, settled, settled_within}
 use Rattle.ob_waits.specs.declared.wait.Mode.TheVariants.{Any}
-use Rattle.ob_waits.specs.declared.wait.State.TheVariants.{Pending}
-use Rattle.ob_waits.specs.declared.wait.Wait.{Wait}
-use Rattle.ob_waits.specs.RisingNumbers.{numbers_of, Thins}
-use Rattle.ob_waits.specs.CountedBodies.{CountedBodies, slot_signaled}
-use Rattle.ob_waits.specs.PendingIndex.{AreIndexed}
-use Rattle.ob_waits.specs.Rules.{Covers, IsOnlyIn, IsReadyAt, IsReadyBy, IsRising, IsSettled, IsSpent, thread_of}
-use Rattle.ob_waits.specs.Waits.{nowhere, Scene, answered, is_ready, is_pending, ids_of, first_ready, first_signaled, is_signaled, effect, passed, settled, settled_within}
 use Rattle.ob_waits.proofs.Keeping.{Fade}
 use Rattle.ob_waits.proofs.NumberLaws.{thins_both, thins_first}
 use Rattle.ob_waits.proofs.Settling.{pending_count, ready_within, ready_counted, ready_where, fewer, was_ready, answers, settled_at_end, settled_none, settled_same, settled_first, first_is}
@@ -37,7 +19,7 @@ settled_fuel (suc f) (suc g) s a b =
     let k = first_ready s.objects.bodies s.waits in
     elim (cases_lt k (length s.waits)) [
       | inl lt ↦ (let ready : is_ready s.objects.bodies (get_or s.waits k None) ≡ true =
-          passes_at_first (is_ready s.objects.bodies) s.waits None lt in
+          search (arith, passes_at_first) in
           let less = fewer s k lt ready in
           settled_first f s k ready refl ∙ settled_fuel f g (effect s k) (omega arith)
           (omega arith) ∙ sym (settled_first g s k ready refl))
@@ -62,15 +44,7 @@ pub record Steps (m : ℕ) (s after : Scene) : Type 0 where
 
 pub steps : (m : ℕ) (s : Scene) → ((k : ℕ) → is_ready s.objects.bodies (get_or s.waits k None) ≡ true → m ≤ k)
     → Steps m s (passed (m ∷ []) s)
-steps m s least = by (is_ready s.objects.bodies (get_or s.waits m None)) refl
-  where
-    by : (b : Bool) → is_ready s.objects.bodies (get_or s.waits m None) ≡ b → Steps m s (passed (m ∷ []) s)
-    by true ready = rw ready (record {
-      same = search (arith, settled_next);
-      later = λ k after. let w = was_ready s m k ready after in
-          (w.before, (let le = least k w.before in let other = w.other in omega arith));
-    })
-    by false none = search arith
+steps m s least = search (arith, settled_next, was_ready)
 
 -- the numbers of a list from an index on
 rising_drop : (i : ℕ) (ns : List ℕ) → IsRising ns → IsRising (drop i ns)
@@ -91,8 +65,7 @@ steps_on ns i s lt rising covers =
     let above : IsRising (m ∷ rest) = subst IsRising (drop_more ns i 0 lt) (rising_drop i ns rising) in
     let step = steps m s (λ k ready. elim (now.each k ready) [
       | inl same ↦ omega arith
-      | inr later ↦
-          (let lt = above.0 k later in omega arith)
+      | inr later ↦ (let lt = above.0 k later in omega arith)
     ]) in
     record {
       same = step.same;
@@ -117,10 +90,7 @@ module _ (changed : ℕ → Bool) (bodies : List (Option Body)) (ws : List (Opti
   -- one that is ready names a slot that changed
   pub names_changed : (n : ℕ) → is_ready bodies (get_or ws n None) ≡ true
       → list_any (λ (id : Id). changed id.slot) (ids_of (get_or ws n None)) ≡ true
-  names_changed n ready = true_from_ne_false _ (λ none.
-      let un = unready n (λ t i own lt is. absurd (let some =
-      list_any_at (λ (id : Id). changed id.slot) (ids_of (get_or ws n None)) i nowhere lt is in cc (some, none))) in
-      cc (un, ready))
+  names_changed n ready = search (arith, unready, list_any_at, true_from_ne_false)
 
   -- where no changed slot has anything for who waits, all is settled
   pub settled_spent : ((k : ℕ) → changed k ≡ true → IsSpent bodies ws k) → IsSettled bodies ws
@@ -160,23 +130,14 @@ pub answered_not_pending : (ws : List (Option Wait)) (n code : ℕ)
 answered_not_pending ws n code = grind (arith, at_place)
 
 -- what may leave a list still may, once more waits were answered
-pub thins_faded : (ws ws' : List (Option Wait)) (old new : List ℕ) → Fade ws ws' → Thins ws old new
-    → Thins ws' old new
-thins_faded ws ws' old new fade t = record {
-  rising = t.rising;
-  only = t.only;
-  keeps = λ k pending. t.keeps k ((fade.each k).pending pending);
-}
+pub thins_faded : (ws ws' : List (Option Wait)) (old new : List ℕ) → Fade ws ws' → Thins ws old new → Thins ws' old new
+thins_faded ws ws' old new fade t = search arith
 
 -- one more leaves the front of a list, where all before it may
 pub thins_on : (ws ws' : List (Option Wait)) (ns : List ℕ) (at : ℕ) (all pending : Bool) → Fade ws ws' → at < length ns
     → pending ≡ is_pending (get_or ws' (get_or ns at 0) None) → (all ≡ true → Thins ws ns (drop at ns))
     → not pending && all ≡ true → Thins ws' ns (drop (at + 1) ns)
-thins_on ws ws' ns at true true fade lt is before both = absurd (cc (both))
-thins_on ws ws' ns at false true fade lt is before both = absurd (cc (both))
-thins_on ws ws' ns at false false fade lt is before both = absurd (cc (both))
-thins_on ws ws' ns at true false fade lt is before both = thins_both ws' ns (drop at ns) (drop (at + 1) ns)
-    (thins_faded ws ws' ns (drop at ns) fade (before refl)) (thins_first ws' ns at lt (sym is))
+thins_on = search (arith, thins_faded, thins_both, thins_first)
 
 -- where none outside of a slot is signaled, none is before the first in the slot
 pub before_first : (given : Option ℕ) (slot place thread : ℕ) (bodies : List (Option Body)) (ids : List Id)
@@ -188,7 +149,7 @@ before_first given slot place thread bodies ids is most others only =
     elim (cases_lt k place) [
       | inl lt ↦
           (let yes : is_signaled thread bodies (get_or ids k nowhere) ≡ true =
-          passes_at_first (is_signaled thread bodies) ids nowhere (omega arith) in
+          search (arith, passes_at_first) in
           let none = only.others slot k is (omega arith) (others k lt) in
           absurd (cc (yes, none)))
       | inr le ↦ le
@@ -198,22 +159,4 @@ before_first given slot place thread bodies ids is most others only =
 pub only_in : (slot : Option ℕ) (bodies : List (Option Body)) (ws : List (Option Wait)) (n : ℕ) (w : Wait) (mode : Mode)
     (ids : List Id) → IfSome slot (λ s. IsReadyAt s bodies ws) → get_or ws n None ≡ Some w → w.state ≡ Pending mode ids
     → mode ≡ Any → IsOnlyIn slot w.thread bodies ids
-only_in None bodies ws n w mode ids ready at is any = record { others = λ s i none. absurd (cc none) }
-only_in (Some k) bodies ws n w mode ids ready at is any = record {
-  others = λ s i same lt other. by s i same lt other (slot_signaled w.thread (get_or bodies (get_or ids i nowhere).slot None))
-      refl;
-}
-  where
-    by : (s i : ℕ) → Some k ≡ Some s → i < length ids → ((get_or ids i nowhere).slot ≡ s → ⊥) → (b : Bool)
-        → slot_signaled w.thread (get_or bodies (get_or ids i nowhere).slot None) ≡ b → b ≡ false
-    by s i same lt other false now = refl
-    by s i same lt other true now =
-        let unready : is_ready ready.before (Some w) ≡ false = subst (λ x. is_ready ready.before x ≡ false) at
-        (ready.settled.each n) in
-        let none : ltb (first_signaled w.thread ready.before ids) (length ids) ≡ false = grind arith in
-        let out : eqb (get_or ids i nowhere).slot k ≡ false = grind (arith, nat_tests) in
-        let was : is_signaled w.thread ready.before (get_or ids i nowhere) ≡ true =
-        ready.less w.thread (get_or ids i nowhere).slot out now in
-        let fails : is_signaled w.thread ready.before (get_or ids i nowhere) ≡ false =
-        fails_before_first (is_signaled w.thread ready.before) ids i nowhere (grind arith) in
-        absurd (cc (was, fails))
+only_in = search (arith, unready, fails_before_first)

@@ -1,8 +1,5 @@
 -- The roster stays right while lists are thinned and grow, and while waits come, are answered and go.
-use Rattle.std.proofs.Common.{arith, ◌≡◌, ℕ, List, length, Option}
-use Rattle.ob_waits.specs.declared.wait.Wait.{Wait}
-use Rattle.ob_waits.specs.RisingNumbers.{IsOrdered, numbers_of, AreOrdered, KeepsPending, KeepsEach, Thins, ThinsEach}
-use Rattle.ob_waits.specs.PendingIndex.{PendingIndex, AreIndexed, IsRight, ThinsIndex}
+use Rattle.ob_waits.proofs.Cited.{arith, ◌≡◌, ℕ, List, length, Option, Wait, IsOrdered, numbers_of, AreOrdered, KeepsPending, KeepsEach, Thins, ThinsEach, PendingIndex, AreIndexed, IsRight, ThinsIndex}
 use Rattle.ob_waits.proofs.NumberLaws.{ordered_thinned}
 
 lists_thinned : (waits : List (Option Wait)) (order order' : List ℕ) (index index' : List (List ℕ))
@@ -26,11 +23,4 @@ right_left waits old new l r = search (arith, lists_thinned)
 pub right_grown : (waits : List (Option Wait)) (n : ℕ) (old new : PendingIndex) → length waits ≡ n → IsRight waits old
     → IsOrdered n new.order → KeepsPending waits old.order new.order
     → AreOrdered n new.index → KeepsEach waits old.index new.index → IsRight waits new
-right_grown waits n old new next right orders order lists index = record {
-  order_rises = search arith;
-  order_all = record { each = λ k h. order.each k h (right.order_all.each k h) };
-  index_rises = search arith;
-  index_all = λ s. record {
-    each = λ k h. (index.each s).each k (search arith) ((right.index_all s).each k h);
-  };
-}
+right_grown waits n old new next right orders order lists index = search arith

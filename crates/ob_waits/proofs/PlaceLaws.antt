@@ -1,19 +1,8 @@
 -- What the places and the overflow have at each number, and how that changes.
-use Rattle.ob_codec.proofs.AtPlace.{at_place}
-use Rattle.std.proofs.Common.{◌≡◌, ℕ, ◌<◌, ◌≤◌, ◌+◌, ◌*◌, ◌-◌, ◌%◌, ◌^◌, List, Option, Some, None, length, refl, ap, ◌∙◌, sym, arith, get_or, set, true, false, cond, inl, inr, eqb}
-use Rattle.std.specs.Option.{is_some}
-use Rattle.std.proofs.lemmas.List.{get_or-set_same, get_or-set_other, get_or_past, get_or_default}
-use Rattle.std.proofs.lemmas.Bool.{cases_eq, cond-false, cond-true, eq-eqb, ne_eqb}
+use Rattle.ob_waits.proofs.Cited.{at_place, ◌≡◌, ℕ, ◌<◌, ◌≤◌, ◌+◌, ◌*◌, ◌-◌, ◌%◌, ◌^◌, List, Option, Some, None, length, ap, ◌∙◌, sym, arith, get_or, set, true, cond, inl, inr, eqb, is_some, get_or-set_same, get_or-set_other, get_or_past, get_or_default, cases_eq, cond-false, cond-true, eq-eqb, ne_eqb, NumberedThread, home, thread_or, thread_in, IsPlaced, AreApart, IsSpread}
 use Rattle.std.proofs.lemmas.Nat.{and_mask, and_le_r, pow_pos, pow-add}
 use Rattle.std.proofs.lemmas.Option.{same_Some}
 use Rattle.std.proofs.Math.Pow.{mod-mod-pow}
-use Rattle.ob_waits.specs.declared.number_map.NumberedThread.{NumberedThread}
-use Rattle.ob_waits.specs.ByThread.{home, thread_or, thread_in, IsPlaced, AreApart, IsSpread}
-
-pub thread_or_none : (n : ℕ) (p : Option NumberedThread) (other : Option ℕ) → thread_or n p None ≡ None
-    → thread_or n p other ≡ other
-thread_or_none n None other is = refl
-thread_or_none n (Some e) other is = search arith
 
 module _ {A : Type 0} (n m : ℕ) (x y : A) where
   pub unlike : (n ≡ m → ⊥) → cond (eqb n m) x y ≡ y
@@ -28,11 +17,6 @@ pub set_read : {A : Type 0} (ps : List (Option A)) (k : ℕ) (y : Option A) → 
 set_read ps k y lt i = search (arith, get_or-set_other, get_or-set_same)
 
 module _ (mask : ℕ) (ps qs : List (Option NumberedThread)) (f g : ℕ → Option ℕ) where
-  -- places that are as they were
-  pub same_threads : ((i : ℕ) → get_or qs i None ≡ get_or ps i None) → ((n : ℕ) → g n ≡ f n) → (n : ℕ)
-      → thread_in mask qs g n ≡ thread_in mask ps f n
-  same_threads places overflow n = search arith
-
   pub same_placed : ((i : ℕ) → get_or qs i None ≡ get_or ps i None) → ((n : ℕ) → g n ≡ f n) → IsPlaced mask ps f
       → IsPlaced mask qs g
   same_placed places overflow placed = record {
@@ -57,13 +41,7 @@ module _ (mask : ℕ) (ps qs : List (Option NumberedThread)) (f g : ℕ
       there : (i : ℕ) (entry : NumberedThread) → get_or qs i None ≡ Some entry
           → (home mask entry.number ≡ i) × (g entry.number ≡ None)
       there i entry is = elim (cases_eq at i) [
-        | inl same ↦
-            let it : Some e ≡ Some entry = search arith in
-            let own : e ≡ entry = same_Some e entry it in (
-              sym (ap (λ (x : NumberedThread). home mask x.number) own) ∙ same,
-              ap (λ (x : NumberedThread). g x.number) (sym own)
-                  ∙ moved e.number ∙ free,
-            )
+        | inl same ↦ search (arith, same_Some)
         | inr apart ↦
             let was : get_or ps i None ≡ Some entry = search arith
             in
@@ -73,9 +51,6 @@ module _ (mask : ℕ) (ps qs : List (Option NumberedThread)) (f g : ℕ
 -- a number is put at its place, of places of which there may be more
 module _ (mask : ℕ) (ps more : List (Option NumberedThread)) (e : NumberedThread) (x y : Option NumberedThread) (room : mask < length more)
     (same : (i : ℕ) → get_or more i None ≡ get_or ps i None) (is : x ≡ get_or more (home mask e.number) x) where
-  place : home mask e.number < length more
-  place = let le = and_le_r e.number mask in omega arith
-
   abbrev after : List (Option NumberedThread)
   after = set more (home mask e.number) y
 
@@ -84,15 +59,11 @@ module _ (mask : ℕ) (ps more : List (Option NumberedThread)) (e : NumberedThre
     old : IsPlaced mask more f
     old = search (arith, same_placed)
 
-    written : (i : ℕ) → get_or after i None ≡ cond (eqb (home mask e.number) i) (Some e) (get_or more i None)
-    written i = search (arith, set_read, and_le_r)
-
     overflow : (q : ℕ) → g q ≡ thread_or q (get_or more (home mask e.number) None) (f q)
     overflow q = search (arith, and_le_r, get_or_default)
 
     pub put_threads : (q : ℕ) → thread_in mask after g q ≡ cond (eqb e.number q) (Some e.thread) (thread_in mask ps f q)
-    put_threads q = inserted mask more after f g e old written overflow q
-        ∙ ap (cond (eqb e.number q) (Some e.thread)) (search arith)
+    put_threads q = search (arith, inserted, same_placed, set_read, and_le_r, get_or_default)
 
     pub put_placed : thread_in mask ps f e.number ≡ None → IsPlaced mask after g
     put_placed free = search (arith, inserted_placed, set_read, and_le_r, get_or_default)
@@ -106,9 +77,6 @@ module _ (mask : ℕ) (ps qs : List (Option NumberedThread)) (f : ℕ
     → Option ℕ) (n : ℕ) (e : NumberedThread) (placed : IsPlaced mask ps f) (own : e.number ≡ n)
     (is : get_or ps (home mask n) None ≡ Some e) (new : (i : ℕ)
     → get_or qs i None ≡ cond (eqb (home mask n) i) None (get_or ps i None)) where
-  pub left_there : (q : ℕ) → thread_in mask qs f q ≡ cond (eqb n q) None (thread_in mask ps f q)
-  left_there q = search arith
-
   pub left_placed : IsPlaced mask qs f
   left_placed = record {
     each = λ i entry has. elim (cases_eq (home mask n) i) [
@@ -120,10 +88,6 @@ module _ (mask : ℕ) (ps qs : List (Option NumberedThread)) (f : ℕ
 -- a number leaves the overflow
 module _ (mask : ℕ) (ps : List (Option NumberedThread)) (f g : ℕ → Option ℕ) (n : ℕ) (new : (q : ℕ)
     → g q ≡ cond (eqb n q) None (f q)) where
-  pub left_others : thread_or n (get_or ps (home mask n) None) None ≡ None → (q : ℕ)
-      → thread_in mask ps g q ≡ cond (eqb n q) None (thread_in mask ps f q)
-  left_others absent q = search arith
-
   pub left_others_placed : IsPlaced mask ps f → IsPlaced mask ps g
   left_others_placed placed = record {
     each = λ i entry is. let old = placed.each i entry is in search arith;
@@ -145,31 +109,7 @@ module _ (mask : ℕ) (ps : List (Option NumberedThread)) (f : ℕ
   narrow n = search (arith, wide_is, and_mask, mod-mod-pow)
 
   pub apart_wide : AreApart wide ps
-  apart_wide = record {
-    apart = λ i j a b at_i at_j same. search (arith, narrow);
-  }
-
-  -- what is found is the same
-  pub spread_threads : (qs : List (Option NumberedThread)) → IsSpread wide ps qs → (q : ℕ)
-      → thread_in wide qs f q ≡ thread_in mask ps f q
-  spread_threads qs spread q = by (get_or ps (home mask q) None) refl
-    where
-      new : (p : Option NumberedThread) → get_or qs (home wide q) None ≡ p
-          → (thread_or q (get_or ps (home mask q) None) (f q) ≡ f q)
-          → thread_or q p (f q) ≡ f q
-      new None stands was = refl
-      new (Some e) stands was = elim (cases_eq e.number q) [
-        | inl same ↦
-            let from = (spread.only (home wide q) e stands).1 in
-            let place = (placed.each from.0 e from.1).0 in
-            let there : get_or ps (home mask q) None ≡ Some e = search arith in
-            search arith
-        | inr apart ↦ unlike e.number q (Some e.thread) (f q) apart
-      ]
-
-      by : (p : Option NumberedThread) → get_or ps (home mask q) None ≡ p → thread_in wide qs f q ≡ thread_or q p (f q)
-      by None stands = search arith
-      by (Some e) stands = search arith
+  apart_wide = search (arith, narrow)
 
   pub spread_placed : (qs : List (Option NumberedThread)) → IsSpread wide ps qs → IsPlaced wide qs f
   spread_placed qs spread = record {
@@ -193,10 +133,7 @@ module _ (mask : ℕ) (from to : List (Option NumberedThread)) where
 
   module _ (i : ℕ) (s : Spreads i mask from to) where
     pub spreads_empty : get_or from i None ≡ None → Spreads (i + 1) mask from to
-    spreads_empty none = record {
-      all = search arith;
-      only = λ j e is. let o = s.only j e is in (o.0, (o.1.0, (let lt = o.1.1 in omega arith), o.1.2));
-    }
+    spreads_empty none = search arith
 
     pub spreads_one : (e : NumberedThread) → AreApart mask from → mask < length to → get_or from i None ≡ Some e
         → Spreads (i + 1) mask from (set to (home mask e.number) (Some e))
@@ -224,8 +161,4 @@ module _ (mask : ℕ) (from to : List (Option NumberedThread)) where
 -- a number stands at a place
 pub stands_there : (n : ℕ) (p : Option NumberedThread) → is_some (thread_or n p None) ≡ true
     → (e : NumberedThread) × (p ≡ Some e) × (e.number ≡ n)
-stands_there n None some = absurd (cc (some))
-stands_there n (Some e) some = search arith
-
-pub stands_none : (n : ℕ) (p : Option NumberedThread) → is_some (thread_or n p None) ≡ false → thread_or n p None ≡ None
-stands_none n p none = search arith
+stands_there = search arith

@@ -1,20 +1,9 @@
 -- What is read is what the last number and the rows come to.
-use Rattle.std.proofs.Common.{◌≡◌, Global, Vec, ℕ, zero, suc, Bool, true, false, cond, ◌&&◌, eqb, leb, ltb, arith, ◌+◌, List, [], ◌∷◌, map, Option, Some, None, Result, Ok, Err, refl, ap, ◌∙◌, subst, sym}
+use Rattle.ob_waits.proofs.Cited.{◌≡◌, Global, Vec, ℕ, zero, suc, Bool, true, false, cond, ◌&&◌, eqb, leb, ltb, arith, ◌+◌, List, [], ◌∷◌, map, Option, Some, None, Result, Ok, Err, refl, ap, ◌∙◌, sym, list_all, and_parts, leb-true, ltb-true, TextFault, Value, ◌>>=◌, Fails, Gives, Read, fits_from, spread, spread_from, built, rows_within, tested, are_within, numbered_at, numbered_of, numbered_parts, is_within, row_at, waits_at, with_rest, WaitList, NumberedWait, Wait}
 use Rattle.std.specs.Int.{w32}
-use Rattle.std.specs.List.{list_all}
-use Rattle.std.proofs.lemmas.Bool.{and_parts, leb-true, ltb-true}
 use Rattle.ob_codec.specs.declared.fault.ReadFault.{ReadFault}
 use Rattle.ob_codec.specs.declared.fault.ReadFault.TheVariants.{Memory, Text}
-use Rattle.ob_codec.specs.declared.fault.TextFault.{TextFault}
-use Rattle.ob_codec.specs.declared.fault.TextFault.TheVariants.{Value}
-use Rattle.ob_codec.specs.Reading.{◌>>=◌, Fails, Gives, Read, items_at, list_at, number_at, where_at}
-use Rattle.ob_codec.specs.Sparse.{fits_from, sparse_at, spread, spread_from}
-use Rattle.ob_codec.specs.Steps.{bind_ok, guard_passed, ok_is}
-use Rattle.ob_waits.specs.Rows.{built, rows_within, tested}
-use Rattle.ob_waits.specs.Spelling.{are_within, can_be, numbered_at, numbered_of, numbered_parts, is_within, row_at, wait_at, waits_at, with_rest}
-use Rattle.ob_waits.specs.Waits.{WaitList}
-use Rattle.ob_waits.specs.declared.numbered_wait.NumberedWait.{NumberedWait}
-use Rattle.ob_waits.specs.declared.wait.Wait.{Wait}
+use Rattle.ob_codec.specs.Reading.{items_at, list_at, number_at}
 
 -- rows that are read as waits with their numbers
 abbrev in_parts : Read (List NumberedWait) → Read (List (ℕ × Wait))
@@ -38,24 +27,11 @@ items_in_parts (suc n) bytes = by (row_at bytes) (λ (rest : List ℕ). items_in
         ≡ (r >>= λ (first : (ℕ × Wait) × List ℕ). items_at row_at n first.1 >>= λ (o : List (ℕ × Wait) × List ℕ). Ok
         (first.0 ∷ o.0, o.1))
     by (Err f) later = refl
-    by (Ok a) later = one a.0 (items_at numbered_at n a.1)
-        ∙ ap (λ (r : Read (List (ℕ × Wait))). r >>= λ (o : List (ℕ × Wait) × List ℕ). Ok (a.0 ∷ o.0, o.1)) (later a.1)
+    by (Ok a) later = search arith
 
-pub list_in_parts : (most : ℕ) (bytes : List ℕ)
-    → in_parts (list_at most numbered_at bytes) ≡ list_at most row_at bytes
+pub list_in_parts : (most : ℕ) (bytes : List ℕ) → in_parts (list_at most numbered_at bytes) ≡ list_at most row_at bytes
 unfolding list_at
-list_in_parts most bytes = by (number_at w32 bytes)
-  where
-    few : (b : Bool) (n : ℕ × List ℕ) → in_parts (cond b (items_at numbered_at n.0 n.1) (Err Value))
-        ≡ cond b (items_at row_at n.0 n.1) (Err Value)
-    few true n = items_in_parts n.0 n.1
-    few false n = refl
-
-    by : (r : Read ℕ)
-        → in_parts (r >>= λ (n : ℕ × List ℕ). cond (leb n.0 most) (items_at numbered_at n.0 n.1) (Err Value))
-        ≡ (r >>= λ (n : ℕ × List ℕ). cond (leb n.0 most) (items_at row_at n.0 n.1) (Err Value))
-    by (Err f) = refl
-    by (Ok n) = few (leb n.0 most) n
+list_in_parts most bytes = search (arith, items_in_parts)
 
 pub rows_in_parts : (r : Result (Vec NumberedWait Global) ReadFault) (most : ℕ) (bytes rest : List ℕ)
     → Gives (λ rows. rows.items) r (list_at most numbered_at bytes) rest
@@ -91,11 +67,7 @@ module _ (threads slots : ℕ) where
   places_pass : (k n end : ℕ) (ps : List (ℕ × Wait)) → end ≡ k + n → fits_from k end ps ≡ true
       → are_within threads slots (spread_from k n ps) ≡ list_all (row_within threads slots) ps
   places_pass k zero end [] is fits = refl
-  places_pass k zero end (p ∷ ps) is fits =
-      let b = and_parts (leb k p.0) (ltb p.0 end && fits_from (suc p.0) end ps) fits in
-      let low = leb-true k p.0 b.0 in
-      let high = ltb-true p.0 end (and_parts (ltb p.0 end) (fits_from (suc p.0) end ps) b.1).0 in
-      absurd (omega arith)
+  places_pass k zero end (p ∷ ps) is fits = search (arith, and_parts, leb-true, ltb-true)
   places_pass k (suc n) end [] is fits = places_pass (suc k) n end [] (omega arith) refl
   places_pass k (suc n) end (p ∷ ps) is fits =
       by (eqb p.0 k) refl
@@ -113,10 +85,8 @@ module _ (threads slots : ℕ) where
           → are_within threads slots (cond t (Some p.1 ∷ spread_from (suc k) n ps)
           (None ∷ spread_from (suc k) n (p ∷ ps)))
           ≡ list_all (row_within threads slots) (p ∷ ps)
-      by true same one more =
-          search arith
-      by false apart one more =
-          search arith
+      by true same one more = search arith
+      by false apart one more = search arith
 
   pass_in_parts : (rows : List NumberedWait) → list_all (row_within threads slots) (map numbered_parts rows)
       ≡ rows_within threads slots rows
@@ -141,24 +111,13 @@ rows_read limit clock threads slots last bytes between rest rows first second =
 -- or why nothing is
 pub read_fails : (e : ReadFault) (total : Read WaitList) (rest : List ℕ) (r : Result WaitList TextFault)
     → total ≡ behind rest r → Fails e r → Fails e total
-read_fails Memory total rest r is fails = tt
-read_fails (Text f) total rest r is fails = is ∙ ap (behind rest) fails
+read_fails = search arith
 
 pub none_read : (c : Bool) (r : Result WaitList TextFault) → r ≡ Err Value → cond c r (Err Value) ≡ Err Value
-none_read true r is = is
-none_read false r is = refl
+none_read = search arith
 
 -- what was read has its limit and its moment, and all threads and slots are below
 pub read_within : (limit clock threads slots : ℕ) (bytes : List ℕ) (list : WaitList) (rest : List ℕ)
     → waits_at limit clock threads slots bytes ≡ Ok (list, rest)
     → (list.limit ≡ limit) × (list.clock ≡ clock) × (are_within threads slots list.waits ≡ true)
-read_within limit clock threads slots bytes list rest e =
-    let a = bind_ok (where_at (are_within threads slots) (where_at (can_be limit clock) (sparse_at threads wait_at)) bytes) _
-    (list, rest) e in
-    let b = bind_ok (where_at (can_be limit clock) (sparse_at threads wait_at) bytes) _ a.0 a.1 in
-    let g = guard_passed (are_within threads slots b.0.0) Value b.0 a.0 b.2 in
-    let is = ap (λ (z : WaitList × List ℕ). z.0) (ok_is (with_rest limit clock a.0.0, a.0.1) (list, rest) a.2) in
-    let fits : are_within threads slots a.0.0 ≡ true =
-    subst (λ (z : List (Option Wait) × List ℕ). are_within threads slots z.0 ≡ true) g.1 g.0 in
-    subst (λ (z : WaitList). (z.limit ≡ limit) × (z.clock ≡ clock) × (are_within threads slots z.waits ≡ true)) is
-    (refl, refl, fits)
+read_within limit clock threads slots bytes list rest e = search arith

@@ -1,15 +1,5 @@
 -- The counts that are told of each block that leaves go on counting the blocks.
-use Rattle.std.proofs.Common.{◌≡◌, ℕ, ◌-◌, ◌+◌, ◌<◌, ◌≤◌, List, [], ◌∷◌, length, Option, Some, None, refl, arith, get_or, cond}
-use Rattle.std.specs.Prelude.{◌==◌}
-use Rattle.std.proofs.lemmas.List.{length-set, get_or_past, get_or-set_same, get_or-set_other}
-use Rattle.std.proofs.lemmas.List.Sums.{sum_by-set, sum_by-cons}
-use Rattle.pin_core.specs.declared.id.Id.{Id}
-use Rattle.ob_waits.specs.declared.wait.Wait.{Wait}
-use Rattle.ob_waits.specs.declared.wait.State.{State}
-use Rattle.ob_waits.specs.declared.wait.State.TheVariants.{Pending, Answered}
-use Rattle.ob_waits.specs.CountedBodies.{CountedBodies, blocks_left, without_block, without_blocks}
-use Rattle.ob_waits.specs.Waits.{slot_places, slot_blocks, Scene, effect_at, effect_of, settled}
-use Rattle.ob_waits.specs.Ends.{HasBlocks}
+use Rattle.ob_waits.proofs.Cited.{◌≡◌, ℕ, ◌-◌, ◌+◌, ◌<◌, ◌≤◌, List, [], ◌∷◌, length, Option, Some, None, refl, arith, get_or, cond, ◌==◌, length-set, get_or_past, get_or-set_same, get_or-set_other, sum_by-set, sum_by-cons, Id, Wait, State, CountedBodies, blocks_left, without_block, without_blocks, slot_places, slot_blocks, Scene, effect_at, effect_of, settled, HasBlocks}
 use Rattle.ob_waits.proofs.Settling.{settled_by_effects, ready_within}
 
 pub left_one : (blocks : List ℕ) (id : Id) (k : ℕ)
@@ -19,11 +9,7 @@ left_one blocks id k = search (arith, get_or-set_other, get_or-set_same, get_or_
 pub left_all : (ids : List Id) (objects : CountedBodies) (k : ℕ)
     → get_or (without_blocks objects ids).blocks k 0 ≡ get_or objects.blocks k 0 - slot_places k ids
 left_all [] objects k = omega arith
-left_all (id ∷ ids) objects k =
-    let a = left_all ids (without_block objects id) k in
-    let b = left_one objects.blocks id k in
-    let c = sum_by-cons (λ (x : Id). cond (x.slot == k) 1 0) id ids in
-    omega arith
+left_all (id ∷ ids) objects k = search (arith, left_one, sum_by-cons, left_all ids (without_block objects id) k)
 
 -- what is stored and what is counted fall alike
 pub record Counts (scene after : Scene) : Type 0 where
@@ -33,8 +19,7 @@ pub record Counts (scene after : Scene) : Type 0 where
 
 counts_by : (scene : Scene) (n : ℕ) (w : Wait) (st : State) → w.state ≡ st → get_or scene.waits n None ≡ Some w
     → n < length scene.waits → Counts scene (effect_of scene n w st)
-counts_by scene n w (Pending mode ids) is own lt = search (arith, left_all, sum_by-set)
-counts_by scene n w (Answered code) is own lt = record { each = λ k enough. refl }
+counts_by = search (arith, left_all, sum_by-set)
 
 pub counts_at : (scene : Scene) (n : ℕ) (w : Option Wait) → get_or scene.waits n None ≡ w → n < length scene.waits
     → Counts scene (effect_at scene n w)
@@ -47,7 +32,7 @@ counts_both a b c x y = search arith
 -- The theorem: where a slot counts its blocks and more, it still does after settling, by the same more.
 pub settled_counts : (scene : Scene) → Counts scene (settled scene)
 settled_counts scene = settled_by_effects Counts (λ s. record { each = λ k enough. refl }) counts_both
-    (λ s n ready. search (arith, counts_at, ready_within)) scene
+    (search (arith, counts_at, ready_within)) scene
 
 -- and where it counts them, it still does
 pub settled_has_blocks : (scene : Scene) → HasBlocks scene → HasBlocks (settled scene)

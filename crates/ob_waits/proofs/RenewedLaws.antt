@@ -1,28 +1,10 @@
 -- What renewing waits keeps: their order, each count over them, the rules of waits, and each thread's wait; and how
 -- waits are copied one after another.
-use Rattle.ob_codec.proofs.AtPlace.{at_place}
-use Rattle.std.proofs.Common.{◌≡◌, ℕ, zero, suc, ◌+◌, ◌-◌, ◌<◌, ◌≤◌, true, false, List, [], ◌∷◌, ◌++◌, length, take, Option, Some, None, refl, ap, ◌∙◌, sym, arith, get_or, eqb}
-use Rattle.std.specs.List.{list_any}
-use Rattle.std.specs.Prelude.{is_some, sum_by}
-use Rattle.std.proofs.lemmas.List.{append-nil, get_or-take, length-take, take_all}
-use Rattle.std.proofs.lemmas.List.Sums.{count_by-le-length, length-filter, sum_by-cons}
+use Rattle.ob_waits.proofs.Cited.{at_place, ◌≡◌, ℕ, zero, suc, ◌+◌, ◌-◌, ◌<◌, ◌≤◌, true, false, List, [], ◌∷◌, ◌++◌, length, take, Option, Some, None, refl, ap, ◌∙◌, sym, arith, get_or, eqb, list_any, is_some, sum_by, append-nil, get_or-take, length-take, take_all, count_by-le-length, length-filter, sum_by-cons, Id, Body, Wait, IsSettled, WaitHasRoom, WaitWaitable, WaitsHaveRoom, WaitsInvariant, thread_of, blocks_among, blocks_in, is_ready, number_of, renewed, slot_blocks, standing}
 use Rattle.std.proofs.lemmas.Map.Steps.{length-le_from_distinct_below}
-use Rattle.pin_core.specs.declared.id.Id.{Id}
-use Rattle.ob_body.specs.declared.body.Body.{Body}
-use Rattle.ob_waits.specs.declared.wait.Wait.{Wait}
-use Rattle.ob_waits.specs.Deadlines.{AreAhead, deadline_of}
-use Rattle.ob_waits.specs.Form.{IsAfter}
-use Rattle.ob_waits.specs.Rules.{IsSettled, WaitHasRoom, WaitWaitable, WaitsHaveRoom, WaitsInvariant, thread_of}
 use Rattle.ob_waits.specs.SpellingLaws.{distinct, threads_of}
-use Rattle.ob_waits.specs.Waits.{blocks_among, blocks_in, is_ready, number_of, renewed, slot_blocks, standing}
 use Rattle.ob_waits.proofs.StandingLaws.{ones}
-use Rattle.ob_waits.proofs.TrackedLaws.{has_wait, no_number, number_is, number_none, number_own}
-
--- the same waits stand in the same order: who came first stays first
-pub order_renewed : (ws : List (Option Wait)) → standing (renewed ws) ≡ standing ws
-order_renewed [] = refl
-order_renewed (None ∷ ws) = order_renewed ws
-order_renewed (Some w ∷ ws) = ap (λ l. Some w ∷ l) (order_renewed ws)
+use Rattle.ob_waits.proofs.TrackedLaws.{has_wait, no_number, number_none}
 
 -- each count over them is what it was
 pub sum_renewed : (f : Option Wait → ℕ) (ws : List (Option Wait)) → f None ≡ 0 → sum_by f (renewed ws) ≡ sum_by f ws
@@ -56,9 +38,6 @@ room_renewed limit bodies ws room = record { each = each_renewed (WaitHasRoom li
 pub settled_renewed : (bodies : List (Option Body)) (ws : List (Option Wait)) → IsSettled bodies ws
     → IsSettled bodies (renewed ws)
 settled_renewed bodies ws settled = record { each = each_renewed (λ w. is_ready bodies w ≡ false) ws refl settled.each }
-
-pub ahead_renewed : (clock : ℕ) (ws : List (Option Wait)) → AreAhead clock ws → AreAhead clock (renewed ws)
-ahead_renewed clock ws ahead = record { each = each_renewed (λ w. IsAfter clock (deadline_of w)) ws tt ahead.each }
 
 -- a thread without a wait has none then
 none_standing : (t : ℕ) (ws : List (Option Wait)) → ((n : ℕ) → thread_of (get_or ws n None) ≡ Some t → ⊥) → (n : ℕ)
@@ -100,23 +79,6 @@ kept_renewed ws kept = record { each = each_renewed WaitWaitable ws tt kept.each
 -- the number that the wait of a number has then: the one behind those that stand before it
 abbrev pub number_after : List (Option Wait) → ℕ → ℕ
 number_after ws n = length (renewed (take n ws))
-
--- there its thread finds the same wait
-pub wait_renewed : (ws : List (Option Wait)) (n t : ℕ) → thread_of (get_or ws n None) ≡ Some t
-    → get_or (renewed ws) (number_after ws n) None ≡ get_or ws n None
-wait_renewed [] n t own = absurd (cc own)
-wait_renewed (None ∷ ws) zero t own = absurd (cc own)
-wait_renewed (Some w ∷ ws) zero t own = refl
-wait_renewed (None ∷ ws) (suc n) t own = wait_renewed ws n t own
-wait_renewed (Some w ∷ ws) (suc n) t own = wait_renewed ws n t own
-
-pub number_renewed : (ws : List (Option Wait)) (n t : ℕ) → WaitsInvariant ws → number_of t ws ≡ Some n
-    → number_of t (renewed ws) ≡ Some (number_after ws n)
-number_renewed ws n t kept is =
-    let own = number_own ws t n is in
-    let there = ap thread_of (wait_renewed ws n t own) ∙ own in
-    number_is (renewed ws) t (number_after ws n) there
-    (λ m has. (kept_renewed ws kept).one_each m (number_after ws n) t has there)
 
 -- no more waits stand than there are threads
 standing_long : (ws : List (Option Wait)) → length (standing ws) ≡ length (threads_of ws)

@@ -1,15 +1,5 @@
 -- The room that settling asks of the pending waits, while waits come and go and bodies change.
-use Rattle.ob_codec.proofs.AtPlace.{at_place}
-use Rattle.std.proofs.Common.{◌≡◌, ℕ, ◌<◌, ◌≤◌, List, [], ◌∷◌, ◌++◌, length, Option, Some, None, sym, subst, arith, get_or, set, Bool, true, false, map}
-use Rattle.std.proofs.Math.ListN.{get_or-map}
-use Rattle.std.proofs.lemmas.List.{get_or-set_other}
-use Rattle.ob_body.specs.declared.body.Body.{Body}
-use Rattle.pin_core.specs.declared.id.Id.{Id}
-use Rattle.ob_waits.specs.declared.wait.Mode.{Mode}
-use Rattle.ob_waits.specs.declared.wait.Wait.{Wait}
-use Rattle.ob_waits.specs.CountedBodies.{slot_room}
-use Rattle.ob_waits.specs.Rules.{HasRoom, WaitHasRoom, WaitsHaveRoom}
-use Rattle.ob_waits.specs.Waits.{new_wait, nowhere, ids_of, unless_of, is_waits_of, number_of, bodies_after, answered, slot_blocks}
+use Rattle.ob_waits.proofs.Cited.{at_place, ◌≡◌, ℕ, ◌<◌, ◌≤◌, List, [], ◌∷◌, ◌++◌, length, Option, Some, None, sym, subst, arith, get_or, set, Bool, true, false, map, get_or-map, get_or-set_other, Body, Id, Mode, Wait, slot_room, HasRoom, WaitHasRoom, WaitsHaveRoom, new_wait, nowhere, ids_of, unless_of, is_waits_of, number_of, bodies_after, answered, slot_blocks}
 use Rattle.ob_waits.proofs.Settling.{room_after}
 use Rattle.ob_waits.proofs.Keeping.{room_other}
 use Rattle.ob_waits.proofs.TrackedLaws.{no_number}
@@ -60,10 +50,6 @@ pub room_changed : (limit : ℕ) (bodies after : List (Option Body)) (ws : List 
     → ((t k : ℕ) → slot_room limit t (get_or bodies k None) ≡ true → slot_room limit t (get_or after k None) ≡ true) →
     WaitsHaveRoom limit bodies ws → WaitsHaveRoom limit after ws
 room_changed limit bodies after ws keeps r = search arith
-  where
-    by : (w : Option Wait) → WaitHasRoom limit bodies w → WaitHasRoom limit after w
-    by None room = tt
-    by (Some w) room = search arith
 
 -- one body changed
 pub room_set : (limit : ℕ) (bodies : List (Option Body)) (ws : List (Option Wait)) (k : ℕ) (x : Option Body)
@@ -87,7 +73,3 @@ room_unnamed limit bodies ws k x unnamed r = record {
 pub rooms_at_more : (limit more : ℕ) (bodies : List (Option Body)) (ws : List (Option Wait)) → limit ≤ more
     → WaitsHaveRoom limit bodies ws → WaitsHaveRoom more bodies ws
 rooms_at_more limit more bodies ws le r = search arith
-  where
-    by : (w : Option Wait) → WaitHasRoom limit bodies w → WaitHasRoom more bodies w
-    by None room = tt
-    by (Some w) room = search arith

@@ -1,24 +1,9 @@
 -- Waits that are built one after another are those that the rows stand for; and which rows come next of those that are
 -- written.
-use Rattle.std.proofs.Common.{◌≡◌, ℕ, zero, suc, ◌+◌, ◌-◌, ◌<◌, ◌≤◌, ◌&&◌, not, Bool, true, false, cond, leb, List, [], ◌∷◌, ◌++◌, length, replicate, Option, Some, None, Result, Ok, Err, refl, ap, ◌∙◌, sym, subst, arith, append_assoc, get_or}
-use Rattle.std.specs.List.{list_all, list_any}
-use Rattle.std.specs.Prelude.{is_some}
-use Rattle.std.proofs.lemmas.Bool.{and_parts, lt-leb}
-use Rattle.std.proofs.lemmas.List.{length_push}
-use Rattle.std.proofs.lemmas.List.Folds.{list_all-append}
+use Rattle.ob_waits.proofs.Cited.{◌≡◌, ℕ, zero, suc, ◌+◌, ◌-◌, ◌<◌, ◌≤◌, ◌&&◌, not, Bool, true, false, cond, leb, List, [], ◌∷◌, ◌++◌, length, replicate, Option, Some, None, Result, Ok, Err, refl, ap, ◌∙◌, sym, subst, arith, append_assoc, get_or, list_all, list_any, is_some, and_parts, lt-leb, length_push, list_all-append, TextFault, Value, Fails, fits_from, spread, spread_from, come, may_come, tested, with_row, thread_of, can_be, numbered_parts, may_stand, one_each, WaitList, is_full, is_waits_of, number_of, skipped, NumberedWait, Wait}
 use Rattle.ob_codec.specs.declared.fault.ReadFault.{ReadFault}
 use Rattle.ob_codec.specs.declared.fault.ReadFault.TheVariants.{Memory, Text}
-use Rattle.ob_codec.specs.declared.fault.TextFault.{TextFault}
-use Rattle.ob_codec.specs.declared.fault.TextFault.TheVariants.{Value}
-use Rattle.ob_codec.specs.Reading.{Fails}
-use Rattle.ob_codec.specs.Sparse.{fits_from, spread, spread_from}
 use Rattle.ob_codec.specs.SparseLaws.{length-spread}
-use Rattle.ob_waits.specs.Rows.{come, may_come, tested, with_row}
-use Rattle.ob_waits.specs.Rules.{thread_of}
-use Rattle.ob_waits.specs.Spelling.{can_be, numbered_parts, may_stand, one_each}
-use Rattle.ob_waits.specs.Waits.{WaitList, is_full, is_waits_of, number_of, skipped}
-use Rattle.ob_waits.specs.declared.numbered_wait.NumberedWait.{NumberedWait}
-use Rattle.ob_waits.specs.declared.wait.Wait.{Wait}
 use Rattle.ob_waits.proofs.SkipLaws.{get_skipped, length-skipped}
 use Rattle.ob_waits.proofs.TrackedLaws.{no_number, number_none, number_own}
 
@@ -64,8 +49,7 @@ module _ (last n : ℕ) (ws : List (Option Wait)) (w : Wait) (ps : List (ℕ × 
       (length (skipped (n - 1) ws ++ Some w ∷ [])) j ps) after
 
   pub left_next : left last ws ((n, w) ∷ ps) ≡ left last (skipped (n - 1) ws ++ Some w ∷ []) ps
-  left_next =
-      search (arith, length-more, places)
+  left_next = search (arith, length-more, places)
 
 -- no row is left
 spread_nothing : (k n : ℕ) → spread_from {A = Wait} k n [] ≡ replicate n None
@@ -73,8 +57,7 @@ spread_nothing k zero = refl
 spread_nothing k (suc n) = search (arith, spread_nothing (suc k) n)
 
 pub left_none : (last : ℕ) (ws : List (Option Wait)) → left last ws [] ≡ Some (skipped last ws)
-left_none last ws =
-    search (arith, spread_nothing)
+left_none last ws = search (arith, spread_nothing)
 
 has_one : (t : ℕ) (w : Wait) (front back : List (Option Wait)) → t ≡ w.thread
     → list_any (is_waits_of t) (front ++ Some w ∷ back) ≡ true
@@ -86,13 +69,7 @@ alone : (w : Wait) (front back : List (Option Wait)) → one_each (front ++ Some
 alone w [] back one m own = cc (own)
 alone w (None ∷ front) back one zero own = cc (own)
 alone w (None ∷ front) back one (suc m) own = alone w front back one m own
-alone w (Some a ∷ front) back one zero own =
-    let parts = and_parts (not (list_any (is_waits_of a.thread) (front ++ Some w ∷ back)))
-    (one_each (front ++ Some w ∷ back)) one in
-    let same : a.thread ≡ w.thread = cc (own) in
-    let has = has_one a.thread w front back same in
-    let none = parts.0 in
-    cc (has, none)
+alone w (Some a ∷ front) back one zero own = search (arith, has_one, and_parts, a.thread, w.thread)
 alone w (Some a ∷ front) back one (suc m) own =
     alone w front back (and_parts (not (list_any (is_waits_of a.thread) (front ++ Some w ∷ back)))
     (one_each (front ++ Some w ∷ back)) one).1 m own
@@ -112,8 +89,7 @@ there limit clock n ws w back can = by (number_of w.thread ws) refl
 
     by : (o : Option ℕ) → number_of w.thread ws ≡ o → (may_stand clock (Some w) && not (is_some o)) ≡ true
     by None is = search (arith, list_all-append)
-    by (Some m) is = absurd
-        (alone w (skipped n ws) back parts.1 m (search (arith, get_skipped, number_own)))
+    by (Some m) is = absurd (alone w (skipped n ws) back parts.1 m (search (arith, get_skipped, number_own)))
 
 pub left_refused : (limit clock last n : ℕ) (ws : List (Option Wait)) (w : Wait) (ps : List (ℕ × Wait)) → 0 < length ws
     → ((leb (length ws) n && leb n last) && (may_stand clock (Some w) && not (is_some (number_of w.thread ws))))
@@ -132,8 +108,7 @@ left_refused limit clock last n ws w ps some not_so = by (leb (length ws) n) (le
         → ((a && b) && (may_stand clock (Some w) && not (is_some (number_of w.thread ws)))) ≡ false
         → tested limit clock (left last ws ((n, w) ∷ ps)) ≡ Err Value
     by false b is is' e = search arith
-    by true false is is' e =
-        search arith
+    by true false is is' e = search arith
     by true true is is' e =
         let le : length ws ≤ n = grind arith in
         let most : n ≤ last = grind arith in
@@ -155,32 +130,16 @@ pub record Comes (last : ℕ) (list : WaitList) (held : NumberedWait) : Type 0 w
 
 pub comes : (last : ℕ) (list : WaitList) (held : NumberedWait) → may_come last list held ≡ true → Comes last list held
 comes last list held may = search arith
-  where
-    parts : ((leb (length list.waits) held.number && leb held.number last) ≡ true)
-        × ((may_stand list.clock (Some held.wait) && not (is_some (number_of held.wait.thread list.waits))) ≡ true)
-    parts = search arith
-
-    bounds : (leb (length list.waits) held.number ≡ true) × (leb held.number last ≡ true)
-    bounds = search arith
-
-    free : not (is_some (number_of held.wait.thread list.waits)) ≡ true
-    free = search arith
-
-    by : (o : Option ℕ) → not (is_some o) ≡ true → o ≡ None
-    by None e = refl
-    by (Some n) e = absurd cc
 
 pub alone_skipped : (last t : ℕ) (ws : List (Option Wait)) → number_of t ws ≡ None
     → number_of t (skipped last ws) ≡ None
-alone_skipped last t ws none = number_none (skipped last ws) t
-    (search (arith, get_skipped, no_number))
+alone_skipped last t ws none = number_none (skipped last ws) t (search (arith, get_skipped, no_number))
 
 -- a number is left for it
 pub not_full : (last : ℕ) (list : WaitList) (held : NumberedWait) → 0 < held.number → last ≤ list.limit
     → Comes last list held
     → is_full (record list { waits = skipped (held.number - 1) list.waits }) ≡ false
-not_full last list held some most c =
-    search (arith, length-skipped)
+not_full last list held some most c = search (arith, length-skipped)
 
 -- the step of building: what is left comes to what it came to
 pub record Goes (last : ℕ) (list : WaitList) (ps : List (ℕ × Wait)) (total : Result WaitList TextFault) : Type 0 where
@@ -214,7 +173,7 @@ goes_on last list list' held ps total e goes = subst (λ (l : WaitList). Goes la
     some = search arith
 
     longer : length (with_row list held).waits ≡ suc held.number
-    longer = length-more last held.number list.waits held.wait ps some c.above c.most
+    longer = search (arith, length-skipped, length_push)
 
 pub ends : (e : ReadFault) (last : ℕ) (list : WaitList) (held : NumberedWait) (ps : List (ℕ × Wait))
     (total : Result WaitList TextFault) → Fails e (come last list held)
@@ -225,8 +184,7 @@ ends (Text f) last list held ps total fails goes = by (may_come last list held) 
   where
     by : (b : Bool) → may_come last list held ≡ b → cond b (Ok (with_row list held)) (Err Value) ≡ Err f → total ≡ Err f
     by true is e = absurd (cc (e))
-    by false is e = sym goes.rest
-        ∙ left_refused list.limit list.clock last held.number list.waits held.wait ps goes.not_empty is ∙ e
+    by false is e = search (arith, left_refused)
 
 -- so are all, where the last number is above the limit
 pub too_many : (limit clock last : ℕ) (ps : List (ℕ × Wait)) → limit < last

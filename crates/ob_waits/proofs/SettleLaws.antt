@@ -1,11 +1,5 @@
 -- What each way of settling answers for, once its scene is the settled one.
-use Rattle.std.proofs.Common.{arith, ◌≡◌, ℕ, List, Option, sym, subst}
-use Rattle.ob_waits.specs.declared.wait.Wait.{Wait}
-use Rattle.ob_waits.specs.Deadlines.{AreTimely}
-use Rattle.ob_waits.specs.CountedBodies.{CountedBodies}
-use Rattle.ob_waits.specs.PendingIndex.{PendingIndex, ThinsIndex, IsTracked}
-use Rattle.ob_waits.specs.Rules.{WaitsInvariant, IsSettled, WaitsHaveRoom}
-use Rattle.ob_waits.specs.Waits.{Scene, settled}
+use Rattle.ob_waits.proofs.Cited.{arith, ◌≡◌, ℕ, List, Option, sym, subst, Wait, AreTimely, CountedBodies, PendingIndex, ThinsIndex, IsTracked, WaitsInvariant, IsSettled, WaitsHaveRoom, Scene, settled}
 use Rattle.ob_waits.proofs.Settling.{settled_is_settled}
 use Rattle.ob_waits.proofs.Keeping.{Fade, settled_fits, settled_fades}
 use Rattle.ob_waits.proofs.TrackedLaws.{tracked_faded, tracked_left}
@@ -20,7 +14,7 @@ module _ (before after : CountedBodies) (ws ws' : List (Option Wait))
       → IsTracked limit ws r × AreTimely clock ws dues → IsTracked limit ws' r' × AreTimely clock ws' dues
   kept_after {limit = limit} {clock = clock} {r = r} {r' = r'} {dues = dues} leaves k =
       let fade : Fade ws ws' = subst (λ (s : Scene). Fade ws s.waits) (sym value) (settled_fades first) in (
-        tracked_left limit ws' r r' leaves (tracked_faded limit ws ws' r fade k.0),
+        search (arith, tracked_faded, tracked_left),
         search arith,
       )
 

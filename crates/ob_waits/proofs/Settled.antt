@@ -1,13 +1,5 @@
 -- A settled state stays settled while no body changes and no wait that is ready comes.
-use Rattle.ob_codec.proofs.AtPlace.{at_place}
-use Rattle.std.proofs.Common.{◌≡◌, ℕ, List, [], ◌∷◌, ◌++◌, Option, Some, None, refl, ap, ◌∙◌, arith, get_or, set, Bool, true, false, map}
-use Rattle.std.proofs.Math.ListN.{get_or-map}
-use Rattle.ob_body.specs.declared.body.Body.{Body}
-use Rattle.pin_core.specs.declared.id.Id.{Id}
-use Rattle.ob_waits.specs.declared.wait.Mode.{Mode}
-use Rattle.ob_waits.specs.declared.wait.Wait.{Wait}
-use Rattle.ob_waits.specs.Rules.{IsSettled}
-use Rattle.ob_waits.specs.Waits.{new_wait, is_ready, list_ready, answered, unless_of, is_waits_of, bodies_after, slot_blocks}
+use Rattle.ob_waits.proofs.Cited.{at_place, ◌≡◌, ℕ, List, [], ◌∷◌, ◌++◌, Option, Some, None, refl, ap, ◌∙◌, arith, get_or, set, Bool, true, false, map, get_or-map, Body, Id, Mode, Wait, IsSettled, new_wait, is_ready, list_ready, answered, unless_of, is_waits_of, bodies_after, slot_blocks}
 use Rattle.ob_waits.proofs.Settling.{IsLess, less_after, ready_less}
 use Rattle.ob_waits.proofs.Apart.{ready_named}
 use Rattle.ob_waits.proofs.Counted.{named_counts}

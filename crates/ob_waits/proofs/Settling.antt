@@ -1,21 +1,6 @@
 -- Taking makes nothing signaled, so a pass over the waits in order settles them, and what it leaves is settled.
-use Rattle.std.proofs.Common.{◌≡◌, ℕ, zero, suc, ◌+◌, ◌<◌, ◌≤◌, List, [], ◌∷◌, length, Option, Some, None, refl, subst, arith, get_or, set, Bool, true, false, cond, inl, inr, ltb}
-use Rattle.std.specs.Prelude.{count_by}
-use Rattle.std.specs.List.{position_or_len, list_all}
-use Rattle.std.proofs.lemmas.List.{get_or_past, get_or-set_same, get_or-set_other}
-use Rattle.std.proofs.lemmas.Bool.{cases_eq, cases_lt}
-use Rattle.std.proofs.lemmas.List.Sums.{sum_by-set, count_by-le-length, get_or-le-sum_by, fails_before_first, passes_at_first, position_or_len_is}
-use Rattle.pin_core.specs.declared.id.Id.{Id}
-use Rattle.ob_body.specs.declared.body.Body.{Body}
+use Rattle.ob_waits.proofs.Cited.{◌≡◌, ℕ, zero, suc, ◌+◌, ◌<◌, ◌≤◌, List, [], ◌∷◌, length, Option, Some, None, refl, subst, arith, get_or, set, Bool, true, false, inl, inr, ltb, count_by, position_or_len, list_all, get_or_past, get_or-set_same, get_or-set_other, cases_eq, cases_lt, sum_by-set, count_by-le-length, get_or-le-sum_by, fails_before_first, passes_at_first, position_or_len_is, Id, Body, Mode, Wait, State, Pending, Answered, slot_signaled, slot_room, slot_acquired, IsSettled, WaitWaitable, thread_of, nowhere, is_code, is_signaled, list_ready, state_ready, is_ready, first_ready, Scene, bodies_after, code_of, answered_wait, effect, effect_of, effect_at, settled_within, settled, ids_of, is_pending, state_ids}
 use Rattle.ob_body.proofs.Effects.{signaled_before, room_after_acquire}
-use Rattle.ob_waits.specs.declared.wait.Mode.{Mode}
-use Rattle.ob_waits.specs.declared.wait.Mode.TheVariants.{Any, All}
-use Rattle.ob_waits.specs.declared.wait.Wait.{Wait}
-use Rattle.ob_waits.specs.declared.wait.State.{State}
-use Rattle.ob_waits.specs.declared.wait.State.TheVariants.{Pending, Answered}
-use Rattle.ob_waits.specs.CountedBodies.{slot_signaled, slot_room, slot_acquired}
-use Rattle.ob_waits.specs.Rules.{IsSettled, WaitWaitable, thread_of}
-use Rattle.ob_waits.specs.Waits.{nowhere, is_code, is_signaled, list_ready, state_ready, is_ready, first_ready, Scene, bodies_after, code_of, answered_wait, effect, effect_of, effect_at, settled_within, settled, ids_of, is_pending, state_ids}
 use Rattle.ob_waits.proofs.EachSlot.{slots-satisfied, slots-taken}
 
 -- no object is signaled that was not, for any thread
@@ -29,8 +14,7 @@ less_both : (x y z : Option Body) → Less x y → Less y z → Less x z
 less_both x y z a b t h = a t (b t h)
 
 less_taken : (u : ℕ) (x : Option Body) → Less x (slot_acquired u x)
-less_taken u None t h = h
-less_taken u (Some b) t h = signaled_before u t b h
+less_taken = search (arith, signaled_before)
 
 pub less_after : (mode : Mode) (u : ℕ) (bodies : List (Option Body)) (ids : List Id)
     → IsLess bodies (bodies_after mode u bodies ids)
@@ -68,18 +52,15 @@ module _ (bodies after : List (Option Body)) where
 
   list_less : (mode : Mode) (t : ℕ) (ids : List Id) → LessAt t ids → list_ready mode t after ids ≡ true
       → list_ready mode t bodies ids ≡ true
-  list_less Any t ids less h = search (arith, some_less)
-  list_less All t ids less h = search (arith, all_less)
+  list_less = search (arith, all_less, some_less)
 
   state_less : (t : ℕ) (st : State) → LessAt t (state_ids st) → state_ready t after st ≡ true
       → state_ready t bodies st ≡ true
-  state_less t (Pending mode ids) less h = list_less mode t ids less h
-  state_less t (Answered code) less h = h
+  state_less = search (arith, list_less)
 
   pub ready_where : (w : Option Wait) → ((t : ℕ) → thread_of w ≡ Some t → LessAt t (ids_of w)) → is_ready after w ≡ true
       → is_ready bodies w ≡ true
-  ready_where None less h = h
-  ready_where (Some w) less h = search (arith, state_less)
+  ready_where = search (arith, state_less)
 
   pub ready_less : IsLess bodies after → (w : Option Wait) → is_ready after w ≡ true → is_ready bodies w ≡ true
   ready_less l w = search (arith, ready_where)
@@ -96,8 +77,7 @@ room_both : (limit u : ℕ) (x y z : Option Body) → Room limit u x y → Room 
 room_both limit u x y z a b t other h = b t other (a t other h)
 
 room_taken : (limit u : ℕ) (x : Option Body) → Room limit u x (slot_acquired u x)
-room_taken limit u None t other h = refl
-room_taken limit u (Some b) t other h = room_after_acquire limit u t b other h
+room_taken = search (arith, room_after_acquire)
 
 pub room_after : (limit : ℕ) (mode : Mode) (u : ℕ) (bodies : List (Option Body)) (ids : List Id)
     → RoomKept limit u bodies (bodies_after mode u bodies ids)
@@ -110,8 +90,7 @@ abbrev pub pending_count : List (Option Wait) → ℕ
 pending_count waits = count_by is_pending waits
 
 pub ready_pending : (bodies : List (Option Body)) (w : Option Wait) → is_ready bodies w ≡ true → is_pending w ≡ true
-ready_pending bodies None h = cc
-ready_pending bodies (Some w) h = search arith
+ready_pending = search arith
 
 pub settled_at_end : (scene : Scene) → length scene.waits ≤ first_ready scene.objects.bodies scene.waits
     → IsSettled scene.objects.bodies scene.waits
@@ -148,8 +127,7 @@ answered_by scene n w (Answered code) own is ready = absurd (cc)
 
 answered_at : (scene : Scene) (n : ℕ) (w : Option Wait) → get_or scene.waits n None ≡ w
     → is_ready scene.objects.bodies w ≡ true → Answers scene (effect_at scene n w) n
-answered_at scene n None is h = absurd (cc)
-answered_at scene n (Some w) is h = answered_by scene n w w.state is refl h
+answered_at = search (arith, answered_by)
 
 pub answers : (scene : Scene) (n : ℕ) → is_ready scene.objects.bodies (get_or scene.waits n None) ≡ true
     → Answers scene (effect scene n) n
@@ -163,23 +141,17 @@ ready_within scene n ready = search (arith, get_or_past)
 pub fewer : (scene : Scene) (n : ℕ) → n < length scene.waits
     → is_ready scene.objects.bodies (get_or scene.waits n None) ≡ true
     → pending_count (effect scene n).waits + 1 ≡ pending_count scene.waits
-fewer scene n in' ready =
-    let a = answers scene n ready in
-    let f : Option Wait → ℕ = λ w. cond (is_pending w) 1 0 in
-    let one : f (get_or scene.waits n None) ≡ 1 = search arith in
-    search (arith, sum_by-set)
+fewer scene n in' ready = search (arith, answers, sum_by-set)
 
 pub ready_counted : (scene : Scene) (n : ℕ) → is_ready scene.objects.bodies (get_or scene.waits n None) ≡ true
     → 0 < pending_count scene.waits
-ready_counted scene n ready =
-    search (arith, ready_within, get_or-le-sum_by)
+ready_counted scene n ready = search (arith, ready_within, get_or-le-sum_by)
 
 pub settled_step : (P : Scene → Type 0) (n : ℕ) (scene : Scene) →
     ((k : ℕ) → k < length scene.waits → is_ready scene.objects.bodies (get_or scene.waits k None) ≡ true
     → P (settled_within n (effect scene k))) →
     (length scene.waits ≤ first_ready scene.objects.bodies scene.waits → P scene) → P (settled_within (suc n) scene)
-settled_step P n scene step stop =
-    search (arith, passes_at_first)
+settled_step P n scene step stop = search (arith, passes_at_first)
 
 -- what holds of each effect, and over one after another, holds of settling
 pub settled_by_effects : (R : Scene → Scene → Type 0) → ((s : Scene) → R s s)
@@ -239,7 +211,7 @@ settled_none zero scene q = refl
 settled_none (suc n) scene q = settled_step (λ x. x ≡ scene) n scene (search arith) (λ le. refl)
 
 pub settled_same : (scene : Scene) → IsSettled scene.objects.bodies scene.waits → settled scene ≡ scene
-settled_same scene q = settled_none (length scene.waits) scene q
+settled_same scene q = search (arith, settled_none)
 
 -- where the wait of a number is ready and none below is, that is the first one that is ready
 pub first_is : (scene : Scene) (m : ℕ) → is_ready scene.objects.bodies (get_or scene.waits m None) ≡ true
@@ -251,5 +223,4 @@ pub settled_first : (fuel : ℕ) (scene : Scene) (m : ℕ)
     → is_ready scene.objects.bodies (get_or scene.waits m None) ≡ true
     → first_ready scene.objects.bodies scene.waits ≡ m
     → settled_within (suc fuel) scene ≡ settled_within fuel (effect scene m)
-settled_first fuel scene m ready first =
-    search (arith, ready_within)
+settled_first fuel scene m ready first = search (arith, ready_within)

@@ -1,14 +1,5 @@
 -- Numbers that are given to nobody.
-use Rattle.std.proofs.Common.{◌≡◌, ℕ, zero, suc, ◌+◌, ◌-◌, ◌≤◌, List, [], ◌∷◌, ◌++◌, length, replicate, Option, None, refl, arith, get_or}
-use Rattle.std.proofs.lemmas.List.{length-append, length-replicate, ext_get_or}
-use Rattle.ob_waits.specs.declared.wait.Wait.{Wait}
-use Rattle.ob_waits.specs.Answers.{AreTold, AnsweredNumbers}
-use Rattle.ob_waits.specs.Deadlines.{AreTimely}
-use Rattle.ob_waits.specs.Listed.{IsSparse, listed}
-use Rattle.ob_waits.specs.RisingNumbers.{IsOrdered}
-use Rattle.ob_waits.specs.PendingIndex.{IsTracked, PendingIndex}
-use Rattle.ob_waits.specs.ByThread.{AreByThread}
-use Rattle.ob_waits.specs.Waits.{skipped}
+use Rattle.ob_waits.proofs.Cited.{◌≡◌, ℕ, zero, suc, ◌+◌, ◌-◌, ◌≤◌, List, [], ◌∷◌, ◌++◌, length, replicate, Option, None, refl, arith, get_or, length-append, length-replicate, ext_get_or, Wait, AreTold, AnsweredNumbers, AreTimely, IsSparse, listed, IsOrdered, IsTracked, PendingIndex, AreByThread, skipped}
 use Rattle.ob_waits.proofs.ListedLaws.{length_listed, value_at}
 
 none_of : {A : Type 0} (n k : ℕ) → get_or (replicate {A = Option A} n None) k None ≡ None

@@ -1,19 +1,5 @@
 -- The tests of waits that are read are those that waits pass from call to call.
-use Rattle.std.proofs.Common.{◌≡◌, ℕ, zero, suc, ◌<◌, ◌≤◌, ◌||◌, not, Bool, true, false, ltb, List, [], ◌∷◌, length, Option, Some, None, refl, ap, ◌∙◌, sym, arith, get_or}
-use Rattle.std.specs.List.{list_all, list_any}
-use Rattle.std.specs.Prelude.{◌==◌}
-use Rattle.std.proofs.lemmas.Bool.{and_from, and_parts, false_from_ne_true, le-leb, lt-ltb, or_parts}
-use Rattle.std.proofs.lemmas.List.Folds.{list_any_at}
-use Rattle.pin_core.specs.declared.id.Id.{Id}
-use Rattle.ob_waits.specs.Deadlines.{AreTimely, deadline_of}
-use Rattle.ob_waits.specs.Form.{IsAfter}
-use Rattle.ob_waits.specs.PendingIndex.{IsTracked, PendingIndex}
-use Rattle.ob_waits.specs.Rules.{IsWaitable, WaitWaitable, thread_of}
-use Rattle.ob_waits.specs.Spelling.{can_be, may_list, may_stand, names_twice, one_each}
-use Rattle.ob_waits.specs.Waits.{has_slot, is_waits_of, nowhere}
-use Rattle.ob_waits.specs.declared.wait.Mode.{Mode}
-use Rattle.ob_waits.specs.declared.wait.Mode.TheVariants.{Any, All}
-use Rattle.ob_waits.specs.declared.wait.Wait.{Wait}
+use Rattle.ob_waits.proofs.Cited.{◌≡◌, ℕ, zero, suc, ◌<◌, ◌≤◌, ◌||◌, not, Bool, true, false, List, [], ◌∷◌, length, Option, Some, None, refl, ap, ◌∙◌, sym, arith, get_or, list_all, list_any, ◌==◌, and_from, and_parts, false_from_ne_true, le-leb, or_parts, list_any_at, Id, AreTimely, deadline_of, IsAfter, IsTracked, PendingIndex, IsWaitable, WaitWaitable, thread_of, can_be, may_list, may_stand, names_twice, one_each, has_slot, is_waits_of, nowhere, Mode, Wait}
 use Rattle.ob_waits.proofs.AddedLaws.{any_at}
 use Rattle.ob_waits.proofs.TrackedLaws.{waits_thread}
 
@@ -22,12 +8,7 @@ pub distinct-test : (ids : List Id) → names_twice ids ≡ false → (i j : ℕ
     → (get_or ids i nowhere).slot ≡ (get_or ids j nowhere).slot → ⊥
 distinct-test [] none i j lt in' same = omega arith
 distinct-test (id ∷ ids) none i zero lt in' same = omega arith
-distinct-test (id ∷ ids) none zero (suc j) lt in' same =
-    let first : has_slot ids id.slot ≡ false = search arith in
-    let here : ((get_or ids j nowhere).slot == id.slot) ≡ true = grind arith in
-    let has : has_slot ids id.slot ≡ true = list_any_at (λ (x : Id). x.slot == id.slot) ids j nowhere
-    (omega arith) here in
-    cc (first, has)
+distinct-test (id ∷ ids) none zero (suc j) lt in' same = search (arith, list_any_at)
 distinct-test (id ∷ ids) none (suc i) (suc j) lt in' same =
     distinct-test ids (or_parts (has_slot ids id.slot) (names_twice ids) none).1 i j (omega arith)
     (omega arith) same
@@ -46,23 +27,14 @@ test-distinct (id ∷ ids) apart =
 
 -- lists that may be waited for
 pub waitable : (mode : Mode) (ids : List Id) → may_list mode ids ≡ true → length ids ≤ 64 → IsWaitable mode ids
-waitable Any ids may few = search arith
-waitable All ids may few =
-    let b = and_parts (ltb 0 (length ids)) (not (names_twice ids)) may in
-    search (arith, distinct-test)
-  where
-    by : (t : Bool) → not t ≡ true → t ≡ false
-    by true e = absurd cc
-    by false e = refl
+waitable = search (arith, distinct-test, and_parts)
 
 may-wait : (mode : Mode) (ids : List Id) → IsWaitable mode ids → may_list mode ids ≡ true
-may-wait Any ids w = refl
-may-wait All ids w = search (arith, test-distinct)
+may-wait = search (arith, test-distinct)
 
 -- each wait that is kept passes
 pub stands : (clock : ℕ) (w : Option Wait) → WaitWaitable w → IsAfter clock (deadline_of w) → may_stand clock w ≡ true
-stands clock None can ahead = refl
-stands clock (Some w) can ahead = search (arith, may-wait)
+stands = search (arith, may-wait)
 
 all-stand : (clock : ℕ) (ws : List (Option Wait)) → ((n : ℕ) → may_stand clock (get_or ws n None) ≡ true)
     → list_all (may_stand clock) ws ≡ true

@@ -1,17 +1,6 @@
 -- What settling leaves as it is: whose wait each is, the waits that stay pending, the forms of bodies, the owners that
 -- are no waiter.
-use Rattle.std.proofs.Common.{arith, ◌≡◌, ◌⊎◌, ℕ, List, Option, Some, None, ap, get_or, true}
-use Rattle.std.specs.Prelude.{is_some}
-use Rattle.pin_core.specs.declared.id.Id.{Id}
-use Rattle.ob_body.specs.declared.body.Body.{Body}
-use Rattle.ob_waits.specs.declared.wait.Mode.{Mode}
-use Rattle.ob_waits.specs.declared.wait.Wait.{Wait}
-use Rattle.ob_waits.specs.declared.wait.State.{State}
-use Rattle.ob_waits.specs.declared.wait.State.TheVariants.{Pending, Answered}
-use Rattle.ob_waits.specs.CountedBodies.{slot_acquired}
-use Rattle.ob_waits.specs.Form.{slot_form, slot_owner, HasWait}
-use Rattle.ob_waits.specs.Rules.{thread_of}
-use Rattle.ob_waits.specs.Waits.{bodies_after, is_pending, Scene, effect_of, effect_at, settled}
+use Rattle.ob_waits.proofs.Cited.{arith, ◌≡◌, ◌⊎◌, ℕ, List, Option, Some, None, ap, get_or, true, is_some, Id, Body, Mode, Wait, State, Pending, Answered, slot_acquired, slot_form, slot_owner, HasWait, thread_of, bodies_after, is_pending, Scene, effect_of, effect_at, settled}
 use Rattle.ob_waits.proofs.Settling.{settled_by_effects}
 use Rattle.ob_waits.proofs.Keeping.{Fade, fade_both, effect_fades}
 use Rattle.ob_waits.proofs.EachSlot.{EachSlot, slots-satisfied, slots-taken}
@@ -43,7 +32,7 @@ stays_on ws = stays_both ws ws (λ t h. h)
 
 pub taken : (ws : List (Option Wait)) (u : ℕ) → HasWait u ws
     → (mode : Mode) (ids : List Id) (bodies : List (Option Body)) → AllStay ws bodies (bodies_after mode u bodies ids)
-taken ws u waits = slots-taken (Stays ws) (stays_same ws) (stays_on ws) u (stays_taken ws u waits)
+taken ws u waits = search (arith, stays_same, stays_taken, stays_on, slots-taken)
 
 -- one wait after another takes effect
 pub record Stay (scene after : Scene) : Type 0 where
@@ -64,7 +53,7 @@ stay_at scene n (Some w) own = stay_of scene n w w.state own
 
 stay_both : (a b c : Scene) → Stay a b → Stay b c → Stay a c
 stay_both a b c x y = record {
-  fade = fade_both a.waits b.waits c.waits x.fade y.fade;
+  fade = search (arith, fade_both);
   bodies = search arith;
 }
 
@@ -73,7 +62,7 @@ pub settled_stays : (scene : Scene) → Stay scene (settled scene)
 settled_stays scene = settled_by_effects Stay
     (λ s. search arith)
     stay_both
-    (λ s n ready. search (arith, stay_at, effect_fades)) scene
+    (search (arith, stay_at, effect_fades)) scene
 
 pub settled_thread : (scene : Scene) (n : ℕ) → thread_of (get_or (settled scene).waits n None)
     ≡ thread_of (get_or scene.waits n None)

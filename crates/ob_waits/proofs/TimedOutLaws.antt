@@ -1,18 +1,6 @@
 -- Waits whose time is up are answered: one before the others is no other state than all at once.
-use Rattle.std.proofs.Common.{◌≡◌, ℕ, ◌<◌, ◌≤◌, List, [], ◌∷◌, Option, Some, None, refl, ap, ◌∙◌, arith, get_or, set, map, Bool, true, false, cond}
-use Rattle.std.specs.Prelude.{count_by, sum_by}
+use Rattle.ob_waits.proofs.Cited.{◌≡◌, ℕ, ◌<◌, ◌≤◌, List, [], ◌∷◌, Option, Some, None, refl, ap, ◌∙◌, arith, get_or, set, map, Bool, true, false, cond, count_by, sum_by, get_or-map, length-map, get_or_past, ext_get_or, sum_by-set, sum_by-cons, Id, Body, Wait, is_overdue, timed_out, ended, slot_ended, CountedBodies, IsSettled, answered, blocks_among, is_ready, slot_blocks}
 use Rattle.std.proofs.Math.Seq.{map-set_same}
-use Rattle.std.proofs.Math.ListN.{get_or-map}
-use Rattle.std.proofs.lemmas.List.{length-map, get_or_past, ext_get_or}
-use Rattle.std.proofs.lemmas.List.Sums.{sum_by-set, sum_by-cons}
-use Rattle.pin_core.specs.declared.id.Id.{Id}
-use Rattle.ob_body.specs.declared.body.Body.{Body}
-use Rattle.ob_waits.specs.declared.wait.Wait.{Wait}
-use Rattle.ob_waits.specs.Deadlines.{is_overdue, timed_out}
-use Rattle.ob_waits.specs.Ends.{ended, slot_ended}
-use Rattle.ob_waits.specs.CountedBodies.{CountedBodies}
-use Rattle.ob_waits.specs.Rules.{IsSettled}
-use Rattle.ob_waits.specs.Waits.{answered, blocks_among, is_ready, slot_blocks}
 use Rattle.ob_waits.proofs.EndsLast.{ended_at, is_ended, length-ended}
 
 lapsed_idle : (now : ℕ) (w : Option Wait) → is_overdue now w ≡ false → timed_out now w ≡ w
@@ -21,8 +9,7 @@ lapsed_idle now w idle = search arith
 -- what is answered before the others is answered as with them
 pub lapsed_twice : (now : ℕ) (ws : List (Option Wait)) (n : ℕ) → is_overdue now (get_or ws n None) ≡ true
     → map (timed_out now) (set ws n (answered (get_or ws n None) 258)) ≡ map (timed_out now) ws
-lapsed_twice now ws n over =
-    search (arith, map-set_same)
+lapsed_twice now ws n over = search (arith, map-set_same)
 
 -- where no time is up nothing is answered
 pub none_lapsed : (now : ℕ) (ws : List (Option Wait)) → ((n : ℕ) → is_overdue now (get_or ws n None) ≡ false)
@@ -33,8 +20,7 @@ none_lapsed now ws none = ext_get_or None (map (timed_out now) ws) ws (length-ma
 -- with each that is answered one fewer is overdue
 pub fewer_overdue : (now : ℕ) (ws : List (Option Wait)) (n : ℕ) → is_overdue now (get_or ws n None) ≡ true
     → count_by (is_overdue now) (set ws n (answered (get_or ws n None) 258)) < count_by (is_overdue now) ws
-fewer_overdue now ws n over =
-    search (arith, get_or_past, sum_by-set)
+fewer_overdue now ws n over = search (arith, get_or_past, sum_by-set)
 
 sum_lapsed : (f : Option Wait → ℕ) → ((w : Option Wait) → f (answered w 258) ≤ f w)
     → (now : ℕ) (ws : List (Option Wait)) → sum_by f (map (timed_out now) ws) ≤ sum_by f ws

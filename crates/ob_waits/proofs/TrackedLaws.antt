@@ -1,20 +1,8 @@
 -- What the waits keep from call to call.
-use Rattle.ob_codec.proofs.AtPlace.{at_place}
-use Rattle.std.proofs.Common.{◌≡◌, ℕ, zero, suc, ◌<◌, List, [], ◌∷◌, length, Option, Some, None, refl, ap, arith, get_or, set, true}
-use Rattle.std.specs.List.{position_or_len}
-use Rattle.std.proofs.lemmas.List.{get_or_past}
+use Rattle.ob_waits.proofs.Cited.{at_place, ◌≡◌, ℕ, ◌<◌, List, [], ◌∷◌, length, Option, Some, None, arith, get_or, set, true, position_or_len, get_or_past, position_or_len_is, fails_before_first, Wait, thread_of, is_code, is_pending, is_waits_of, number_of, answered, PendingIndex, AreIndexed, ThinsIndex, IsTracked}
 use Rattle.std.proofs.lemmas.List.Quantifiers.{position-Some}
-use Rattle.std.proofs.lemmas.List.Sums.{position_or_len_is, fails_before_first}
-use Rattle.ob_waits.specs.declared.wait.Wait.{Wait}
-use Rattle.ob_waits.specs.Rules.{thread_of}
-use Rattle.ob_waits.specs.Waits.{is_code, is_pending, is_waits_of, number_of, answered}
-use Rattle.ob_waits.specs.PendingIndex.{PendingIndex, AreIndexed, ThinsIndex, IsTracked}
 use Rattle.ob_waits.proofs.Keeping.{Fade}
 use Rattle.ob_waits.proofs.PendingIndexLaws.{right_left}
-
-pub no_wait : (n : ℕ) → get_or {A = Option Wait} (None ∷ []) n None ≡ None
-no_wait zero = refl
-no_wait (suc n) = refl
 
 -- at first nothing is there
 pub tracked_none : (limit : ℕ) → limit < 4294967296 → IsTracked limit (None ∷ []) (record { order = []; index = [] })
@@ -22,12 +10,10 @@ tracked_none limit fits = search arith
 
 -- whose wait it is
 pub waits_thread : (t : ℕ) (w : Option Wait) → is_waits_of t w ≡ true → thread_of w ≡ Some t
-waits_thread t None h = absurd (cc)
-waits_thread t (Some w) h = ap Some (grind arith)
+waits_thread = search arith
 
 pub thread_waits : (t : ℕ) (w : Option Wait) → thread_of w ≡ Some t → is_waits_of t w ≡ true
-thread_waits t None h = absurd (cc)
-thread_waits t (Some w) h = search arith
+thread_waits = search arith
 
 pub has_wait : (ws : List (Option Wait)) (n t : ℕ) → thread_of (get_or ws n None) ≡ Some t → n < length ws
 has_wait ws n t h = search (arith, get_or_past)
@@ -43,8 +29,7 @@ number_own ws t n is = search (arith, position-Some)
 
 pub number_is : (ws : List (Option Wait)) (t n : ℕ) → thread_of (get_or ws n None) ≡ Some t
     → ((m : ℕ) → thread_of (get_or ws m None) ≡ Some t → m ≡ n) → number_of t ws ≡ Some n
-number_is ws t n own alone =
-    search (arith, has_wait, position_or_len_is)
+number_is ws t n own alone = search (arith, has_wait, position_or_len_is)
 
 pub number_none : (ws : List (Option Wait)) (t : ℕ) → ((m : ℕ) → thread_of (get_or ws m None) ≡ Some t → ⊥)
     → number_of t ws ≡ None

@@ -1,13 +1,6 @@
 -- Waits are written as their rows stand, by rising number.
-use Rattle.std.proofs.Common.{◌≡◌, ℕ, zero, suc, ◌+◌, ◌-◌, ◌<◌, ◌≤◌, ◌^◌, true, List, [], ◌∷◌, ◌++◌, length, drop, Option, Some, None, refl, ap, ◌∙◌, sym, subst, arith, append_assoc, get_or}
-use Rattle.std.specs.List.{AllByRecursion, flat_map}
-use Rattle.std.specs.Prelude.{is_some}
+use Rattle.ob_waits.proofs.Cited.{◌≡◌, ℕ, zero, suc, ◌+◌, ◌-◌, ◌<◌, ◌≤◌, ◌^◌, true, List, [], ◌∷◌, ◌++◌, length, drop, Option, Some, None, refl, ap, ◌∙◌, sym, subst, arith, append_assoc, get_or, AllByRecursion, flat_map, is_some, drop_all, length-append, SparseFits, entries_from, row_of, RowFits, WaitFits, row_text, Wait}
 use Rattle.std.proofs.lemmas.Grind.{flat_map-append}
-use Rattle.std.proofs.lemmas.List.{drop_all, length-append}
-use Rattle.ob_codec.specs.Sparse.{SparseFits, entries_from}
-use Rattle.ob_waits.specs.Rows.{row_of}
-use Rattle.ob_waits.specs.Spelling.{RowFits, WaitFits, row_text}
-use Rattle.ob_waits.specs.declared.wait.Wait.{Wait}
 
 -- the rows behind a number
 abbrev pub rows_behind : ℕ → List (Option Wait) → List (ℕ × Wait)
@@ -28,8 +21,7 @@ no_rows (suc d) k ws none =
     search (arith, one_row, no_rows d (suc k) ws (λ i le lt. none i (omega arith) (omega arith)))
 
 without : (w : Option Wait) → (is_some w ≡ true → ⊥) → w ≡ None
-without None h = refl
-without (Some w) h = absurd (h refl)
+without = search arith
 
 -- the next number has the next row, if it has one
 pub row_next : (last n : ℕ) (ws : List (Option Wait)) → last < n
@@ -91,5 +83,4 @@ written_next last n count more out out' before ws above least text is fit w = re
 -- waits of which each row fits have a spelling
 pub rows_fit : (ws : List (Option Wait)) (given : ℕ) → get_or ws 0 None ≡ None → length ws ≡ given + 1 → given < 2 ^ 32
     → AllByRecursion RowFits (entries_from 0 ws) → SparseFits WaitFits ws
-rows_fit ws given none len range fits =
-    search (arith, all_rows_few)
+rows_fit ws given none len range fits = search (arith, all_rows_few)

@@ -1,6 +1,5 @@
 -- A list of which one place was written, past its end too.
-use Rattle.std.proofs.Common.{◌≡◌, ℕ, arith, get_or, List, None, Option, set}
-use Rattle.std.proofs.lemmas.List.{get_or-set_other, get_or-set_same, get_or_past, length-set}
+use Rattle.ob_waits.proofs.Cited.{◌≡◌, ℕ, arith, get_or, List, None, Option, set, get_or-set_other, get_or-set_same, get_or_past, length-set}
 
 -- what is so of what was written there, and of what stands at a place, is so of what stands there then
 pub set_at : {A : Type 0} (P : A → Type 0) (xs : List A) (k i : ℕ) (x d : A) → (i ≡ k → P x) → P (get_or xs i d)

@@ -1,6 +1,4 @@
-use Rattle.std.proofs.Common.{◌≡◌, ◌≤◌, ◌<◌, ◌-◌, ℕ, None, true, get_or}
-use Rattle.ob_waits.specs.Answers.{is_answered}
-use Rattle.ob_waits.specs.Rules.{Within}
+use Rattle.ob_waits.proofs.Cited.{◌≡◌, ◌≤◌, ◌<◌, ◌-◌, ℕ, None, true, get_or, is_answered, Within}
 use Rattle.ob_waits.proofs.answer_queue.search_above.Given as goal
 
 abbrev pub invariant-loop-number : goal.invariant-loop-number

@@ -1,6 +1,4 @@
-use Rattle.std.proofs.Common.{◌≡◌, ◌≤◌, ◌*◌, ℕ, None, take, get_or}
-use Rattle.std.specs.Prelude.{sum_by}
-use Rattle.ob_waits.specs.Waits.{blocks_in}
+use Rattle.ob_waits.proofs.Cited.{◌≡◌, ◌≤◌, ◌*◌, ℕ, None, take, get_or, sum_by, blocks_in}
 use Rattle.ob_waits.proofs.blocks.blocks_of.Given as goal
 
 abbrev pub invariant-loop-number : goal.invariant-loop-number

@@ -1,9 +1,4 @@
-use Rattle.std.proofs.Common.{◌<◌, ℕ, get_or}
-use Rattle.std.specs.Prelude.{IfSome, ◌⊎◌}
-use Rattle.least.specs.From.{IsAtMost}
-use Rattle.ob_waits.specs.RisingNumbers.{numbers_of}
-use Rattle.ob_waits.specs.Rules.{IsSpent, Within}
-use Rattle.ob_waits.specs.Waits.{nowhere}
+use Rattle.ob_waits.proofs.Cited.{◌<◌, ℕ, get_or, IfSome, ◌⊎◌, IsAtMost, numbers_of, IsSpent, Within, nowhere}
 use Rattle.ob_waits.proofs.merge.next_number.Given as goal
 
 abbrev pub invariant-loop-id : goal.invariant-loop-id

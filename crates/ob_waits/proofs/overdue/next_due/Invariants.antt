@@ -1,5 +1,4 @@
-use Rattle.std.specs.Prelude.{count_by, is_some}
-use Rattle.ob_waits.specs.Deadlines.{AreListed}
+use Rattle.ob_waits.proofs.Cited.{count_by, is_some, AreListed}
 use Rattle.ob_waits.proofs.overdue.next_due.Given as goal
 
 abbrev pub invariant-loop-due : goal.invariant-loop-due

@@ -1,6 +1,5 @@
-use Rattle.std.specs.Prelude.{count_by}
+use Rattle.ob_waits.proofs.Cited.{count_by, AreListed}
 use Rattle.least.specs.Dues.{is_by}
-use Rattle.ob_waits.specs.Deadlines.{AreListed}
 use Rattle.ob_waits.proofs.overdue.next_overdue.Given as goal
 
 abbrev pub invariant-loop-thread : goal.invariant-loop-thread

@@ -1,5 +1,4 @@
-use Rattle.std.proofs.Common.{◌≡◌, drop}
-use Rattle.ob_waits.specs.CountedBodies.{without_blocks}
+use Rattle.ob_waits.proofs.Cited.{◌≡◌, drop, without_blocks}
 use Rattle.ob_waits.proofs.pass.leave_each.Given as goal
 
 abbrev pub invariant-loop-id : goal.invariant-loop-id

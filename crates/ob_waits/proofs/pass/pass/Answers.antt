@@ -1,5 +1,4 @@
-use Rattle.std.proofs.Common.{◌<◌, ◌∷◌, [], ◌∙◌, ap, get_or, length, rules, arith}
-use Rattle.ob_waits.specs.Waits.{Scene, settled}
+use Rattle.ob_waits.proofs.Cited.{◌<◌, ◌∷◌, [], ◌∙◌, ap, get_or, length, rules, arith, Scene, settled}
 use Rattle.ob_waits.proofs.Keeping.{fits_passed}
 use Rattle.ob_waits.proofs.PassLaws.{steps_on}
 use Rattle.ob_waits.proofs.pass.pass.Goals as goal

@@ -1,6 +1,4 @@
-use Rattle.std.proofs.Common.{◌≡◌, drop}
-use Rattle.ob_waits.specs.Waits.{Scene, settled}
-use Rattle.ob_waits.specs.Rules.{Covers, Fits}
+use Rattle.ob_waits.proofs.Cited.{◌≡◌, drop, Scene, settled, Covers, Fits}
 use Rattle.ob_waits.proofs.pass.pass.Given as goal
 
 abbrev pub invariant-loop-number : goal.invariant-loop-number

@@ -1,7 +1,4 @@
-use Rattle.std.proofs.Common.{◌≡◌, ◌<◌, ◌∷◌, [], ◌∙◌, List, None, ℕ, ap, eqb, get_or, length, rules, subst, sym, arith}
-use Rattle.ob_waits.specs.RisingNumbers.{numbers_of}
-use Rattle.ob_waits.specs.Rules.{IsReadyBy, IsSpent}
-use Rattle.ob_waits.specs.Waits.{Scene, is_pending, passed, settled}
+use Rattle.ob_waits.proofs.Cited.{◌≡◌, ◌<◌, ◌∷◌, [], ◌∙◌, List, None, ℕ, ap, eqb, get_or, length, rules, subst, sym, arith, numbers_of, IsReadyBy, IsSpent, Scene, is_pending, passed, settled}
 use Rattle.ob_waits.proofs.Keeping.{Fade, fade_both, fits_passed, passed_fades}
 use Rattle.ob_waits.proofs.NumberLaws.{thins_none}
 use Rattle.ob_waits.proofs.PassLaws.{by_passed, covered_all, covers_slot, settled_spent, steps_on, thins_on}

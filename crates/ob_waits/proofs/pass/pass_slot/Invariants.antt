@@ -1,7 +1,4 @@
-use Rattle.std.proofs.Common.{◌≡◌, drop, eqb, true}
-use Rattle.ob_waits.specs.RisingNumbers.{numbers_of, Thins}
-use Rattle.ob_waits.specs.Waits.{Scene, settled}
-use Rattle.ob_waits.specs.Rules.{Covers, Fits, IsReadyBy}
+use Rattle.ob_waits.proofs.Cited.{◌≡◌, drop, eqb, true, numbers_of, Thins, Scene, settled, Covers, Fits, IsReadyBy}
 use Rattle.ob_waits.proofs.Keeping.{Fade}
 use Rattle.ob_waits.proofs.pass.pass_slot.Given as goal
 

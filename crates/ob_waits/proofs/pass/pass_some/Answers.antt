@@ -1,5 +1,4 @@
-use Rattle.std.proofs.Common.{◌≡◌, ap, ◌∙◌, sym, subst, [], ◌∷◌, arith}
-use Rattle.ob_waits.specs.Waits.{Scene, passed, settled}
+use Rattle.ob_waits.proofs.Cited.{◌≡◌, ap, ◌∙◌, sym, subst, [], ◌∷◌, arith, Scene, passed, settled}
 use Rattle.ob_waits.proofs.Keeping.{Fade, fade_both, fits_passed, passed_fades}
 use Rattle.ob_waits.proofs.MergeLaws.{goes, all_gone}
 use Rattle.ob_waits.proofs.TrackedLaws.{lists_faded}

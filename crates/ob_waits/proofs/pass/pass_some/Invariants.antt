@@ -1,6 +1,4 @@
-use Rattle.std.proofs.Common.{◌≡◌}
-use Rattle.ob_waits.specs.Rules.{Covers, Fits}
-use Rattle.ob_waits.specs.Waits.{Scene, settled}
+use Rattle.ob_waits.proofs.Cited.{◌≡◌, Covers, Fits, Scene, settled}
 use Rattle.ob_waits.proofs.Keeping.{Fade}
 use Rattle.ob_waits.proofs.MergeLaws.{Remains}
 use Rattle.ob_waits.proofs.pass.pass_some.Given as goal

@@ -1,6 +1,4 @@
-use Rattle.std.proofs.Common.{None, arith, get_or}
-use Rattle.std.proofs.lemmas.Bool.{le-ltb}
-use Rattle.std.proofs.lemmas.List.{append-nil}
+use Rattle.ob_waits.proofs.Cited.{None, arith, get_or, le-ltb, append-nil}
 use Rattle.ob_waits.proofs.RenewedLaws.{alone_before, copied_all, copied_next, room_before}
 use Rattle.ob_waits.proofs.StandingLaws.{stands}
 use Rattle.ob_waits.proofs.reading.copy_all.Goals as goal

@@ -1,5 +1,4 @@
-use Rattle.std.proofs.Common.{◌≡◌, ◌-◌, suc, take}
-use Rattle.ob_waits.specs.Waits.{renewed}
+use Rattle.ob_waits.proofs.Cited.{◌≡◌, ◌-◌, suc, take, renewed}
 use Rattle.ob_waits.proofs.reading.copy_all.Given as goal
 
 abbrev pub invariant-loop-number : goal.invariant-loop-number

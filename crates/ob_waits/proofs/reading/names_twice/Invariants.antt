@@ -1,5 +1,4 @@
-use Rattle.std.proofs.Common.{◌≡◌, drop}
-use Rattle.ob_waits.specs.Spelling.{names_twice}
+use Rattle.ob_waits.proofs.Cited.{◌≡◌, drop, names_twice}
 use Rattle.ob_waits.proofs.reading.names_twice.Given as goal
 
 abbrev pub invariant-loop-i : goal.invariant-loop-i

@@ -1,13 +1,5 @@
-use Rattle.std.proofs.Common.{◌≡◌, ◌∷◌, ◌+◌, ◌∙◌, Bool, List, Some, ℕ, Result, Ok, Err, true, cond, drop, map, ap, subst, sym}
-use Rattle.std.proofs.lemmas.List.{drop_all, drop_more}
+use Rattle.ob_waits.proofs.Cited.{◌≡◌, ◌∷◌, ◌+◌, ◌∙◌, Bool, List, Some, ℕ, Result, Ok, Err, true, cond, drop, map, ap, subst, sym, drop_all, drop_more, built, tested, can_be, numbered_parts, with_rest, WaitList, skipped, TextFault, Value, NumberedWait, Wait}
 use Rattle.std.proofs.lemmas.Result.{err_from_is_err_and}
-use Rattle.ob_waits.specs.Rows.{built, tested}
-use Rattle.ob_waits.specs.Spelling.{can_be, numbered_parts, with_rest}
-use Rattle.ob_waits.specs.Waits.{WaitList, skipped}
-use Rattle.ob_codec.specs.declared.fault.TextFault.{TextFault}
-use Rattle.ob_codec.specs.declared.fault.TextFault.TheVariants.{Value}
-use Rattle.ob_waits.specs.declared.numbered_wait.NumberedWait.{NumberedWait}
-use Rattle.ob_waits.specs.declared.wait.Wait.{Wait}
 use Rattle.ob_waits.proofs.RowLaws.{ends, goes_on, left, left_none, Goes}
 use Rattle.ob_waits.proofs.reading.put_all.Goals as goal
 

@@ -1,6 +1,4 @@
-use Rattle.std.proofs.Common.{drop, map}
-use Rattle.ob_waits.specs.Rows.{built}
-use Rattle.ob_waits.specs.Spelling.{numbered_parts}
+use Rattle.ob_waits.proofs.Cited.{drop, map, built, numbered_parts}
 use Rattle.ob_waits.proofs.RowLaws.{Goes}
 use Rattle.ob_waits.proofs.reading.put_all.Given as goal
 

@@ -1,5 +1,4 @@
-use Rattle.std.proofs.Common.{◌≡◌, ◌-◌, ◌∙◌, None, false, sym, subst, arith}
-use Rattle.ob_waits.specs.Waits.{WaitList, is_full, number_of}
+use Rattle.ob_waits.proofs.Cited.{◌≡◌, ◌-◌, ◌∙◌, None, false, sym, subst, arith, WaitList, is_full, number_of}
 use Rattle.ob_waits.proofs.RowLaws.{alone_skipped, comes, not_full}
 use Rattle.ob_waits.proofs.reading.put_back.Goals as goal
 

@@ -1,6 +1,4 @@
-use Rattle.std.proofs.Common.{arith}
-use Rattle.ob_codec.proofs.AtPlace.{at_place}
-use Rattle.std.proofs.lemmas.List.{get_or_default}
+use Rattle.ob_waits.proofs.Cited.{arith, at_place, get_or_default}
 use Rattle.ob_waits.proofs.NumberLaws.{sift_kept}
 use Rattle.ob_waits.proofs.rising_numbers.sift.Goals as goal
 

@@ -1,5 +1,4 @@
-use Rattle.std.proofs.Common.{◌-◌, ◌≤◌}
-use Rattle.ob_waits.specs.RisingNumbers.{has_pending}
+use Rattle.ob_waits.proofs.Cited.{◌-◌, ◌≤◌, has_pending}
 use Rattle.ob_waits.proofs.NumberLaws.{IsSifted}
 use Rattle.ob_waits.proofs.rising_numbers.sift.Given as goal
 

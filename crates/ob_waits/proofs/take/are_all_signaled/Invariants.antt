@@ -1,6 +1,4 @@
-use Rattle.std.proofs.Common.{◌≡◌, take, true}
-use Rattle.std.specs.List.{list_all}
-use Rattle.ob_waits.specs.Waits.{is_signaled}
+use Rattle.ob_waits.proofs.Cited.{◌≡◌, take, true, list_all, is_signaled}
 use Rattle.ob_waits.proofs.take.are_all_signaled.Given as goal
 
 abbrev pub invariant-loop-id : goal.invariant-loop-id

@@ -1,5 +1,4 @@
-use Rattle.std.proofs.Common.{arith}
-use Rattle.ob_waits.specs.Waits.{is_signaled}
+use Rattle.ob_waits.proofs.Cited.{arith, is_signaled}
 use Rattle.ob_waits.proofs.Now.{first_here, first_later, first_past}
 use Rattle.ob_waits.proofs.take.first_signaled.Goals as goal
 

@@ -1,5 +1,4 @@
-use Rattle.std.proofs.Common.{◌≤◌}
-use Rattle.ob_waits.specs.Waits.{first_signaled}
+use Rattle.ob_waits.proofs.Cited.{◌≤◌, first_signaled}
 use Rattle.ob_waits.proofs.take.first_signaled.Given as goal
 
 abbrev pub invariant-loop-i : goal.invariant-loop-i

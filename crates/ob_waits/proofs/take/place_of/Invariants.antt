@@ -1,5 +1,4 @@
-use Rattle.std.proofs.Common.{ℕ, ◌<◌, ◌≢◌, get_or}
-use Rattle.ob_waits.specs.Waits.{nowhere}
+use Rattle.ob_waits.proofs.Cited.{ℕ, ◌<◌, ◌≢◌, get_or, nowhere}
 use Rattle.ob_waits.proofs.take.place_of.Given as goal
 
 abbrev pub invariant-loop-i : goal.invariant-loop-i

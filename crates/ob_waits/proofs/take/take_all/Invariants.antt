@@ -1,6 +1,4 @@
-use Rattle.std.proofs.Common.{◌≡◌, ◌<◌, ◌≤◌, ℕ, None, length, take, drop, get_or}
-use Rattle.std.specs.List.{list_any}
-use Rattle.ob_waits.specs.Waits.{nowhere, is_abandoned, with_all_acquired}
+use Rattle.ob_waits.proofs.Cited.{◌≡◌, ◌<◌, ◌≤◌, ℕ, None, length, take, drop, get_or, list_any, nowhere, is_abandoned, with_all_acquired}
 use Rattle.ob_waits.proofs.take.take_all.Given as goal
 
 abbrev pub invariant-loop-id : goal.invariant-loop-id

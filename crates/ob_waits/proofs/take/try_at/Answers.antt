@@ -1,6 +1,4 @@
-use Rattle.std.proofs.Common.{◌≡◌, ◌∷◌, [], ◌∙◌, List, ap, arith, get_or, length, refl}
-use Rattle.pin_core.specs.declared.id.Id.{Id}
-use Rattle.ob_waits.specs.Waits.{nowhere, objects_now}
+use Rattle.ob_waits.proofs.Cited.{◌≡◌, ◌∷◌, [], ◌∙◌, List, ap, arith, get_or, length, refl, Id, nowhere, objects_now}
 use Rattle.ob_waits.proofs.take.try_at.Goals as goal
 
 one : (ids : List Id) → length ids ≡ 1 → get_or ids 0 nowhere ∷ [] ≡ ids

@@ -1,5 +1,4 @@
-use Rattle.std.proofs.Common.{arith}
-use Rattle.std.proofs.lemmas.List.{append-nil}
+use Rattle.ob_waits.proofs.Cited.{arith, append-nil}
 use Rattle.ob_waits.proofs.WriteLaws.{all_rows_few, row_none, written_next}
 use Rattle.ob_waits.proofs.writing.write_rows.Goals as goal
 

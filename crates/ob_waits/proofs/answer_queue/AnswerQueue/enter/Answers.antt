@@ -1,5 +1,4 @@
-use Rattle.std.proofs.Common.{arith}
-use Rattle.std.proofs.lemmas.List.{drop-append-le}
+use Rattle.ob_waits.proofs.Cited.{arith, drop-append-le}
 use Rattle.ob_waits.proofs.NumberLaws.{rising_push}
 use Rattle.ob_waits.proofs.answer_queue.AnswerQueue.enter.Goals as goal
 

@@ -1,5 +1,4 @@
-use Rattle.std.proofs.Common.{◌-◌, ◌≤◌, drop, length}
-use Rattle.ob_waits.specs.Answers.{ThinsAnswered}
+use Rattle.ob_waits.proofs.Cited.{◌-◌, ◌≤◌, drop, length, ThinsAnswered}
 use Rattle.ob_waits.proofs.answer_queue.AnswerQueue.leave.Given as goal
 
 abbrev pub invariant-loop-self : goal.invariant-loop-self

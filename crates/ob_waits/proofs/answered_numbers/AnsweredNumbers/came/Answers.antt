@@ -1,5 +1,4 @@
-use Rattle.std.proofs.Common.{Some, subst, sym, arith}
-use Rattle.ob_waits.specs.Answers.{AreToldBut}
+use Rattle.ob_waits.proofs.Cited.{Some, subst, sym, arith, AreToldBut}
 use Rattle.ob_waits.proofs.AnswerLaws.{told_fresh}
 use Rattle.ob_waits.proofs.answered_numbers.AnsweredNumbers.came.Goals as goal
 

@@ -1,7 +1,4 @@
-use Rattle.std.proofs.Common.{Some, ap, subst, sym, arith}
-use Rattle.ob_codec.proofs.AtPlace.{at_place}
-use Rattle.ob_waits.specs.Answers.{AreToldBut}
-use Rattle.ob_waits.specs.Rules.{thread_of}
+use Rattle.ob_waits.proofs.Cited.{Some, ap, subst, sym, arith, at_place, AreToldBut, thread_of}
 use Rattle.ob_waits.proofs.answered_numbers.AnsweredNumbers.come_out_of_order.Goals as goal
 
 pub set-requires : goal.set-requires

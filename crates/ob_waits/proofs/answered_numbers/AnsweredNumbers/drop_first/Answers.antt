@@ -1,5 +1,4 @@
-use Rattle.std.proofs.Common.{refl, subst, sym}
-use Rattle.ob_waits.specs.Answers.{AreTold}
+use Rattle.ob_waits.proofs.Cited.{refl, subst, sym, AreTold}
 use Rattle.ob_waits.proofs.AnswerLaws.{told_dropped}
 use Rattle.ob_waits.proofs.answered_numbers.AnsweredNumbers.drop_first.Goals as goal
 

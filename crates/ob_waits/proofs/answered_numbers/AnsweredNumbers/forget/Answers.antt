@@ -1,5 +1,4 @@
-use Rattle.std.proofs.Common.{◌≡◌, ◌≢◌, None, Some, List, Option, ℕ, get_or, rules, set, subst, sym, arith}
-use Rattle.ob_waits.specs.Answers.{AnsweredNumbers, AreTold}
+use Rattle.ob_waits.proofs.Cited.{◌≡◌, ◌≢◌, None, Some, List, Option, ℕ, get_or, rules, set, subst, sym, arith, AnsweredNumbers, AreTold}
 use Rattle.ob_waits.proofs.AnswerLaws.{told_cleared, told_gone}
 use Rattle.ob_waits.proofs.answered_numbers.AnsweredNumbers.forget.Goals as goal
 

@@ -1,5 +1,4 @@
-use Rattle.std.proofs.Common.{◌<◌, arith, length, subst, sym}
-use Rattle.ob_waits.specs.Answers.{AreTold}
+use Rattle.ob_waits.proofs.Cited.{◌<◌, arith, length, subst, sym, AreTold}
 use Rattle.ob_waits.proofs.TrackedLaws.{has_wait}
 use Rattle.ob_waits.proofs.answered_numbers.AnsweredNumbers.out_of_order_above.Goals as goal
 

@@ -1,7 +1,4 @@
-use Rattle.std.proofs.Common.{◌≡◌, ◌<◌, ℕ, None, false, get_or}
-use Rattle.ob_waits.specs.Rules.{Within}
-use Rattle.ob_waits.specs.RisingNumbers.{numbers_of, AreOrdered, KeepsEach}
-use Rattle.ob_waits.specs.Waits.{is_pending, nowhere}
+use Rattle.ob_waits.proofs.Cited.{◌≡◌, ◌<◌, ℕ, None, false, get_or, Within, numbers_of, AreOrdered, KeepsEach, is_pending, nowhere}
 use Rattle.ob_waits.proofs.index.Index.enter_all.Given as goal
 
 abbrev pub invariant-loop-id : goal.invariant-loop-id

@@ -1,6 +1,4 @@
-use Rattle.std.proofs.Common.{◌≡◌, [], List, ℕ, ◌<◌, length, subst, rules, arith}
-use Rattle.std.proofs.lemmas.List.{get_or_read}
-use Rattle.ob_waits.specs.RisingNumbers.{AreOrdered, KeepsPending, numbers_of}
+use Rattle.ob_waits.proofs.Cited.{◌≡◌, [], List, ℕ, ◌<◌, length, subst, rules, arith, get_or_read, AreOrdered, KeepsPending, numbers_of}
 use Rattle.ob_waits.proofs.IndexLaws.{lists_changed, keeps_changed, stays_changed}
 use Rattle.ob_waits.proofs.index.Index.enter_there.Goals as goal
 

@@ -1,5 +1,4 @@
-use Rattle.std.proofs.Common.{◌≡◌, ◌-◌, ◌+◌, ℕ, length}
-use Rattle.ob_waits.specs.RisingNumbers.{numbers_of}
+use Rattle.ob_waits.proofs.Cited.{◌≡◌, ◌-◌, ◌+◌, ℕ, length, numbers_of}
 use Rattle.ob_waits.proofs.index.Index.make_room.Given as goal
 
 abbrev pub invariant-loop-self : goal.invariant-loop-self

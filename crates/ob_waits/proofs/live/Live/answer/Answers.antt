@@ -1,5 +1,4 @@
-use Rattle.std.proofs.Common.{arith}
-use Rattle.ob_codec.proofs.AtPlace.{at_place}
+use Rattle.ob_waits.proofs.Cited.{arith, at_place}
 use Rattle.ob_waits.proofs.live.Live.answer.Goals as goal
 
 pub came-requires-clause-told : goal.came-requires-clause-told

@@ -1,6 +1,4 @@
-use Rattle.std.proofs.Common.{List, Option, subst, sym, arith}
-use Rattle.ob_waits.specs.declared.wait.Wait.{Wait}
-use Rattle.ob_waits.specs.Answers.{AreTold}
+use Rattle.ob_waits.proofs.Cited.{List, Option, subst, sym, arith, Wait, AreTold}
 use Rattle.ob_waits.proofs.AnswerLaws.{told_added}
 use Rattle.ob_waits.proofs.live.Live.push.Goals as goal
 

@@ -1,7 +1,4 @@
-use Rattle.std.proofs.Common.{◌≡◌, ◌++◌, ◌∷◌, [], List, Option, Some, ap, arith, length, subst, sym}
-use Rattle.std.proofs.lemmas.List.{length_push}
-use Rattle.ob_waits.specs.declared.wait.Wait.{Wait}
-use Rattle.ob_waits.specs.Answers.{AreToldBut}
+use Rattle.ob_waits.proofs.Cited.{◌≡◌, ◌++◌, ◌∷◌, [], List, Option, Some, ap, arith, length, subst, sym, length_push, Wait, AreToldBut}
 use Rattle.ob_waits.proofs.AnswerLaws.{told_came}
 use Rattle.ob_waits.proofs.live.Live.push_answered.Goals as goal
 

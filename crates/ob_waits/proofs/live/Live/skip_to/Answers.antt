@@ -1,6 +1,4 @@
-use Rattle.std.proofs.Common.{List, Option, subst, sym}
-use Rattle.ob_waits.specs.declared.wait.Wait.{Wait}
-use Rattle.ob_waits.specs.Answers.{AreTold}
+use Rattle.ob_waits.proofs.Cited.{List, Option, subst, sym, Wait, AreTold}
 use Rattle.ob_waits.proofs.SkipLaws.{told_skipped}
 use Rattle.ob_waits.proofs.live.Live.skip_to.Goals as goal
 

@@ -1,8 +1,5 @@
-use Rattle.std.proofs.Common.{◌≡◌, ◌<◌, List, Option, None, get_or, length, nat_eq, true, arith}
-use Rattle.std.specs.Option.{is_some}
+use Rattle.ob_waits.proofs.Cited.{◌≡◌, ◌<◌, List, Option, None, get_or, length, nat_eq, true, arith, is_some, NumberedThread, home, thread_or}
 use Rattle.std.specs.HashMap.{get}
-use Rattle.ob_waits.specs.declared.number_map.NumberedThread.{NumberedThread}
-use Rattle.ob_waits.specs.ByThread.{home, thread_or}
 use Rattle.ob_waits.proofs.PlaceLaws.{left_placed, left_others_placed, set_read, stands_there}
 use Rattle.ob_waits.proofs.number_map.NumberMap.remove.Goals as goal
 

@@ -1,6 +1,4 @@
-use Rattle.std.proofs.Common.{◌*◌, ◌+◌, subst, List, Option, arith}
-use Rattle.ob_waits.specs.declared.number_map.NumberedThread.{NumberedThread}
-use Rattle.ob_waits.specs.ByThread.{IsSpread}
+use Rattle.ob_waits.proofs.Cited.{◌*◌, ◌+◌, subst, List, Option, arith, NumberedThread, IsSpread}
 use Rattle.ob_waits.proofs.PlaceLaws.{spread_placed, wide_is}
 use Rattle.ob_waits.proofs.number_map.NumberMap.widen.Goals as goal
 

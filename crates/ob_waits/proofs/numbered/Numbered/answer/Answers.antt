@@ -1,8 +1,4 @@
-use Rattle.std.proofs.Common.{◌∙◌, List, None, Option, ap, get_or, set, arith}
-use Rattle.ob_waits.specs.declared.wait.Wait.{Wait}
-use Rattle.ob_waits.specs.Rules.{thread_of}
-use Rattle.ob_waits.specs.ByThread.{found, thread_at}
-use Rattle.ob_waits.specs.Waits.{answered}
+use Rattle.ob_waits.proofs.Cited.{◌∙◌, List, None, Option, ap, get_or, set, arith, Wait, thread_of, found, thread_at, answered}
 use Rattle.ob_waits.proofs.ListedLaws.{listed_updated}
 use Rattle.ob_waits.proofs.ByThreadLaws.{answer_by_thread, answered_found, known_held, number_reads}
 use Rattle.ob_waits.proofs.numbered.Numbered.answer.Goals as goal

@@ -1,6 +1,4 @@
-use Rattle.std.proofs.Common.{◌≡◌, ◌+◌, ℕ, List, None, Option, Some, arith, get_or, refl, set}
-use Rattle.ob_waits.specs.declared.numbered_wait.NumberedWait.{NumberedWait}
-use Rattle.ob_waits.specs.ByThread.{thread_at}
+use Rattle.ob_waits.proofs.Cited.{◌≡◌, ◌+◌, ℕ, List, None, Option, Some, arith, get_or, refl, set, NumberedWait, thread_at}
 use Rattle.ob_waits.proofs.ListedLaws.{length_listed, listed_inserted}
 use Rattle.ob_waits.proofs.PlaceLaws.{set_read}
 use Rattle.ob_waits.proofs.ByThreadLaws.{free_thread, not_given, same_by_thread, took_found, took_thread}

@@ -1,7 +1,4 @@
-use Rattle.std.proofs.Common.{◌∙◌, List, None, Option, ap, get_or, set}
-use Rattle.ob_waits.specs.declared.wait.Wait.{Wait}
-use Rattle.ob_waits.specs.Rules.{thread_of}
-use Rattle.ob_waits.specs.ByThread.{found, thread_at}
+use Rattle.ob_waits.proofs.Cited.{◌∙◌, List, None, Option, ap, get_or, set, Wait, thread_of, found, thread_at}
 use Rattle.ob_waits.proofs.ListedLaws.{listed_removed}
 use Rattle.ob_waits.proofs.ByThreadLaws.{known_held, left_found, left_thread}
 use Rattle.ob_waits.proofs.numbered.Numbered.remove.Goals as goal

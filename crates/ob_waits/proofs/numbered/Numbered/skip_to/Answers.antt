@@ -1,7 +1,4 @@
-use Rattle.std.proofs.Common.{◌≤◌, ◌∙◌, List, Option, ap, arith, length, suc}
-use Rattle.ob_waits.specs.declared.wait.Wait.{Wait}
-use Rattle.ob_waits.specs.ByThread.{found, thread_at}
-use Rattle.ob_waits.specs.Waits.{skipped}
+use Rattle.ob_waits.proofs.Cited.{◌≤◌, ◌∙◌, List, Option, ap, arith, length, suc, Wait, found, thread_at, skipped}
 use Rattle.ob_waits.proofs.ListedLaws.{length_listed}
 use Rattle.ob_waits.proofs.ByThreadLaws.{by_thread_sparse}
 use Rattle.ob_waits.proofs.SkipLaws.{listed_skipped, by_thread_skipped}

@@ -1,5 +1,4 @@
-use Rattle.std.proofs.Common.{◌-◌, ◌≤◌, drop, length}
-use Rattle.ob_waits.specs.RisingNumbers.{Thins}
+use Rattle.ob_waits.proofs.Cited.{◌-◌, ◌≤◌, drop, length, Thins}
 use Rattle.ob_waits.proofs.rising_numbers.RisingNumbers.advance.Given as goal
 
 abbrev pub invariant-loop-self : goal.invariant-loop-self

@@ -1,5 +1,4 @@
-use Rattle.std.proofs.Common.{arith}
-use Rattle.std.proofs.lemmas.List.{drop-append-le}
+use Rattle.ob_waits.proofs.Cited.{arith, drop-append-le}
 use Rattle.ob_waits.proofs.NumberLaws.{ordered_appended, within_left, within_last}
 use Rattle.ob_waits.proofs.rising_numbers.RisingNumbers.append.Goals as goal
 

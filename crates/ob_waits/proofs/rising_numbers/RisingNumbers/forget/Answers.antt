@@ -1,6 +1,5 @@
-use Rattle.std.proofs.Common.{◌≡◌, ◌++◌, ◌∷◌, [], ◌≤◌, List, ℕ, true, ap, sym, ◌∙◌, drop, length, arith}
+use Rattle.ob_waits.proofs.Cited.{◌≡◌, ◌++◌, ◌∷◌, [], ◌≤◌, List, ℕ, true, ap, sym, ◌∙◌, drop, length, arith, ends_with}
 use Rattle.std.specs.Vec.{vec_len}
-use Rattle.ob_waits.specs.RisingNumbers.{ends_with}
 use Rattle.ob_waits.proofs.NumberLaws.{last_left, thins_last}
 use Rattle.ob_waits.proofs.rising_numbers.RisingNumbers.forget.Goals as goal
 use Rattle.ob_waits.proofs.rising_numbers.RisingNumbers.forget.Goals.{After-pop}

@@ -1,5 +1,4 @@
-use Rattle.std.proofs.Common.{arith}
-use Rattle.std.proofs.lemmas.List.{drop-drop, drop_all}
+use Rattle.ob_waits.proofs.Cited.{arith, drop-drop, drop_all}
 use Rattle.ob_waits.proofs.rising_numbers.RisingNumbers.skip.Goals as goal
 
 pub returns-then-self-len : goal.returns-then-self-len

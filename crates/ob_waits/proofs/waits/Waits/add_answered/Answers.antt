@@ -1,9 +1,4 @@
-use Rattle.std.proofs.Common.{◌≡◌, ◌+◌, ◌≤◌, None, List, Option, false, arith, length, subst, sym}
-use Rattle.std.proofs.lemmas.Bool.Decides.{nat_tests}
-use Rattle.ob_waits.specs.declared.wait.Wait.{Wait}
-use Rattle.ob_waits.specs.Deadlines.{AreTimely}
-use Rattle.ob_waits.specs.PendingIndex.{IsTracked}
-use Rattle.ob_waits.specs.Waits.{WaitList, is_full, number_of}
+use Rattle.ob_waits.proofs.Cited.{◌≡◌, ◌+◌, ◌≤◌, None, List, Option, false, arith, length, subst, sym, nat_tests, Wait, AreTimely, IsTracked, WaitList, is_full, number_of}
 use Rattle.ob_waits.proofs.AddedLaws.{tracked_answered}
 use Rattle.ob_waits.proofs.DeadlineLaws.{timely_answered}
 use Rattle.ob_waits.proofs.waits.Waits.add_answered.Goals as goal

@@ -1,10 +1,5 @@
-use Rattle.std.proofs.Common.{◌≡◌, ◌≤◌, ◌+◌, ◌++◌, [], ◌∷◌, None, Some, List, Option, false, subst, sym, arith, length}
-use Rattle.ob_waits.specs.declared.wait.Wait.{Wait}
-use Rattle.ob_waits.specs.Waits.{new_wait, WaitList, number_of, is_full}
-use Rattle.ob_waits.specs.PendingIndex.{IsTracked}
+use Rattle.ob_waits.proofs.Cited.{◌≡◌, ◌≤◌, ◌+◌, ◌++◌, [], ◌∷◌, None, Some, List, Option, false, subst, sym, arith, length, Wait, new_wait, WaitList, number_of, is_full, IsTracked, AreTimely, IsAfter}
 use Rattle.ob_waits.proofs.AddedLaws.{tracked_added}
-use Rattle.ob_waits.specs.Deadlines.{AreTimely}
-use Rattle.ob_waits.specs.Form.{IsAfter}
 use Rattle.ob_waits.proofs.DeadlineLaws.{timely_added}
 use Rattle.ob_waits.proofs.waits.Waits.admit.Goals as goal
 

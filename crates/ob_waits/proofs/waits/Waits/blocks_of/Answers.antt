@@ -1,7 +1,4 @@
-use Rattle.std.proofs.Common.{ℕ, None, refl, ap, ◌∙◌, arith, get_or, length}
-use Rattle.std.specs.Prelude.{sum_by}
-use Rattle.ob_waits.specs.RisingNumbers.{numbers_of}
-use Rattle.ob_waits.specs.Waits.{WaitList, blocks_in, blocks_among}
+use Rattle.ob_waits.proofs.Cited.{ℕ, None, refl, ap, ◌∙◌, arith, get_or, length, sum_by, numbers_of, WaitList, blocks_in, blocks_among}
 use Rattle.ob_waits.proofs.BlockLaws.{sum_numbers, length-ordered, blocks_named}
 use Rattle.ob_waits.proofs.waits.Waits.blocks_of.Goals as goal
 

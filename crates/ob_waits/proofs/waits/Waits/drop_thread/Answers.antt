@@ -1,5 +1,4 @@
-use Rattle.std.proofs.Common.{sym, arith}
-use Rattle.ob_codec.proofs.AtPlace.{at_place}
+use Rattle.ob_waits.proofs.Cited.{sym, arith, at_place}
 use Rattle.ob_waits.proofs.TrackedLaws.{number_own}
 use Rattle.ob_waits.proofs.waits.Waits.drop_thread.Goals as goal
 

@@ -1,11 +1,5 @@
-use Rattle.std.proofs.Common.{◌≡◌, ◌∷◌, ◌∙◌, [], Bool, List, None, Ok, Err, ap, cond, false, map, subst, sym, true}
+use Rattle.ob_waits.proofs.Cited.{◌≡◌, ◌∷◌, ◌∙◌, [], Bool, List, None, Ok, Err, ap, cond, false, map, subst, sym, true, Value, Fails, built, rows_within, numbered_parts, waits_at, WaitList, NumberedWait}
 use Rattle.std.proofs.lemmas.Result.{err_from_is_err_and}
-use Rattle.ob_codec.specs.declared.fault.TextFault.TheVariants.{Value}
-use Rattle.ob_codec.specs.Reading.{Fails}
-use Rattle.ob_waits.specs.Rows.{built, rows_within}
-use Rattle.ob_waits.specs.Spelling.{numbered_parts, waits_at}
-use Rattle.ob_waits.specs.Waits.{WaitList}
-use Rattle.ob_waits.specs.declared.numbered_wait.NumberedWait.{NumberedWait}
 use Rattle.ob_waits.proofs.ReadLaws.{behind, none_read, read_fails, read_within, rows_read}
 use Rattle.ob_waits.proofs.RowLaws.{too_many}
 use Rattle.ob_waits.proofs.waits.Waits.read.Goals as goal

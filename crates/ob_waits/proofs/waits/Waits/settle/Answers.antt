@@ -1,6 +1,4 @@
-use Rattle.std.proofs.Common.{ap, subst, sym}
-use Rattle.ob_waits.specs.Rules.{IsRising}
-use Rattle.ob_waits.specs.Waits.{WaitList}
+use Rattle.ob_waits.proofs.Cited.{ap, subst, sym, IsRising, WaitList}
 use Rattle.ob_waits.proofs.SettleLaws.{kept_after, room_settled, settled_after, value_seen}
 use Rattle.ob_waits.proofs.waits.Waits.settle.Goals as goal
 

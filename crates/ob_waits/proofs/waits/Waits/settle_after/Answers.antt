@@ -1,5 +1,4 @@
-use Rattle.std.proofs.Common.{ap}
-use Rattle.ob_waits.specs.Waits.{WaitList}
+use Rattle.ob_waits.proofs.Cited.{ap, WaitList}
 use Rattle.ob_waits.proofs.SettleLaws.{kept_after, room_settled, settled_after, value_seen}
 use Rattle.ob_waits.proofs.waits.Waits.settle_after.Goals as goal
 

@@ -1,8 +1,4 @@
-use Rattle.std.proofs.Common.{◌+◌, ◌≤◌, List, Option, length, subst, sym}
-use Rattle.ob_waits.specs.declared.wait.Wait.{Wait}
-use Rattle.ob_waits.specs.Deadlines.{AreTimely}
-use Rattle.ob_waits.specs.PendingIndex.{IsTracked}
-use Rattle.ob_waits.specs.Waits.{WaitList}
+use Rattle.ob_waits.proofs.Cited.{◌+◌, ◌≤◌, List, Option, length, subst, sym, Wait, AreTimely, IsTracked, WaitList}
 use Rattle.ob_waits.proofs.SkipLaws.{timely_skipped, tracked_skipped}
 use Rattle.ob_waits.proofs.StandingLaws.{kept_can_be}
 use Rattle.ob_waits.proofs.waits.Waits.skip_to.Goals as goal

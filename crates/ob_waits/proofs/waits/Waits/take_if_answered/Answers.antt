@@ -1,6 +1,4 @@
-use Rattle.std.proofs.Common.{◌≡◌, false, None, Some, get_or, arith}
-use Rattle.ob_waits.specs.Rules.{thread_of}
-use Rattle.ob_waits.specs.Waits.{is_pending}
+use Rattle.ob_waits.proofs.Cited.{◌≡◌, false, None, Some, get_or, arith, thread_of, is_pending}
 use Rattle.ob_waits.proofs.DeadlineLaws.{timely_removed}
 use Rattle.ob_waits.proofs.TrackedLaws.{tracked_left, tracked_removed}
 use Rattle.ob_waits.proofs.Writes.{set_none}

@@ -1,6 +1,4 @@
-use Rattle.std.proofs.Common.{◌≤◌, arith, length, subst}
-use Rattle.ob_waits.specs.Rules.{WaitsInvariant}
-use Rattle.ob_waits.specs.Waits.{WaitList}
+use Rattle.ob_waits.proofs.Cited.{◌≤◌, arith, length, subst, WaitsInvariant, WaitList}
 use Rattle.ob_waits.proofs.waits.Waits.wait_of.Goals as goal
 
 pub returns-clause-kept : goal.returns-clause-kept

@@ -1,6 +1,4 @@
-use Rattle.std.proofs.Common.{OnOk, subst, arith}
-use Rattle.ob_waits.specs.Spelling.{WaitsFit}
-use Rattle.ob_waits.specs.Waits.{WaitList}
+use Rattle.ob_waits.proofs.Cited.{OnOk, subst, arith, WaitsFit, WaitList}
 use Rattle.ob_waits.proofs.StandingLaws.{kept_can_be}
 use Rattle.ob_waits.proofs.WriteLaws.{rows_fit}
 use Rattle.ob_waits.proofs.waits.Waits.write.Goals as goal
