@@ -1,13 +1,7 @@
 -- The parts of a packed word, and the bits that the keeper sets.
-use Rattle.std.proofs.Common.{◌≡◌, ℕ, ◌+◌, ◌-◌, ◌*◌, ◌%◌, ◌^◌, ◌<◌, refl, ◌∙◌, arith, subst}
+use Rattle.pin_words.proofs.Cited.{◌≡◌, ℕ, ◌+◌, ◌-◌, ◌*◌, ◌%◌, ◌^◌, ◌<◌, refl, ◌∙◌, arith, subst, bit_or, packed}
 use Rattle.std.proofs.lemmas.Nat.{or_block}
-use Rattle.std.specs.Prelude.{bit_or}
 use Rattle.std.specs.Int.Bits.{or_zero_r}
-use Rattle.pin_core.specs.declared.word.Word.{Word}
-use Rattle.pin_core.specs.Words.{encoded, decoded, packed}
-
-pub decoded-encoded : (w : Word) → w.pins < 1073741824 → decoded (encoded w) ≡ w
-decoded-encoded w h = search arith
 
 or_low : (g c d r : ℕ) → c < 4 → d < 4 → bit_or c d ≡ r → bit_or (g * 4 + c) d ≡ g * 4 + r
 or_low g c d r hc hd e = let f : bit_or (g * 2 ^ 2 + c) (0 * 2 ^ 2 + d) ≡ bit_or g 0 * 2 ^ 2 + bit_or c d =

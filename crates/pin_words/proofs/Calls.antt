@@ -1,36 +1,7 @@
 -- What the calls of readers and of the keeper need of the steps.
-use Rattle.std.proofs.lemmas.Bool.Decides.{nat_tests}
-use Rattle.ob_codec.proofs.AtPlace.{at_place}
-use Rattle.std.proofs.Common.{◌≡◌, ◌≢◌, ⊎_elim, ℕ, ◌<◌, List, [], ◌∷◌, ◌++◌, length, get_or, set, Some, None, sym, refl, ap, ◌∙◌, subst, arith}
-use Rattle.std.proofs.lemmas.List.{append_assoc, get_or_read}
-use mathlib.Core.Option.{none}
-use Rattle.atomic_table.specs.Table.{step, Allows}
-use Rattle.pin_core.specs.declared.word.Word.{Word}
-use Rattle.pin_core.specs.declared.id.Id.{Id}
-use Rattle.pin_core.specs.declared.descr.Descr.{Descr}
-use Rattle.pin_core.specs.declared.word.Phase.TheVariants.{Free, Live}
-use Rattle.pin_core.specs.declared.shape.Shape.{Shape}
-use Rattle.pin_core.specs.declared.world.Slot.{Slot}
-use Rattle.pin_core.specs.Words.{decoded}
+use Rattle.pin_words.proofs.Cited.{nat_tests, at_place, ◌≡◌, ◌≢◌, ⊎_elim, ℕ, ◌<◌, List, [], ◌∷◌, ◌++◌, length, get_or, set, Some, None, sym, refl, ap, ◌∙◌, subst, arith, append_assoc, get_or_read, none, step, Allows, Word, Id, Descr, Free, Live, Shape, Slot, decoded, tally, drop_last, same_id, slot_of, reclaimed, count-snoc, count-drop_last-le, Look, KeeperView, ReaderView, View, IsPlace, place_of, descr_place, M, view, look, id_in, reader_with, reader_got, reader_released, keeper_with, keeper_stored, reader_of, keeper_of, IsReaders, IsKeepers, Shown, Behind, TellsReader, got_view, released, noted, stored, Stale, Go, verdict_of, Err, IfSome, option_map, StaleStays, HasOnlyLooked, WasStale, Tries}
 use Rattle.pin_core.specs.Descrs as descr_code
-use Rattle.pin_core.specs.Holds.{tally, drop_last, same_id}
-use Rattle.pin_core.specs.Worlds.{slot_of}
-use Rattle.pin_core.specs.Events.{reclaimed}
-use Rattle.pin_core.proofs.Counts.{count-snoc, count-drop_last-le}
-use Rattle.pin_words.specs.declared.view.Look.{Look}
-use Rattle.pin_words.specs.declared.view.KeeperView.{KeeperView}
-use Rattle.pin_words.specs.declared.view.ReaderView.{ReaderView}
-use Rattle.pin_words.specs.declared.view.View.{View}
-use Rattle.pin_words.specs.Places.{IsPlace, place_of, descr_place}
-use Rattle.pin_words.specs.Views.{M, view, look, id_in, reader_with, reader_got, reader_released, keeper_with, keeper_stored, reader_of, keeper_of, IsReaders, IsKeepers}
-use Rattle.pin_words.specs.Shown.{Shown}
-use Rattle.pin_words.specs.Plays.{Behind, TellsReader, got_view, released, noted, stored}
-use Rattle.pin_words.specs.declared.fault.Verdict.TheVariants.{Stale, Go}
-use Rattle.pin_words.specs.Verdicts.{verdict_of}
-use Rattle.std.specs.Prelude.{Err, IfSome, option_map}
 use Rattle.pin_words.specs.declared.fault.PinFault.TheVariants as fault
-use Rattle.pin_words.specs.Laws.{StaleStays}
-use Rattle.pin_words.specs.Tries.{HasOnlyLooked, WasStale, Tries}
 use Rattle.pin_words.proofs.ReaderSteps.{notes-step}
 use Rattle.pin_words.proofs.KeeperSteps.{stores-step}
 use Rattle.pin_words.proofs.Losing.{lost-onward}

@@ -1,12 +1,6 @@
 -- A struct that has only ghost fields lies nowhere, and is made of nothing.
-use Rattle.std.proofs.Common.{arith}
-use Rattle.std.proofs.Common.{List, [], ◌∷◌, refl}
-use seplogic.Ra.Ura.{Ura}
-use mir.Val.{Val, vstruct, vnil}
-use types.Logic.{Logic}
-use types.Kit.{Goal, Step, step, Item, ‵, ◌$◌, fjoin, fpack, feq_i}
-use denote.RattleType.{RattleType, Valss}
-use denote.Steps.{nothing}
+use Rattle.pin_words.proofs.Cited.{arith, List, [], ◌∷◌, refl, Ura, Val, vstruct, vnil, Logic, Goal, Step, Item, ‵, ◌$◌, fjoin, fpack, feq_i, RattleType, Valss, nothing}
+use types.Kit.{step}
 use denote.Struct.Struct.{Struct, within}
 
 -- its value in memory

@@ -1,26 +1,8 @@
 -- What a reader holds, in the set of the world and in its own list.
-use Rattle.std.proofs.Common.{◌≡◌, ◌≢◌, ℕ, ◌+◌, ◌<◌, ◌≤◌, Bool, true, false, List, [], ◌∷◌, ◌++◌, sym, ap, ◌∙◌, arith}
-use Rattle.std.proofs.lemmas.Bool.{eqb-true}
+use Rattle.pin_words.proofs.Cited.{◌≡◌, ◌≢◌, ℕ, ◌+◌, ◌<◌, ◌≤◌, Bool, true, false, List, [], ◌∷◌, ◌++◌, sym, ap, ◌∙◌, arith, eqb-true, Id, Descr, tally, weight, same_id, is_copy, is_hold, hold_of, with_hold, drop_first, drop_last, WorldState, at, id_at, pins, copies, last_copy, is_of, is_with, given_as, IsSafe, count-snoc, count-drop_last, count-with_hold, copies-le-pins, Note, ReaderView, is_of_slot, notes_of, HoldsJust, AreNoted}
 use Rattle.std.proofs.lemmas.Grind.{common_steps}
-use Rattle.pin_core.specs.declared.id.Id.{Id}
-use Rattle.pin_core.specs.declared.descr.Descr.{Descr}
 use Rattle.pin_core.specs.Descrs.{same_descr}
-use Rattle.pin_core.specs.Holds.{tally, weight, same_id, is_copy, is_hold, hold_of, with_hold, drop_first, drop_last}
-use Rattle.pin_core.specs.Worlds.{WorldState, at, id_at, pins, copies, last_copy, is_of, is_with, given_as}
-use Rattle.pin_core.specs.Safety.{IsSafe}
-use Rattle.pin_core.proofs.Counts.{count-snoc, count-drop_last, count-with_hold}
-use Rattle.pin_core.proofs.Moves.{copies-le-pins}
 use Rattle.pin_core.proofs.Holding.{release-count}
-use Rattle.pin_words.specs.declared.view.Note.{Note}
-use Rattle.pin_words.specs.declared.view.ReaderView.{ReaderView}
-use Rattle.pin_words.specs.Views.{is_of_slot, notes_of}
-use Rattle.pin_words.specs.Shown.{HoldsJust, AreNoted}
-
-pub own_copy : (r : ℕ) (id : Id) (k : ℕ) (x : Id) → is_copy r x (hold_of r id k) ≡ same_id x id
-own_copy r id k x = search arith
-
-pub other_copy : (q r : ℕ) (id : Id) (k : ℕ) (x : Id) → r ≢ q → is_copy q x (hold_of r id k) ≡ false
-other_copy q r id k x n = search arith
 
 same_of_id : (id x : Id) → same_id id x ≡ true → x ≡ id
 same_of_id id x e = search arith

@@ -1,44 +1,10 @@
 -- The steps of the keeper keep the rule of the table.
-use Rattle.std.proofs.lemmas.Bool.Decides.{nat_tests}
-use Rattle.ob_codec.proofs.AtPlace.{at_place}
-use Rattle.std.proofs.Common.{◌≡◌, ◌≢◌, inl, ℕ, ◌<◌, ◌≤◌, eqb, List, [], ◌∷◌, ◌++◌, length, get_or, set, get_or-set_same, get_or-set_other, Option, Some, None, sym, refl, ap, ◌∙◌, subst, arith}
-use Rattle.std.proofs.lemmas.Option.{IfSome_then, same_Some}
-use mathlib.Core.Option.{none, some}
-use native.Mathlib.Decide.{ℕ_discrete}
-use mathlib.Core.Logic.{dite}
-use lib.ListN.{get_elem?}
-use Rattle.std.specs.Prelude.{bit_or, IfSome, option_map}
+use Rattle.pin_words.proofs.Cited.{nat_tests, at_place, ◌≡◌, ◌≢◌, inl, ℕ, ◌<◌, ◌≤◌, eqb, List, [], ◌∷◌, ◌++◌, length, get_or, set, get_or-set_other, Option, Some, None, sym, refl, ap, ◌∙◌, subst, arith, IfSome_then, same_Some, none, some, get_elem?, bit_or, IfSome, option_map, step, Act, keeps, stepped, carried_after, Valid, Allows, exchanged, Word, Id, Descr, Free, Live, Closing, Shape, Slot, Event, StoreDescr, Publish, CloseSlot, Reclaim, encoded, decoded, code_of, packed, tally, WorldState, opening_slot, slot_of, at, id_at, pins, word_at, is_with, given_as, refusal, after, in_phase, with_descr, reclaimed, IsSafe, age, safe_kept, may_publish, may_store, count-snoc, moved, KeeperView, ReaderView, View, IsPlace, AtSlot, place_of, descr_place, M, view, keeper_looked, keeper_stored, keeper_published, keeper_closed, keeper_reclaimed, after_step, closing_word, next_word, word, Table, NotAhead, OfKeeper, OfReader, IsShown, Shown, KeptAs, TellsKeeper, stored, published, closed, ReclaimedAt, reclaiming}
 use prog.Atomic.{either}
-use Rattle.atomic_table.specs.Table.{step, Act, keeps, stepped, carried_after, Valid, Allows}
-use Rattle.atomic_table.proofs.Lists.{exchanged}
-use Rattle.pin_core.specs.declared.word.Word.{Word}
-use Rattle.pin_core.specs.declared.id.Id.{Id}
-use Rattle.pin_core.specs.declared.descr.Descr.{Descr}
 use Rattle.pin_core.specs.declared.word.Phase.{Phase}
-use Rattle.pin_core.specs.declared.word.Phase.TheVariants.{Free, Live, Closing}
-use Rattle.pin_core.specs.declared.shape.Shape.{Shape}
-use Rattle.pin_core.specs.declared.world.Slot.{Slot}
-use Rattle.pin_core.specs.declared.event.Event.{Event}
-use Rattle.pin_core.specs.declared.event.Event.TheVariants.{StoreDescr, Publish, CloseSlot, Reclaim}
-use Rattle.pin_core.specs.Words.{encoded, decoded, code_of, packed}
 use Rattle.pin_core.specs.Descrs as descr_code
-use Rattle.pin_core.specs.Holds.{tally}
-use Rattle.pin_core.specs.Worlds.{WorldState, opening_slot, slot_of, at, id_at, pins, word_at, is_with, given_as}
-use Rattle.pin_core.specs.Events.{refusal, after, in_phase, with_descr, reclaimed}
-use Rattle.pin_core.specs.Safety.{IsSafe, age}
-use Rattle.pin_core.proofs.Schedules.{safe_kept, may_publish, may_store}
-use Rattle.pin_core.proofs.Counts.{count-snoc}
-use Rattle.pin_core.proofs.Moves.{moved}
-use Rattle.pin_words.specs.declared.view.KeeperView.{KeeperView}
-use Rattle.pin_words.specs.declared.view.ReaderView.{ReaderView}
-use Rattle.pin_words.specs.declared.view.View.{View}
-use Rattle.pin_words.specs.Places.{IsPlace, AtSlot, place_of, descr_place}
-use Rattle.pin_words.specs.Views.{M, view, keeper_looked, keeper_stored, keeper_published, keeper_closed, keeper_reclaimed}
-use Rattle.pin_words.specs.Laws.{after_step, closing_word, next_word, word}
-use Rattle.pin_words.specs.Shown.{Table, NotAhead, OfKeeper, OfReader, IsShown, Shown}
-use Rattle.pin_words.specs.Plays.{KeptAs, TellsKeeper, stored, published, closed, ReclaimedAt, reclaiming}
 use Rattle.pin_words.proofs.Bits.{publish-or, close-or}
-use Rattle.pin_words.proofs.Apart.{few, apart, unlike, pin-written, descr-written}
+use Rattle.pin_words.proofs.Apart.{few, apart, unlike, pin-set, descr-set}
 use Rattle.pin_words.proofs.Steps.{keeper-at, of-on, placed, step-shown, still-shown, few-pins, found-is, past-here, in-shape, turn-keeper, turn-keeper-to, looks-stay, notes-stay, at-slot}
 
 -- a keeper's step at the slot i, to x and to the list ps; what is left is that the words are those of the new world
@@ -61,14 +27,7 @@ keeper-goes k s W sh id wi n i v kv kv' e x ps seated is can becomes more words 
     let mine = keeper-at k s W sh id v kv seated is in
     let wide : length W.slots ≡ W.shape.slots = sh.safe.wide in
     let given-still : (j : ℕ) → j < k.slots → descr_code.IsGiven (get_or (set W.slots i x) j opening_slot).descr =
-    λ j h. dite (ℕ_discrete j i)
-    (λ same. let here : get_or (set W.slots i x) i opening_slot ≡ x =
-    get_or-set_same W.slots i x opening_slot (let a : W.shape.slots ≡ k.slots =
-    ap (λ (z : Shape). z.slots) sh.shape in omega arith) in
-    subst (λ (z : ℕ). descr_code.IsGiven (get_or (set W.slots i x) z opening_slot).descr) (sym same)
-    (subst (λ (z : Slot). descr_code.IsGiven z.descr) (sym here) descr-given))
-    (λ ne. subst (λ (z : Slot). descr_code.IsGiven z.descr) (sym (get_or-set_other W.slots i j x opening_slot ne))
-    (sh.given j h)) in
+    λ j h. (let given = sh.given j h in grind (arith, nat_tests, at_place)) in
     let up : (j : ℕ) → age (at W j) ≤ age (at w' j) =
     grind (arith, nat_tests, at_place) in
     let readers : (j : ℕ) (r : ReaderView) → OfReader W sh.next sh.owner j r
@@ -99,22 +58,11 @@ keeper-turns k s W sh id i n v kv kv' e x ps seated is inside can becomes more w
     published-are next-is looks =
     let wide : length W.slots ≡ W.shape.slots = sh.safe.wide in
     let fit : i < W.shape.slots = in-shape k s W sh i inside in
-    let here : get_or (set W.slots i x) i opening_slot ≡ x = grind (arith, at_place) in
     keeper-goes k s W sh id (place_of i) n i v kv kv' e x ps seated is can becomes more
-    (λ j h. pin-written k.slots s.words i n (λ z. encoded (word_at (moved W i x ps) z)) sh.fits.1 sh.wide inside
-    (word-is ∙ ap (λ (y : Slot). encoded record { generation = y.generation; phase = y.phase; pins = pins W i })
-    (sym here)) j h
-    (λ ne. sh.words j h ∙ ap (λ (y : Slot). encoded record {
-      generation = y.generation;
-      phase = y.phase;
-      pins = pins W j;
-    }) (sym (get_or-set_other W.slots i j x opening_slot ne))))
-    (λ j h. get_or-set_other s.words (place_of i) (descr_place j) n 0 (λ e. unlike i j (sym e))
-    ∙ (sh.descrs j h ∙ dite (ℕ_discrete j i)
-    (λ same. subst (λ (z : ℕ). descr_code.encoded (at W z).descr
-    ≡ descr_code.encoded (get_or (set W.slots i x) z opening_slot).descr) (sym same)
-    (ap descr_code.encoded (sym same-descr) ∙ ap (λ (y : Slot). descr_code.encoded y.descr) (sym here)))
-    (λ ne. ap (λ (y : Slot). descr_code.encoded y.descr) (sym (get_or-set_other W.slots i j x opening_slot ne)))))
+    (λ j h. let was = sh.words j h in let new = pin-set k.slots s.words i n sh.fits.1 sh.wide inside j h in
+    grind (arith, nat_tests, at_place))
+    (λ j h. let was = sh.descrs j h in let new = get_or-set_other s.words (place_of i) (descr_place j) n 0 (λ e. unlike i j (sym e)) in
+    grind (arith, nat_tests, at_place))
     (subst descr_code.IsGiven (sym same-descr) (sh.given i inside))
     shape-is slots-are published-are next-is looks
 
@@ -215,22 +163,10 @@ keeper-stores k s W sh id i v kv d seated is inside free descr-given =
     let here : get_or (set W.slots i y) i opening_slot ≡ y = grind (arith, at_place) in
     keeper-goes k s W sh id (descr_place i) x i v kv (keeper_stored kv i d) (StoreDescr i d) y W.published seated is
     (may_store W i d fit phase) refl (same-given W)
-    (λ j h. get_or-set_other s.words (descr_place i) (place_of j) x 0 (unlike j i)
-    ∙ (sh.words j h ∙ dite (ℕ_discrete j i)
-    (λ same. subst (λ (z : ℕ). encoded (word_at W z) ≡ encoded record {
-      generation =
-          (get_or (set W.slots i y) z opening_slot).generation;
-      phase = (get_or (set W.slots i y) z opening_slot).phase;
-      pins = pins W z;
-    }) (sym same)
-    (ap (λ (q : Slot). encoded record { generation = q.generation; phase = q.phase; pins = pins W i }) (sym here)))
-    (λ ne. ap (λ (q : Slot). encoded record { generation = q.generation; phase = q.phase; pins = pins W j })
-    (sym (get_or-set_other W.slots i j y opening_slot ne)))))
-    (λ j h. descr-written k.slots s.words i x
-    (λ z. descr_code.encoded (get_or (set W.slots i y) z opening_slot).descr) sh.fits.1 sh.wide inside
-    (ap (λ (q : Slot). descr_code.encoded q.descr) (sym here)) j h
-    (λ ne. sh.descrs j h ∙ ap (λ (q : Slot). descr_code.encoded q.descr)
-    (sym (get_or-set_other W.slots i j y opening_slot ne))))
+    (λ j h. let was = sh.words j h in let new = get_or-set_other s.words (descr_place i) (place_of j) x 0 (unlike j i) in
+    grind (arith, nat_tests, at_place))
+    (λ j h. let was = sh.descrs j h in let new = descr-set k.slots s.words i x sh.fits.1 sh.wide inside j h in
+    grind (arith, nat_tests, at_place))
     descr-given refl (ap (λ (z : List Slot). set z i (with_descr (get_or z i opening_slot) d)) mine.slots)
     mine.published refl mine.looks
 

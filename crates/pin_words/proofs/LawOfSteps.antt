@@ -1,27 +1,6 @@
 -- The law of the steps.
-use Rattle.std.proofs.lemmas.Bool.Decides.{nat_tests}
-use Rattle.std.proofs.Common.{nat_le, ◌≡◌, ⊎_elim, ℕ, ◌<◌, ◌&&◌, nat_lt, List, [], ◌∷◌, replicate, Some, None, sym, refl, ap, ◌∙◌, subst, arith}
-use Rattle.std.specs.Prelude.{option_map}
-use Rattle.pin_core.specs.declared.id.Id.{Id}
-use Rattle.pin_core.specs.declared.shape.Shape.{Shape}
-use Rattle.pin_core.specs.declared.holders.Hold.{Hold}
-use Rattle.pin_core.specs.declared.event.Event.{Event}
-use Rattle.pin_core.specs.declared.event.Event.TheVariants.{StoreDescr, Publish, CloseSlot}
-use Rattle.pin_core.specs.Holds.{tally, weight, hold_of, same_id}
-use Rattle.pin_core.specs.Worlds.{WorldState, opening_slot, slot_of, at, copies, times}
-use Rattle.pin_core.specs.Events.{refusal, Transition, after}
-use Rattle.pin_core.specs.Safety.{IsSafe}
-use Rattle.pin_core.proofs.Schedules.{opening_at, times-le-copies, kept_while_held, may_read, may_publish, may_store, may_close}
-use Rattle.pin_core.proofs.Moves.{given_as-le}
-use Rattle.pin_words.specs.declared.view.Note.{Note}
-use Rattle.pin_words.specs.declared.view.KeeperView.{KeeperView}
-use Rattle.pin_words.specs.declared.view.ReaderView.{ReaderView}
-use Rattle.pin_words.specs.declared.view.View.{View}
-use Rattle.pin_words.specs.Places.{place_of}
-use Rattle.pin_words.specs.Views.{view, reader_looked, keeper_looked, keeper_gave, opening_keeper}
-use Rattle.pin_words.specs.Shown.{Table, AreNoted, HoldsJust, HasReader, IsShown}
+use Rattle.pin_words.proofs.Cited.{nat_tests, nat_le, ◌≡◌, ⊎_elim, ℕ, ◌<◌, ◌&&◌, nat_lt, List, [], ◌∷◌, replicate, Some, None, sym, refl, ap, ◌∙◌, subst, arith, option_map, Id, Shape, Hold, Event, StoreDescr, Publish, CloseSlot, tally, weight, hold_of, same_id, WorldState, opening_slot, slot_of, at, copies, times, refusal, Transition, after, IsSafe, opening_at, times-le-copies, kept_while_held, may_read, may_publish, may_store, may_close, given_as-le, Note, KeeperView, ReaderView, View, place_of, view, reader_looked, keeper_looked, keeper_gave, opening_keeper, Table, AreNoted, HoldsJust, HasReader, IsShown, ArePublished, CloseSteps, CopiesStay, FailedReclaimSteps, GivesReader, KeeperAt, LoadSteps, NotesArePublished, PinSteps, PublishSteps, ReadSteps, ReaderAt, ReclaimSteps, ReleaseSteps, ShowsOneWorld, ShowsOpening, StoreSteps, after_step, with_keeper, with_reader, word}
 use Rattle.pin_words.proofs.Holdings.{has-copies}
-use Rattle.pin_words.specs.Laws.{ArePublished, CloseSteps, CopiesStay, FailedReclaimSteps, GivesReader, KeeperAt, LoadSteps, NotesArePublished, PinSteps, PublishSteps, ReadSteps, ReaderAt, ReclaimSteps, ReleaseSteps, ShowsOneWorld, ShowsOpening, StoreSteps, after_step, with_keeper, with_reader, word}
 use Rattle.pin_words.proofs.Steps.{keeper-at, reader-at, in-shape}
 use Rattle.pin_words.proofs.ReaderSteps.{looks-shown, reader-pins, reader-releases, reader-notes}
 use Rattle.pin_words.proofs.KeeperSteps.{keeper-publishes, keeper-closes, keeper-reclaims, keeper-looks, keeper-stores, pinned-still}

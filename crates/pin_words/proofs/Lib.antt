@@ -13,3 +13,4 @@ pub mod Stepping
 pub mod Fieldless
 pub mod Owned
 pub mod Showing
+mod Cited

@@ -1,10 +1,6 @@
 -- What the calls under a lock need.
-use Rattle.std.proofs.Common.{◌≢◌, ℕ, ◌≤◌, List, [], ◌∷◌, ◌++◌, arith}
-use Rattle.pin_core.specs.declared.id.Id.{Id}
-use Rattle.pin_core.specs.Holds.{tally, drop_last, same_id}
-use Rattle.pin_core.proofs.Counts.{count-snoc, count-drop_last-le}
+use Rattle.pin_words.proofs.Cited.{◌≢◌, ℕ, ◌≤◌, List, [], ◌∷◌, ◌++◌, arith, Id, tally, drop_last, same_id, count-snoc, count-drop_last-le, is_of_slot}
 use Rattle.pin_words.specs.declared.pin_keeper.Reclaim.{Reclaim}
-use Rattle.pin_words.specs.Views.{is_of_slot}
 use Rattle.pin_words.specs.Keepers.{KeeperState, Reclaims, ReclaimsLocked}
 
 pub room-more : (most : ℕ) (held : List Id) (id : Id) → ((s : ℕ) → tally (is_of_slot s) held ≤ most)

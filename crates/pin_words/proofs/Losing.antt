@@ -1,18 +1,7 @@
 -- What a try to pin that lost its exchange found.
-use Rattle.std.proofs.Common.{◌≡◌, ⊎_elim, ℕ, ◌<◌, ◌≤◌, length, refl}
-use Rattle.std.proofs.lemmas.Bool.{cases_lt}
-use Rattle.std.specs.Prelude.{Err}
-use native.Mathlib.Decide.{ℕ_discrete}
-use mathlib.Core.Logic.{dite}
-use Rattle.pin_core.specs.Words.{decoded}
+use Rattle.pin_words.proofs.Cited.{◌≡◌, ⊎_elim, ℕ, ◌<◌, ◌≤◌, length, refl, cases_lt, Err, ℕ_discrete, dite, decoded, Unborn, Stale, PinsFull, Go, verdict_of, reader_looked, NoLater, LostSeesNoEarlier, FollowsLook}
 use Rattle.pin_words.specs.declared.fault.PinFault.TheVariants as fault
 use Rattle.pin_words.specs.declared.fault.Verdict.{Verdict}
-use Rattle.pin_words.specs.declared.fault.Verdict.TheVariants.{Unborn, Stale, PinsFull, Go}
-use Rattle.pin_words.specs.Verdicts.{verdict_of}
-use Rattle.pin_words.specs.Views.{reader_looked}
-use Rattle.pin_words.specs.Plays.{NoLater}
-use Rattle.pin_words.specs.Laws.{LostSeesNoEarlier}
-use Rattle.pin_words.specs.Tries.{FollowsLook}
 
 pub lost-onward : LostSeesNoEarlier
 lost-onward r r' id seen t = ⊎_elim

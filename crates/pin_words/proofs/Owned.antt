@@ -1,13 +1,8 @@
 -- What an owner of the words knows of them, at the place where it reads them.
-use Rattle.std.proofs.Common.{arith}
-use Rattle.std.proofs.Common.{◌≡◌, ℕ, ◌<◌, Global}
+use Rattle.pin_words.proofs.Cited.{arith, ◌≡◌, ℕ, ◌<◌, Global, Shape, IsWithinLimits, View, IsPlace, words_of, place_of, descr_place}
 use Rattle.atomic_table.specs.declared.owned.Table.{Table}
-use Rattle.pin_core.specs.declared.shape.Shape.{Shape}
-use Rattle.pin_core.specs.Shapes.{IsWithinLimits}
 use Rattle.pin_words.specs.declared.plays.PinRule.{PinRule}
 use Rattle.pin_words.specs.declared.view.Ground.{Ground}
-use Rattle.pin_words.specs.declared.view.View.{View}
-use Rattle.pin_words.specs.Places.{IsPlace, words_of, place_of, descr_place}
 use Rattle.pin_words.proofs.Apart.{within, some_words}
 
 abbrev pub Words : Type 0

@@ -1,44 +1,10 @@
 -- The steps of a reader keep the rule of the table.
-use Rattle.std.proofs.lemmas.Bool.Decides.{nat_tests}
-use Rattle.std.specs.Prelude.{IfSome, option_map}
-use Rattle.std.proofs.Common.{◌≡◌, ◌≢◌, inl, inr, ℕ, ◌+◌, ◌-◌, ◌%◌, ◌^◌, ◌<◌, ◌==◌, eqb, eq-eqb, ne_eqb, true, List, [], ◌∷◌, ◌++◌, get_or, set, get_or-set_other, Option, Some, None, sym, refl, ap, ◌∙◌, subst, arith}
-use Rattle.std.proofs.lemmas.Option.{IfSome_then, same_Some}
-use mathlib.Core.Option.{none, some}
-use native.Mathlib.Decide.{ℕ_discrete}
-use mathlib.Core.Logic.{dite}
-use lib.ListN.{get_elem?}
+use Rattle.pin_words.proofs.Cited.{nat_tests, IfSome, option_map, ◌≡◌, ◌≢◌, inl, inr, ℕ, ◌+◌, ◌-◌, ◌%◌, ◌^◌, ◌<◌, ◌==◌, eqb, eq-eqb, ne_eqb, true, List, [], ◌∷◌, ◌++◌, get_or, set, get_or-set_other, Option, Some, None, sym, refl, ap, ◌∙◌, subst, arith, IfSome_then, same_Some, none, some, ℕ_discrete, dite, get_elem?, step, Act, keeps, stepped, carried_after, Valid, Allows, set_here, exchanged, Word, Id, Descr, Live, Shape, Hold, Pin, Release, encoded, decoded, tally, weight, is_at_slot, is_copy, is_hold, with_hold, drop_first, drop_last, same_id, WorldState, at, id_at, pins, copies, last_copy, next_copy, word_at, given, given_as, refusal, after, with_holders, IsSafe, may_be_held, safe_kept, may_release, copies-le-pins, count-with_hold, Look, Note, ReaderView, View, IsPlace, place_of, descr_place, M, view, look, id_in, notes_of, reader_with, reader_got, reader_released, reader_noted, after_step, descr_word, word, Stands, Table, NotAhead, AreNoted, OfReader, IsShown, Shown, TellsReader, looked_view, got_view, released_view, LookedAt, looked, PinnedAt, pinned, ReleasedAt, released, noted}
 use prog.Atomic.{either}
-use Rattle.atomic_table.specs.Table.{step, Act, keeps, stepped, carried_after, Valid, Allows}
-use Rattle.atomic_table.proofs.Lists.{set_here, exchanged}
-use Rattle.pin_core.specs.declared.word.Word.{Word}
-use Rattle.pin_core.specs.declared.id.Id.{Id}
-use Rattle.pin_core.specs.declared.descr.Descr.{Descr}
-use Rattle.pin_core.specs.declared.word.Phase.TheVariants.{Live}
-use Rattle.pin_core.specs.declared.shape.Shape.{Shape}
-use Rattle.pin_core.specs.declared.holders.Hold.{Hold}
-use Rattle.pin_core.specs.declared.event.Event.TheVariants.{Pin, Release}
-use Rattle.pin_core.specs.Words.{encoded, decoded}
 use Rattle.pin_core.specs.Descrs as descr_code
-use Rattle.pin_core.specs.Holds.{tally, weight, is_at_slot, is_copy, is_hold, with_hold, drop_first, drop_last, same_id}
-use Rattle.pin_core.specs.Worlds.{WorldState, at, id_at, pins, copies, last_copy, next_copy, word_at, given, given_as}
-use Rattle.pin_core.specs.Events.{refusal, after, with_holders}
-use Rattle.pin_core.specs.Safety.{IsSafe, may_be_held}
-use Rattle.pin_core.proofs.Schedules.{safe_kept, may_release}
-use Rattle.pin_core.proofs.Moves.{copies-le-pins}
 use Rattle.pin_core.proofs.Holding.{release-count}
-use Rattle.pin_core.proofs.Counts.{count-with_hold}
-use Rattle.pin_words.specs.declared.view.Look.{Look}
-use Rattle.pin_words.specs.declared.view.Note.{Note}
-use Rattle.pin_words.specs.declared.view.ReaderView.{ReaderView}
-use Rattle.pin_words.specs.declared.view.View.{View}
-use Rattle.pin_words.specs.Places.{IsPlace, place_of, descr_place}
-use Rattle.pin_words.specs.Views.{M, view, look, id_in, notes_of, reader_with, reader_got, reader_released, reader_noted}
-use Rattle.pin_words.specs.Laws.{after_step, descr_word, word}
-use Rattle.pin_words.specs.Stepped.{Stands}
-use Rattle.pin_words.specs.Shown.{Table, NotAhead, AreNoted, OfReader, IsShown, Shown}
-use Rattle.pin_words.specs.Plays.{TellsReader, looked_view, got_view, released_view, LookedAt, looked, PinnedAt, pinned, ReleasedAt, released, noted}
 use Rattle.pin_words.proofs.Bits.{sub_one}
-use Rattle.pin_words.proofs.Apart.{few, apart, unlike, pin-written}
+use Rattle.pin_words.proofs.Apart.{few, apart, unlike, pin-set}
 use Rattle.pin_words.proofs.Holdings.{holds-more, holds-same-more, holds-less, holds-same-less, has-copies, noted-left}
 use Rattle.pin_words.proofs.Steps.{reader-at, placed, in-list, step-shown, still-shown, found-is, in-shape, when-here, held-found, stood, told, met, reader-looks, turn-reader, turn-to, looks-agree, keeper-stays, reader-stays, behind, at-slot}
 
@@ -47,13 +13,9 @@ hold-words : (k : Shape) (s : Table) (W : WorldState) (sh : IsShown k s W) (i n 
     → n ≡ encoded (word_at (with_holders W hs) i) → ((j : ℕ) → j ≢ i → tally (is_at_slot j) hs ≡ pins W j)
     → (j : ℕ) → j < k.slots → get_or (set s.words (place_of i) n) (place_of j) 0
     ≡ encoded (word_at (with_holders W hs) j)
-hold-words k s W sh i n hs inside is same j h = pin-written k.slots s.words i n
-    (λ z. encoded (word_at (with_holders W hs) z)) sh.fits.1 sh.wide inside is j h
-    (λ ne. sh.words j h ∙ ap (λ (m : ℕ). encoded record {
-      generation = (at W j).generation;
-      phase = (at W j).phase;
-      pins = m;
-    }) (sym (same j ne)))
+hold-words k s W sh i n hs inside is same j h =
+    let was = sh.words j h in let new = pin-set k.slots s.words i n sh.fits.1 sh.wide inside j h in
+    grind (arith, nat_tests)
 
 -- a reader's step that changes its holds
 reader-goes : (k : Shape) (s : Table) (W : WorldState) (sh : IsShown k s W) (id i n : ℕ) (v : View) (r r' : ReaderView)

@@ -1,10 +1,5 @@
 -- What is shown of one slot more.
-use Rattle.std.proofs.Common.{◌≡◌, ℕ, suc, ◌+◌, ◌<◌, List, [], ◌∷◌, ◌++◌, length, get_or, take, sym, ap, ◌∙◌, length-take-le, arith}
-use Rattle.std.proofs.lemmas.List.{take_more}
-use Rattle.pin_core.specs.declared.descr.Descr.{Descr}
-use Rattle.pin_core.specs.declared.id.Id.{Id}
-use Rattle.pin_core.specs.declared.world.Slot.{Slot}
-use Rattle.pin_core.specs.Opened.{shown_from}
+use Rattle.pin_words.proofs.Cited.{◌≡◌, ℕ, suc, ◌+◌, ◌<◌, List, [], ◌∷◌, ◌++◌, length, get_or, take, sym, ap, ◌∙◌, length-take-le, arith, take_more, Descr, Id, Slot, shown_from}
 
 shown-append : (k : ℕ) (xs ys : List Slot) → shown_from k (xs ++ ys) ≡ shown_from k xs ++ shown_from (k + length xs) ys
 shown-append k [] ys = search arith

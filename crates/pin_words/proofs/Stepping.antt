@@ -1,55 +1,38 @@
 -- What the steps of a reader were, by what they told it.
-use Rattle.std.proofs.Common.{⊎_elim, ◌≤◌, length, ◌≡◌, ℕ, ◌+◌, ◌-◌, ◌<◌, Some, sym, refl, ap, ◌∙◌, subst, arith}
-use Rattle.pin_core.specs.declared.id.Id.{Id}
-use Rattle.pin_core.specs.declared.event.Event.TheVariants.{Load, Pin, Release, ReadDescr}
-use Rattle.pin_core.specs.Words.{decoded}
-use Rattle.pin_core.specs.Holds.{tally, same_id}
-use Rattle.pin_words.specs.declared.fault.Verdict.TheVariants.{Unborn, Stale, PinsFull, Go}
+use Rattle.pin_words.proofs.Cited.{⊎_elim, ◌≤◌, length, ◌≡◌, ℕ, ◌+◌, ◌-◌, ◌<◌, Some, sym, refl, ap, ◌∙◌, subst, arith, Id, Load, Pin, Release, ReadDescr, Event, slice_index, decoded, tally, same_id, Unborn, Stale, PinsFull, Go, FollowsLook, TriesPin, cases_lt, ℕ_discrete, dite, ReaderView, IsPlace, place_of, descr_place, verdict_of, M, IsReaders, reader_of, id_in, reader_looked, reader_got, reader_released, reader_noted, View, IfSome, Ok, none, step, Descr, StepsBy, Stands, Stepped, LoadStep, PinStep, ReleaseStep, DescrStep, Pinned, IsHold, TellsReader, released, set_here}
 use Rattle.pin_words.specs.declared.fault.Verdict.{Verdict}
-use Rattle.pin_words.specs.Tries.{FollowsLook}
-use Rattle.pin_words.specs.Laws.{TriesPin}
-use Rattle.std.proofs.lemmas.Bool.{cases_lt}
-use native.Mathlib.Decide.{ℕ_discrete}
-use mathlib.Core.Logic.{dite}
-use Rattle.pin_words.specs.declared.view.ReaderView.{ReaderView}
-use Rattle.pin_words.specs.Places.{IsPlace, place_of, descr_place}
-use Rattle.pin_words.specs.Verdicts.{verdict_of}
-use Rattle.pin_words.specs.Views.{M, IsReaders, reader_of, id_in, reader_looked, reader_got, reader_released, reader_noted}
-use Rattle.pin_words.specs.declared.view.View.{View}
-use Rattle.std.specs.Prelude.{IfSome, Ok}
-use mathlib.Core.Option.{none}
-use Rattle.atomic_table.specs.Table.{step}
-use Rattle.pin_core.specs.declared.descr.Descr.{Descr}
 use Rattle.pin_core.specs.Descrs as descr_code
-use Rattle.pin_words.specs.Stepped.{ReaderAt, StepsBy, with_reader, after_step, Stands, LoadStep, PinStep, ReleaseStep, DescrStep, Pinned, IsHold}
-use Rattle.pin_words.specs.Plays.{TellsReader, released}
-use Rattle.atomic_table.proofs.Lists.{set_here}
+use Rattle.pin_words.specs.Stepped.{ReaderAt, with_reader, after_step}
 use Rattle.pin_words.proofs.Steps.{in-list}
 use Rattle.pin_words.proofs.Calls.{go-means}
 use Rattle.pin_words.proofs.LawOfSteps.{law-load, law-pin, law-held, law-release, law-read}
 use Rattle.pin_words.proofs.Holdings.{got-held}
 
-pub load-step : (r : ReaderView) (s n : ℕ) → s < r.shape.slots → TellsReader r s n → LoadStep r s n
-load-step r s n inside t = let st = t.stands in record {
+-- a step on the word that stood there
+stepped : (r : ReaderView) (e : ℕ → Event) (p n : ℕ) (m : ℕ → ℕ) (r' : ℕ → ReaderView) (st : Stands r p n)
+    → (let w = slice_index st.table.words p in
+    StepsBy r.shape st.world (e w) (after_step st.table p (m w) st.seat (with_reader st.view (r' w))))
+    → Stepped r (e n) p n (m n) (r' n)
+stepped r e p n m r' st steps = record {
   stands = st;
-  steps = subst (λ (z : ℕ). StepsBy r.shape st.world (Load r.number s) (after_step st.table (place_of s) z st.seat
-      (with_reader st.view (reader_looked r s z)))) st.found
-      (law-load r.shape st.table st.world st.seat s st.view r st.shown st.here inside);
+  steps = subst (λ (z : ℕ). StepsBy r.shape st.world (e z) (after_step st.table p (m z) st.seat
+      (with_reader st.view (r' z)))) st.found steps;
 }
+
+pub load-step : (r : ReaderView) (s n : ℕ) → s < r.shape.slots → TellsReader r s n → LoadStep r s n
+load-step r s n inside t = let st = t.stands in
+    stepped r (λ _. Load r.number s) (place_of s) n (λ z. z) (reader_looked r s) st
+    (law-load r.shape st.table st.world st.seat s st.view r st.shown st.here inside)
 
 pub pin-step : (r : ReaderView) (id : Id) (n : ℕ) → id.slot < r.shape.slots
     → verdict_of r.shape.max_pins id (decoded n) ≡ Go → TellsReader r id.slot n → PinStep r id n
-pin-step r id n inside go t = let st = t.stands in let means = go-means r.shape.max_pins id (decoded n) go in record {
-  stands = st;
-  steps = subst (λ (g : ℕ). StepsBy r.shape st.world (Pin r.number id.slot (decoded n)) (after_step st.table
-      (place_of id.slot) (n + 1) st.seat
-      (with_reader st.view (reader_got r (record { slot = id.slot; generation = g }) n)))) means.1
-      (subst (λ (z : ℕ). StepsBy r.shape st.world (Pin r.number id.slot (decoded z)) (after_step st.table
-      (place_of id.slot) (z + 1) st.seat (with_reader st.view (reader_got r (id_in id.slot z) z)))) st.found
-      (law-pin r.shape st.table st.world st.seat id.slot st.view r st.shown st.here inside
-      (ap (λ (z : ℕ). (decoded z).phase) st.found ∙ means.0)
-      (λ e. means.2 (ap (λ (z : ℕ). (decoded z).pins) (sym st.found) ∙ e))));
-}
+pin-step r id n inside go t = let st = t.stands in let means = go-means r.shape.max_pins id (decoded n) go in
+    subst (λ (g : ℕ). Stepped r (Pin r.number id.slot (decoded n)) (place_of id.slot) n (n + 1)
+    (reader_got r record { slot = id.slot; generation = g } n)) means.1
+    (stepped r (λ z. Pin r.number id.slot (decoded z)) (place_of id.slot) n (λ z. z + 1)
+    (λ z. reader_got r (id_in id.slot z) z) st
+    (law-pin r.shape st.table st.world st.seat id.slot st.view r st.shown st.here inside (rw st.found means.0)
+    (λ e. means.2 (rw st.found at e))))
 
 -- after an exchange that went through, the new copy is a hold
 pub hold-after : (r : ReaderView) (id : Id) (n : ℕ) → PinStep r id n → IsHold (reader_got r id n) id
@@ -80,12 +63,9 @@ pub release-step : (r : ReaderView) (id : Id) (n : ℕ) → 0 < tally (same_id i
     → ReleaseStep r id
 release-step r id n have t = let st = t.stands in (
   n,
-  record {
-    stands = st;
-    steps = subst (λ (z : ℕ). StepsBy r.shape st.world (Release r.number id) (after_step st.table (place_of id.slot)
-        (z - 1) st.seat (with_reader st.view (reader_released r id)))) st.found
-        (law-release r.shape st.table st.world st.seat st.view r id st.shown st.here have);
-  },
+  stepped r (λ _. Release r.number id) (place_of id.slot) n (λ z. z - 1)
+      (λ _. reader_released r id) st
+      (law-release r.shape st.table st.world st.seat st.view r id st.shown st.here have),
 )
 
 pub released-step : (n p : ℕ) (m m' : M) (id : Id) → IsPlace place_of p id.slot → IsReaders m
@@ -99,13 +79,10 @@ pub descr-step : (r : ReaderView) (id : Id) (n : ℕ) (d : Descr) → 0 < tally 
     → descr_code.decoded n ≡ Some d → Stands r (descr_place id.slot) n → DescrStep r id d
 descr-step r id n d have is st = (
   n,
-  record {
-    stands = st;
-    steps = subst (λ (z : ℕ). StepsBy r.shape st.world (ReadDescr r.number id d) (after_step st.table
-        (descr_place id.slot) z st.seat (with_reader st.view (reader_noted r id d)))) st.found
-        (law-read r.shape st.table st.world st.seat st.view r id d st.shown st.here have
-        (ap descr_code.decoded st.found ∙ is));
-  },
+  stepped r (λ _. ReadDescr r.number id d) (descr_place id.slot) n (λ z. z)
+      (λ _. reader_noted r id d) st
+      (law-read r.shape st.table st.world st.seat st.view r id d st.shown st.here have
+      (ap descr_code.decoded st.found ∙ is)),
 )
 
 pub pinned-held : (r r' : ReaderView) (id : Id) → Pinned r id r' → IsHold r' id
@@ -117,9 +94,9 @@ tries-pin r r' id t = let did = both in (did, pinned-held r r' id did)
   where
     answer : id.slot < r.shape.slots → (v : Verdict) (n : ℕ) → verdict_of r.shape.max_pins id (decoded n) ≡ v
         → TellsReader r id.slot n → FollowsLook v r id n (Ok tt) r' → Pinned r id r'
-    answer inside Unborn n is told a = absurd (let e = a.0 in cc)
-    answer inside Stale n is told a = absurd (let e = a.0 in cc)
-    answer inside PinsFull n is told a = absurd (let e = a.0 in cc)
+    answer inside Unborn n is told a = let e = a.0 in cc
+    answer inside Stale n is told a = let e = a.0 in cc
+    answer inside PinsFull n is told a = let e = a.0 in cc
     answer inside Go n is told a = dite (ℕ_discrete a.0 n)
         (λ same. record {
           word_found = n;

@@ -1,43 +1,14 @@
 -- What a step of one seat owes the rule of the table.
-use Rattle.std.specs.Prelude.{IfSome, option_map}
-use Rattle.std.proofs.Common.{◌≡◌, ◌≢◌, ◌⊎◌, inl, inr, ⊎_elim, ℕ, ◌<◌, ◌≤◌, List, [], ◌∷◌, length, get_or, set, length-set, zero, suc, Option, Some, None, sym, refl, ap, ◌∙◌, subst, arith, true}
-use mathlib.Core.Option.{none, some, some-ne-none}
-use native.Mathlib.Decide.{ℕ_discrete}
-use mathlib.Core.Logic.{dite}
-use lib.ListN.{get_elem?}
+use Rattle.pin_words.proofs.Cited.{IfSome, option_map, ◌≡◌, ◌≢◌, ◌⊎◌, inl, inr, ⊎_elim, ℕ, ◌<◌, ◌≤◌, List, [], ◌∷◌, length, get_or, set, length-set, zero, suc, Option, Some, None, sym, refl, ap, ◌∙◌, subst, arith, true, none, some, some-ne-none, ℕ_discrete, dite, get_elem?, Allows, step, at_set, set_here, set_else, Word, Id, Descr, Shape, Hold, IsWithinLimits, encoded, decoded, tally, is_copy, same_id, WorldState, at, pins, copies, word_at, given, given_as, with_holders, IsSafe, may_be_held, age, Look, Note, KeeperView, ReaderView, View, place_of, descr_place, AtSlot, M, view, look, reader_looked, Table, word_age, IsPast, NotAhead, AreNoted, HoldsJust, OfKeeper, OfReader, Agrees, HasKeeper, HasReader, IsShown, Shown, Stands, Behind, TellsReader, AreListed, Show, MeetsBoth, looked_view}
 use lib.Seq.{set-get_or}
-use Rattle.atomic_table.specs.Table.{Allows, Step, step}
-use Rattle.atomic_table.proofs.Lists.{at_set, set_here, set_else}
-use Rattle.pin_core.specs.declared.word.Word.{Word}
-use Rattle.pin_core.specs.declared.id.Id.{Id}
-use Rattle.pin_core.specs.declared.descr.Descr.{Descr}
-use Rattle.pin_core.specs.declared.shape.Shape.{Shape}
-use Rattle.pin_core.specs.declared.holders.Hold.{Hold}
-use Rattle.pin_core.specs.Shapes.{IsWithinLimits}
-use Rattle.pin_core.specs.Words.{encoded, decoded}
+use Rattle.atomic_table.specs.Table.{Step}
 use Rattle.pin_core.specs.Descrs as descr_code
-use Rattle.pin_core.specs.Holds.{tally, is_copy, same_id}
-use Rattle.pin_core.specs.Worlds.{WorldState, at, pins, copies, word_at, given, given_as}
-use Rattle.pin_core.specs.Events.{with_holders}
-use Rattle.pin_core.specs.Safety.{IsSafe, may_be_held, age}
-use Rattle.pin_words.specs.declared.view.Look.{Look}
-use Rattle.pin_words.specs.declared.view.Note.{Note}
-use Rattle.pin_words.specs.declared.view.KeeperView.{KeeperView}
-use Rattle.pin_words.specs.declared.view.ReaderView.{ReaderView}
-use Rattle.pin_words.specs.declared.view.View.{View}
-use Rattle.pin_words.specs.Places.{place_of, descr_place, AtSlot}
-use Rattle.pin_words.specs.Views.{M, view, look, reader_looked}
-use Rattle.pin_words.specs.Shown.{Table, word_age, IsPast, NotAhead, AreNoted, HoldsJust, OfKeeper, OfReader, Agrees, HasKeeper, HasReader, IsShown, Shown}
-use Rattle.pin_words.specs.Stepped.{after_step, word, Stands}
-use Rattle.pin_words.specs.Plays.{Behind, TellsReader, AreListed, Show, MeetsBoth, looked_view}
+use Rattle.pin_words.specs.Stepped.{after_step, word}
 use Rattle.pin_words.proofs.Holdings.{held-le-pins, has-copies, one-descr}
 use Rattle.pin_words.proofs.Apart.{few, apart}
 
 pub of-here : {A : Type 0} (P : A → Type 0) (x : Option A) (a : A) → x ≡ Some a → IfSome x P → P a
 of-here a0 x a is h = search arith
-
-pub of-put : {A : Type 0} (P : A → Type 0) (x : Option A) (a : A) → x ≡ Some a → P a → IfSome x P
-of-put a0 x a is h = search arith
 
 pub when-here : {A : Type 0} (P Q : A → Type 0) (x : Option A) → ((a : A) → x ≡ Some a → P a → Q a) → IfSome x P
     → IfSome x Q
@@ -52,6 +23,14 @@ keeper-at k s W sh id v kv seated is = of-here (OfKeeper W sh.keeper sh.next id)
 pub reader-at : (k : Shape) (s : Table) (W : WorldState) (sh : IsShown k s W) (id : ℕ) (v : View) (r : ReaderView)
     → get_elem? s.views id ≡ some v → v.reader ≡ Some r → OfReader W sh.next sh.owner id r
 reader-at k s W sh id v r seated is = of-here (OfReader W sh.next sh.owner id) v.reader r is (sh.each id v seated).1
+
+-- what holds of each seat, after one was written
+pub each-set : (P : ℕ → View → Type 0) (vs : List View) (i : ℕ) (a : View) → P i a
+    → ((j : ℕ) (u : View) → j ≢ i → get_elem? vs j ≡ some u → P j u)
+    → (j : ℕ) (u : View) → get_elem? (set vs i a) j ≡ some u → P j u
+each-set P vs i a new old j u e = ⊎_elim
+    (λ (t : (j ≡ i) × (a ≡ u)). subst (λ (z : ℕ × View). P z.0 z.1) (λ c. (sym t.0 c, t.1 c)) new)
+    (λ (t : (j ≢ i) × (get_elem? vs j ≡ some u)). old j u t.0 t.1) (at_set vs i j a u e)
 
 -- the view keeps its parts, and its reader's number
 pub record Turns (v v' : View) : Type 0 where
@@ -113,10 +92,8 @@ step-shown k s W sh id i n v' w' shape safe words descrs given mine others unbor
   keeper = sh.keeper;
   next = sh.next;
   owner = sh.owner;
-  each = λ j u e. ⊎_elim (λ (t : (j ≡ id) × (v' ≡ u)). subst (λ (z : ℕ
-      × View). Agrees w' sh.keeper sh.next sh.owner z.0 z.1) (λ c. (sym t.0 c, t.1 c)) mine)
-      (λ (t : (j ≢ id) × (get_elem? s.views j ≡ some u)). others j u t.0 (sh.each j u t.1))
-      (at_set s.views id j v' u e);
+  each = each-set (Agrees w' sh.keeper sh.next sh.owner) s.views id v' mine
+      (λ j u other e. others j u other (sh.each j u e));
   unborn = unborn;
   kept = has-keeper s.views id sh.keeper v v' seated turn sh.kept;
   owned = λ r. ⊎_elim (λ (e : HoldsJust W r []). parts r e)

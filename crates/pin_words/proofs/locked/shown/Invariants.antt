@@ -1,5 +1,4 @@
-use Rattle.std.proofs.Common.{◌≡◌, take}
-use Rattle.pin_core.specs.Opened.{shown_from}
+use Rattle.pin_words.proofs.Cited.{◌≡◌, take, shown_from}
 use Rattle.pin_words.proofs.locked.shown.Given as goal
 
 abbrev pub invariant-loop-i : goal.invariant-loop-i

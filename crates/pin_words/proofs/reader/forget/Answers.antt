@@ -1,5 +1,4 @@
-use Rattle.std.proofs.Common.{arith}
-use Rattle.pin_core.proofs.Counts.{drop_last-absent}
+use Rattle.pin_words.proofs.Cited.{arith, drop_last-absent}
 use Rattle.pin_words.proofs.reader.forget.Goals as goal
 
 pub returns-in_default : goal.returns-in_default

@@ -1,7 +1,5 @@
-use Rattle.std.proofs.Common.{rules, ◌≡◌, ◌<◌, ℕ, true, false, Option, Some, None, IfSome, IsTrue, is_some, ◌↔◌, refl, arith}
+use Rattle.pin_words.proofs.Cited.{rules, ◌≡◌, ◌<◌, ℕ, true, false, Option, Some, None, IfSome, IsTrue, is_some, ◌↔◌, refl, arith, tally, drop_last, same_id, none-at, some-at, remove-last}
 use Rattle.std.specs.List.{remove}
-use Rattle.pin_core.specs.Holds.{tally, drop_last, same_id}
-use Rattle.pin_core.proofs.Counts.{none-at, some-at, remove-last}
 use Rattle.pin_words.proofs.reader.found_at.Goals as goal
 
 pub returns-clause-last : goal.returns-clause-last

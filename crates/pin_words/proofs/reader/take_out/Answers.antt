@@ -1,5 +1,4 @@
-use Rattle.std.proofs.Common.{arith}
-use Rattle.std.proofs.lemmas.List.{drop_all, append-nil}
+use Rattle.pin_words.proofs.Cited.{arith, drop_all, append-nil}
 use Rattle.pin_words.proofs.reader.take_out.Goals as goal
 
 pub returns-then-place-len : goal.returns-then-place-len

@@ -1,8 +1,4 @@
-use Rattle.std.proofs.Common.{rules, sym, ap, subst, ◌<◌}
-use Rattle.pin_core.specs.declared.shape.Shape.{Shape}
-use Rattle.pin_core.specs.Events.{in_phase}
-use Rattle.pin_words.specs.Views.{keeper_of, keeper_closed}
-use Rattle.pin_core.specs.declared.word.Phase.TheVariants.{Closing}
+use Rattle.pin_words.proofs.Cited.{rules, sym, ap, subst, ◌<◌, Shape, in_phase, keeper_of, keeper_closed, Closing}
 use Rattle.pin_words.proofs.KeeperSteps.{closes-step}
 use Rattle.pin_words.proofs.Calls.{kept-one, slot-changed}
 use Rattle.pin_words.proofs.Owned.{key_at, pin_at}

@@ -1,5 +1,4 @@
-use Rattle.std.proofs.Common.{rules, ap}
-use Rattle.pin_words.specs.Views.{keeper_of}
+use Rattle.pin_words.proofs.Cited.{rules, ap, keeper_of}
 use Rattle.pin_words.proofs.Owned.{some_at}
 use Rattle.pin_words.proofs.Reseated.{gives}
 use Rattle.pin_words.proofs.keeper.Keeper.give.Goals as goal

@@ -1,7 +1,4 @@
-use Rattle.std.proofs.Common.{rules, sym, ap, subst, ◌<◌, ◌∙◌, Some, None, ◌≡◌}
-use Rattle.pin_core.specs.declared.shape.Shape.{Shape}
-use Rattle.pin_words.specs.Views.{keeper_of, reader_of, reader_looked, view}
-use Rattle.pin_words.specs.Plays.{looked_view, joined}
+use Rattle.pin_words.proofs.Cited.{rules, sym, ap, subst, ◌<◌, ◌∙◌, Some, None, ◌≡◌, Shape, keeper_of, reader_of, reader_looked, view, looked_view, joined}
 use Rattle.pin_words.proofs.ReaderSteps.{loads}
 use Rattle.pin_words.proofs.Reseated.{joins-any, parts-any}
 use Rattle.pin_words.proofs.Owned.{key_at, pin_at, some_at, id_at}
@@ -50,14 +47,5 @@ invariant_of-self-inside c = let played = c.load.ensures.2 c.args.slot c.place_o
 pub invariant_of-reader-inside : goal.invariant_of-reader-inside
 invariant_of-reader-inside c = let played = c.load.ensures.2 c.args.slot c.place_of.ensures in search rules
 
-pub returns-clause-look : goal.returns-clause-look
-returns-clause-look c = let played = c.load.ensures.2 c.args.slot c.place_of.ensures in search rules
-
-pub returns-clause-held : goal.returns-clause-held
-returns-clause-held c = let played = c.load.ensures.2 c.args.slot c.place_of.ensures in search rules
-
-pub returns-clause-noted : goal.returns-clause-noted
-returns-clause-noted c = let played = c.load.ensures.2 c.args.slot c.place_of.ensures in search rules
-
-pub returns-clause-view : goal.returns-clause-view
-returns-clause-view c = let played = c.load.ensures.2 c.args.slot c.place_of.ensures in search rules
+pub returns : goal.returns
+returns c = let played = c.load.ensures.2 c.args.slot c.place_of.ensures in search rules

@@ -1,14 +1,4 @@
-use Rattle.std.proofs.Common.{rules, sym, ap, subst, ◌<◌, ◌≡◌, ◌∙◌, List, length, set, arith}
-use Rattle.pin_core.specs.declared.shape.Shape.{Shape}
-use Rattle.pin_core.specs.declared.world.Slot.{Slot}
-use native.Mathlib.Decide.{ℕ_discrete}
-use mathlib.Core.Logic.{dite}
-use Rattle.pin_core.specs.declared.word.Word.{Word}
-use Rattle.pin_core.specs.Words.{code_of, decoded, packed}
-use Rattle.pin_core.specs.Events.{reclaimed}
-use Rattle.pin_core.specs.Worlds.{slot_of}
-use Rattle.pin_words.specs.Views.{keeper_of, keeper_reclaimed}
-use Rattle.pin_words.specs.Laws.{closing_word, next_word}
+use Rattle.pin_words.proofs.Cited.{rules, sym, ap, subst, ◌<◌, ◌≡◌, ◌∙◌, List, length, set, arith, Shape, Slot, ℕ_discrete, dite, Word, code_of, decoded, packed, reclaimed, slot_of, keeper_of, keeper_reclaimed, closing_word, next_word}
 use Rattle.pin_words.proofs.KeeperSteps.{reclaims-step}
 use Rattle.pin_words.proofs.Calls.{kept-one, reclaimed-kept, slot-known, slot-changed}
 use Rattle.pin_words.proofs.Owned.{key_at, pin_at}

@@ -1,6 +1,4 @@
-use Rattle.std.proofs.Common.{rules, ap, ◌<◌}
-use Rattle.pin_core.specs.Events.{with_descr}
-use Rattle.pin_words.specs.Views.{keeper_of}
+use Rattle.pin_words.proofs.Cited.{rules, ap, ◌<◌, with_descr, keeper_of}
 use Rattle.pin_words.proofs.Calls.{stores-there, stored-one, slot-changed}
 use Rattle.pin_words.proofs.Owned.{key_at, descr_at}
 use Rattle.pin_words.proofs.keeper.Keeper.store_descr.Goals as goal

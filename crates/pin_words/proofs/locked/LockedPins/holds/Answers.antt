@@ -1,6 +1,4 @@
-use Rattle.std.proofs.Common.{◌<◌, ◌↔◌, ◌∙◌, IsTrue, List, ap, subst}
-use Rattle.pin_core.specs.declared.id.Id.{Id}
-use Rattle.pin_core.specs.Holds.{tally, same_id}
+use Rattle.pin_words.proofs.Cited.{◌<◌, ◌↔◌, ◌∙◌, IsTrue, List, ap, subst, Id, tally, same_id}
 use Rattle.pin_words.proofs.locked.LockedPins.holds.Goals as goal
 
 pub returns : goal.returns

@@ -1,7 +1,4 @@
-use Rattle.std.proofs.Common.{◌≡◌, ◌∙◌, ap, arith}
-use Rattle.pin_core.specs.Holds.{tally}
-use Rattle.pin_core.proofs.Counts.{tally-count}
-use Rattle.pin_words.specs.Views.{is_of_slot}
+use Rattle.pin_words.proofs.Cited.{◌≡◌, ◌∙◌, ap, arith, tally, tally-count, is_of_slot}
 use Rattle.pin_words.proofs.locked.LockedPins.pins.Goals as goal
 
 pub prove-unreachable-requires : goal.prove-unreachable-requires

@@ -1,6 +1,4 @@
-use Rattle.std.proofs.Common.{rules, ◌≡◌, ◌≢◌, ap, sym, arith}
-use Rattle.pin_core.specs.Holds.{tally}
-use Rattle.pin_words.specs.Views.{is_of_slot}
+use Rattle.pin_words.proofs.Cited.{rules, ◌≡◌, ◌≢◌, ap, sym, arith, tally, is_of_slot}
 use Rattle.pin_words.proofs.Calls.{inside-more}
 use Rattle.pin_words.proofs.Locking.{room-more}
 use Rattle.pin_words.proofs.locked.LockedPins.take.Goals as goal

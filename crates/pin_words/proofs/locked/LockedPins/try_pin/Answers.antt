@@ -1,6 +1,4 @@
-use Rattle.std.proofs.Common.{◌<◌, sym, ap, subst, List}
-use Rattle.pin_core.specs.declared.id.Id.{Id}
-use Rattle.pin_core.specs.Holds.{tally, same_id}
+use Rattle.pin_words.proofs.Cited.{◌<◌, sym, ap, subst, List, Id, tally, same_id}
 use Rattle.pin_words.proofs.Holdings.{got-held}
 use Rattle.pin_words.proofs.locked.LockedPins.try_pin.Goals as goal
 

@@ -1,7 +1,5 @@
-use Rattle.std.proofs.Common.{◌≡◌, ◌∙◌, ap}
-use Rattle.std.proofs.Common.{arith}
+use Rattle.pin_words.proofs.Cited.{◌≡◌, ◌∙◌, ap, arith, keeper_gave, opening_keeper}
 use Rattle.pin_words.specs.Seats.{TableState}
-use Rattle.pin_words.specs.Views.{keeper_gave, opening_keeper}
 use Rattle.pin_words.proofs.LawOfSteps.{shows_opening}
 use Rattle.pin_words.proofs.Reseated.{fresh_keeper}
 use Rattle.pin_words.proofs.pins.Opening.start.Goals as goal

@@ -1,12 +1,7 @@
-use Rattle.std.proofs.Common.{rules, ap, ◌<◌}
-use Rattle.pin_core.specs.Holds.{tally, same_id}
-use Rattle.pin_words.specs.Views.{reader_of}
+use Rattle.pin_words.proofs.Cited.{rules, ap, ◌<◌, tally, same_id, reader_of, ◌≡◌, Some, subst, ReaderView, DescrStep}
 use Rattle.pin_words.proofs.Calls.{notes-there}
 use Rattle.pin_words.proofs.Owned.{key_at, descr_at}
-use Rattle.std.proofs.Common.{◌≡◌, Some, subst}
 use Rattle.pin_core.specs.Descrs as descr_code
-use Rattle.pin_words.specs.declared.view.ReaderView.{ReaderView}
-use Rattle.pin_words.specs.Stepped.{DescrStep}
 use Rattle.pin_words.proofs.Stepping.{descr-step}
 use Rattle.pin_words.proofs.reader.Reader.descr.Goals as goal
 

@@ -1,5 +1,4 @@
-use Rattle.std.proofs.Common.{rules, sym, subst, ◌<◌}
-use Rattle.pin_core.specs.declared.shape.Shape.{Shape}
+use Rattle.pin_words.proofs.Cited.{rules, sym, subst, ◌<◌, Shape}
 use Rattle.pin_words.proofs.ReaderSteps.{loads}
 use Rattle.pin_words.proofs.Owned.{key_at, pin_at}
 use Rattle.pin_words.proofs.reader.Reader.look.Goals as goal

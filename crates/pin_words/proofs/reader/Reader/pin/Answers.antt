@@ -1,5 +1,4 @@
-use Rattle.std.proofs.Common.{Err, ap, subst, ◌∙◌, ◌∷◌}
-use Rattle.pin_words.specs.Tries.{Tries}
+use Rattle.pin_words.proofs.Cited.{Err, ap, subst, ◌∙◌, ◌∷◌, Tries}
 use Rattle.pin_words.proofs.Calls.{busy-looked, looked-more}
 use Rattle.pin_words.proofs.reader.Reader.pin.Goals as goal
 

@@ -1,6 +1,4 @@
-use Rattle.std.proofs.Common.{◌≡◌, List}
-use Rattle.pin_words.specs.declared.view.ReaderView.{ReaderView}
-use Rattle.pin_words.specs.Tries.{AreBusy, HasOnlyLooked}
+use Rattle.pin_words.proofs.Cited.{◌≡◌, List, ReaderView, AreBusy, HasOnlyLooked}
 use Rattle.pin_words.proofs.reader.Reader.pin.Given as goal
 
 abbrev pub invariant-loop : goal.invariant-loop

@@ -1,12 +1,7 @@
-use Rattle.std.proofs.Common.{rules, sym, ap, subst, ◌<◌}
-use Rattle.pin_core.specs.declared.shape.Shape.{Shape}
-use Rattle.pin_core.specs.Holds.{tally, same_id}
-use Rattle.pin_words.specs.Views.{reader_of}
+use Rattle.pin_words.proofs.Cited.{rules, sym, ap, subst, ◌<◌, Shape, tally, same_id, reader_of, ReaderView, ReleaseStep}
 use Rattle.pin_words.proofs.ReaderSteps.{releases-step}
 use Rattle.pin_words.proofs.Calls.{inside-less, released-one}
 use Rattle.pin_words.proofs.Owned.{key_at, pin_at}
-use Rattle.pin_words.specs.declared.view.ReaderView.{ReaderView}
-use Rattle.pin_words.specs.Stepped.{ReleaseStep}
 use Rattle.pin_words.proofs.Stepping.{released-step}
 use Rattle.pin_words.proofs.reader.Reader.release.Goals as goal
 

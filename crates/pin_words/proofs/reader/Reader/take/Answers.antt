@@ -1,8 +1,5 @@
-use Rattle.std.proofs.Common.{rules, ◌≡◌, ◌∙◌, sym, ap, subst, ◌<◌, ◌≢◌, refl, ℕ, ◌+◌, ◌-◌, length, arith}
+use Rattle.pin_words.proofs.Cited.{rules, ◌≡◌, ◌∙◌, sym, ap, subst, ◌<◌, ◌≢◌, refl, ℕ, ◌+◌, ◌-◌, length, arith, Shape, decoded, reader_of, reader_looked}
 use Rattle.std.proofs.Math.Seq.{take-append_seam}
-use Rattle.pin_core.specs.declared.shape.Shape.{Shape}
-use Rattle.pin_core.specs.Words.{decoded}
-use Rattle.pin_words.specs.Views.{reader_of, reader_looked}
 use Rattle.pin_words.proofs.ReaderSteps.{pins-step}
 use Rattle.pin_words.proofs.Calls.{go-means, read-one, got-one, inside-more}
 use Rattle.pin_words.proofs.Owned.{key_at, pin_at}
@@ -40,18 +37,10 @@ invariant_of-self-inside c = let played = c.compare_exchange-seen.ensures.2 c.ar
     let popped : c.pop.new.self.items ≡ c.self.inside.held.items =
     search (arith, take-append_seam) in search rules
 
-pub returns-then-seen-found-clause-lost : goal.returns-then-seen-found-clause-lost
-returns-then-seen-found-clause-lost c = let played = c.compare_exchange-seen.ensures.2 c.args.id.slot c.place_of.ensures
-    in search rules
+pub returns-then-seen-found : goal.returns-then-seen-found
+returns-then-seen-found c = let played = c.compare_exchange-seen.ensures.2 c.args.id.slot c.place_of.ensures in
+    search rules
 
-pub returns-then-seen-found-clause-tells : goal.returns-then-seen-found-clause-tells
-returns-then-seen-found-clause-tells c = let played =
-    c.compare_exchange-seen.ensures.2 c.args.id.slot c.place_of.ensures in search rules
-
-pub returns-else-seen-found-clause-won : goal.returns-else-seen-found-clause-won
-returns-else-seen-found-clause-won c = let played = c.compare_exchange-seen.ensures.2 c.args.id.slot c.place_of.ensures
-    in search rules
-
-pub returns-else-seen-found-clause-tells : goal.returns-else-seen-found-clause-tells
-returns-else-seen-found-clause-tells c = let played =
-    c.compare_exchange-seen.ensures.2 c.args.id.slot c.place_of.ensures in search rules
+pub returns-else-seen-found : goal.returns-else-seen-found
+returns-else-seen-found c = let played = c.compare_exchange-seen.ensures.2 c.args.id.slot c.place_of.ensures in
+    search rules

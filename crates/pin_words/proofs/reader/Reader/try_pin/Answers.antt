@@ -1,13 +1,5 @@
-use Rattle.std.proofs.Common.{rules, ◌≡◌, ◌<◌, ◌∙◌, sym, ap, subst, List, ℕ}
-use Rattle.pin_core.specs.declared.id.Id.{Id}
-use Rattle.pin_core.specs.Words.{decoded}
-use Rattle.pin_core.specs.Holds.{tally, same_id}
-use Rattle.pin_words.specs.declared.view.ReaderView.{ReaderView}
+use Rattle.pin_words.proofs.Cited.{rules, ◌≡◌, ◌<◌, ◌∙◌, sym, ap, subst, List, ℕ, Id, decoded, tally, same_id, ReaderView, verdict_of, reader_looked, reader_got, IsHold, TellsReader}
 use Rattle.pin_words.specs.declared.fault.Verdict.TheVariants as verdict
-use Rattle.pin_words.specs.Verdicts.{verdict_of}
-use Rattle.pin_words.specs.Views.{reader_looked, reader_got}
-use Rattle.pin_words.specs.Stepped.{IsHold}
-use Rattle.pin_words.specs.Plays.{TellsReader}
 use Rattle.pin_words.proofs.Holdings.{got-held}
 use Rattle.pin_words.proofs.Stepping.{load-step, pin-step, hold-after}
 use Rattle.pin_words.proofs.reader.Reader.try_pin.Goals as goal
