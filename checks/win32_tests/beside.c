@@ -21,9 +21,10 @@ HANDLE WINAPI GetProcessHeap(void) {
     return (HANDLE)1;
 }
 
+/* A size of 0xDEADBEEF is one that no call has written, and more than a sanitizer can clear in time. */
 LPVOID WINAPI HeapAlloc(HANDLE heap, DWORD flags, SIZE_T size) {
     (void)heap, (void)flags;
-    return calloc(1, size == 0 ? 1 : size);
+    return size > 64u << 20 ? NULL : calloc(1, size == 0 ? 1 : size);
 }
 
 LPVOID WINAPI HeapReAlloc(HANDLE heap, DWORD flags, LPVOID at, SIZE_T size) {
