@@ -50,24 +50,28 @@ uint32_t process_by(uint64_t handle, uint32_t right, kept **k, process **p) {
 /* NtCreateThreadEx (&MADE, ACCESS, ATTRIBUTES, PROCESS, ENTRY, WITH, FLAGS, ZERO BITS, COMMIT, RESERVE, LIST) */
 uint32_t NtCreateThreadEx(void) {
     enum { SUSPENDED = 1 };
-    uint64_t list = arg(10), entry = arg(4), with = arg(5), client, block;
+    uint64_t list = arg(10), entry = arg(4), with = arg(5), commit = arg(8), reserve = arg(9), client, block;
     uint32_t number, access = rights_of(OM_HOST(A_THREAD), (uint32_t)arg(1));
-    if (arg(3) != THIS_PROCESS) {
-        return STATUS_NOT_SUPPORTED; /* a thread in another process */
+    process *of;
+    uint32_t status = process_by(arg(3), 0x2, NULL, &of); /* PROCESS_CREATE_THREAD */
+    if (status != STATUS_SUCCESS) {
+        return status;
     }
     bytes_at(arg(0), 8);
-    uint32_t error = om_thread(&om, in->member.process, &number);
+    uint32_t error = om_thread(&om, of->member.process, &number);
     if (error != OM_SUCCESS) {
         return om_nt_status(error);
     }
-    thread *t = begin_thread(number, entry, with, arg(9), arg(8));
+    in = of;
+    thread *t = begin_thread(number, entry, with, reserve, commit);
+    in = current->of;
     if (t == NULL) {
         om_end_thread(&om, number);
         return STATUS_NO_MEMORY;
     }
     t->suspended = arg(6) & SUSPENDED ? 1 : 0;
     if ((client = attribute_of(list, LIST_CLIENT_ID, NULL)) != 0) {
-        put(client, THREAD_NUMBER * (uint64_t)in->member.process, 8);
+        put(client, THREAD_NUMBER * (uint64_t)of->member.process, 8);
         put(client + 8, THREAD_NUMBER * (uint64_t)number, 8);
     }
     if ((block = attribute_of(list, LIST_TEB, NULL)) != 0) {

@@ -266,7 +266,7 @@ static uint32_t set_priority(thread *t, int32_t priority) {
 
 /* NtSetInformationThread (THREAD, CLASS, FROM, SIZE) */
 uint32_t NtSetInformationThread(void) {
-    enum { PRIORITY = 3, ZERO_TLS = 10 };
+    enum { PRIORITY = 3, AFFINITY = 4, ZERO_TLS = 10, IDEAL_PROCESSOR = 13, BOOST = 14, HIDES = 17, NAME = 38 };
     thread *t;
     uint32_t class = (uint32_t)arg(1), status = thread_by(arg(0), 0x20, NULL, &t); /* THREAD_SET_INFORMATION */
     if (status != STATUS_SUCCESS || t == NULL) {
@@ -275,10 +275,20 @@ uint32_t NtSetInformationThread(void) {
     if (class == PRIORITY) {
         return set_priority(t, (int32_t)get(arg(2), 4));
     }
-    if (class == ZERO_TLS) {
+    switch (class) {
+    case ZERO_TLS:
         empty_tls(get(arg(2), 4));
+        return STATUS_SUCCESS;
+    case AFFINITY:
+        return get(arg(2), 8) == 1 ? STATUS_SUCCESS : STATUS_INVALID_PARAMETER; /* there is one processor */
+    case IDEAL_PROCESSOR:
+    case BOOST:
+    case HIDES:
+    case NAME:
+        return STATUS_SUCCESS; /* they change nothing that a guest of one processor and without a debugger sees */
+    default:
+        return STATUS_INVALID_INFO_CLASS;
     }
-    return STATUS_SUCCESS; /* others change nothing that is served */
 }
 
 /* ---- Keys, tokens and links, of which there are none ---- */

@@ -241,7 +241,7 @@ static void make_runnable(region *r, uint64_t address, uint64_t size, uint32_t p
     }
 }
 
-static uint32_t allocate_anywhere(uint64_t size, uint64_t zero_bits, uint32_t type, uint32_t protect, uint64_t *address) {
+static uint32_t allocate_anywhere(uint64_t *address, uint64_t size, uint64_t zero_bits, uint32_t type, uint32_t protect) {
     /* the number of zero bits on the left of 32, or a mask of all that may be set */
     uint64_t below = zero_bits == 0 ? 0 : zero_bits < 32 ? 1ull << (32 - zero_bits) : zero_bits + 1;
     if (!(type & (MEM_COMMIT | MEM_RESERVE))) {
@@ -255,41 +255,59 @@ static uint32_t allocate_anywhere(uint64_t size, uint64_t zero_bits, uint32_t ty
     return STATUS_SUCCESS;
 }
 
-uint32_t NtAllocateVirtualMemory(void) {
-    uint64_t address = get(arg(1), 8), size = get(arg(3), 8);
-    uint32_t type = (uint32_t)arg(4), protect = (uint32_t)arg(5), status = STATUS_SUCCESS;
-    if (arg(0) != THIS_PROCESS) {
-        return STATUS_NOT_SUPPORTED;
-    }
-    if (size == 0 || size > MEMORY_MOST) {
-        return size == 0 ? STATUS_INVALID_PARAMETER : STATUS_NO_MEMORY;
+static uint32_t allocate(uint64_t *address, uint64_t *size, uint64_t zero_bits, uint32_t type, uint32_t protect) {
+    if (*size == 0 || *size > MEMORY_MOST) {
+        return *size == 0 ? STATUS_INVALID_PARAMETER : STATUS_NO_MEMORY;
     }
     if (type & MEM_RESET) {
         return STATUS_SUCCESS;
     }
-    if (address == 0) {
-        size = whole_pages(size);
-        status = allocate_anywhere(size, arg(2), type, protect, &address);
-    } else if (type & MEM_RESERVE) {
-        uint64_t low = address / GRANULE * GRANULE;
-        size = whole_pages(address - low + size);
-        address = low;
-        status = map_at(low, size, protect, IS_PRIVATE) == NULL ? STATUS_CONFLICTING_ADDRESSES : STATUS_SUCCESS;
-    } else {
-        round_out(&address, &size);
-        if (bytes_if(address, size) == NULL) {
-            return STATUS_CONFLICTING_ADDRESSES;
-        }
-        region *r = region_at(address);
-        make_runnable(r, address, size, protect);
-        r->is_committed = true;
-        r->protect = protect;
+    if (*address == 0) {
+        *size = whole_pages(*size);
+        return allocate_anywhere(address, *size, zero_bits, type, protect);
     }
+    if (type & MEM_RESERVE) {
+        uint64_t low = *address / GRANULE * GRANULE;
+        *size = whole_pages(*address - low + *size);
+        *address = low;
+        return map_at(low, *size, protect, IS_PRIVATE) == NULL ? STATUS_CONFLICTING_ADDRESSES : STATUS_SUCCESS;
+    }
+    round_out(address, size);
+    if (bytes_if(*address, *size) == NULL) {
+        return STATUS_CONFLICTING_ADDRESSES;
+    }
+    region *r = region_at(*address);
+    make_runnable(r, *address, *size, protect);
+    r->is_committed = true;
+    r->protect = protect;
+    return STATUS_SUCCESS;
+}
+
+/* A process that a call is about, by its handle; its memory is meant then. PROCESS_VM_OPERATION is the right that the calls below need. */
+enum { VM_OPERATION = 0x8 };
+static uint32_t mean(uint64_t handle, uint32_t right) {
+    process *of;
+    uint32_t status = process_by(handle, right, NULL, &of);
+    in = status == STATUS_SUCCESS ? of : in;
+    return status;
+}
+
+/* Has a call's own memory meant again, and tells there what it came to. */
+static uint32_t told(uint32_t status, uint64_t address_to, uint64_t address, uint64_t size_to, uint64_t size) {
+    in = current->of;
     if (status == STATUS_SUCCESS) {
-        put(arg(1), address, 8);
-        put(arg(3), size, 8);
+        put(address_to, address, 8);
+        put(size_to, size, 8);
     }
     return status;
+}
+
+/* NtAllocateVirtualMemory (PROCESS, &ADDRESS, ZERO BITS, &SIZE, TYPE, PROTECT) */
+uint32_t NtAllocateVirtualMemory(void) {
+    uint64_t address = get(arg(1), 8), size = get(arg(3), 8);
+    uint32_t type = (uint32_t)arg(4), protect = (uint32_t)arg(5), status = mean(arg(0), VM_OPERATION);
+    status = status == STATUS_SUCCESS ? allocate(&address, &size, arg(2), type, protect) : status;
+    return told(status, arg(1), address, arg(3), size);
 }
 
 /* Whether a live thread has a region as its stack: that goes with the thread. */
@@ -302,34 +320,40 @@ static bool is_stack(const region *r) {
     return false;
 }
 
-uint32_t NtFreeVirtualMemory(void) {
-    uint64_t address = get(arg(1), 8), size = get(arg(2), 8);
-    region *r = region_at(address);
-    if (arg(0) != THIS_PROCESS) {
-        return STATUS_NOT_SUPPORTED;
-    }
+static uint32_t release(uint64_t *address, uint64_t *size, uint32_t type) {
+    region *r = region_at(*address);
     if (r == NULL || r->type != IS_PRIVATE) {
         return r == NULL ? STATUS_NOT_MAPPED_VIEW : STATUS_INVALID_PARAMETER;
     }
-    if ((uint32_t)arg(3) & MEM_RELEASE) {
-        if (size != 0 && size < r->size) {
+    if (type & MEM_RELEASE) {
+        if (*size != 0 && *size < r->size) {
             return STATUS_SUCCESS; /* a part of a region stays with the rest */
         }
-        if (r->address != address) {
+        if (r->address != *address) {
             return STATUS_INVALID_PARAMETER;
         }
-        put(arg(2), r->size, 8);
+        *size = r->size;
         if (!is_stack(r)) {
             unmap(r);
         }
         return STATUS_SUCCESS;
     }
-    size = size == 0 ? r->size - (address - r->address) : size;
-    round_out(&address, &size);
-    memset(bytes_at(address, size), 0, size);
-    put(arg(1), address, 8);
-    put(arg(2), size, 8);
+    *size = *size == 0 ? r->size - (*address - r->address) : *size;
+    round_out(address, size);
+    void *bytes = bytes_if(*address, *size);
+    if (bytes == NULL) {
+        return STATUS_INVALID_PARAMETER;
+    }
+    memset(bytes, 0, *size);
     return STATUS_SUCCESS;
+}
+
+/* NtFreeVirtualMemory (PROCESS, &ADDRESS, &SIZE, TYPE) */
+uint32_t NtFreeVirtualMemory(void) {
+    uint64_t address = get(arg(1), 8), size = get(arg(2), 8);
+    uint32_t status = mean(arg(0), VM_OPERATION);
+    status = status == STATUS_SUCCESS ? release(&address, &size, (uint32_t)arg(3)) : status;
+    return told(status, arg(1), address, arg(2), size);
 }
 
 uint32_t NtProtectVirtualMemory(void) {

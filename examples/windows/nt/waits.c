@@ -210,9 +210,11 @@ uint32_t NtCreateKeyedEvent(void) {
 
 static uint32_t meet(waiting mine, waiting other) {
     int64_t due = until(arg(3));
-    uint32_t status = arg(0) == 0 ? STATUS_SUCCESS : named(arg(0), A_KEYED_EVENT, mine == FOR_RELEASE ? 1 : 2, NULL);
-    if (status != STATUS_SUCCESS || arg(1) % 2 != 0) {
-        return status != STATUS_SUCCESS ? status : STATUS_INVALID_PARAMETER_1;
+    uint32_t status = arg(1) % 2 != 0 ? STATUS_INVALID_PARAMETER_1
+                      : arg(0) == 0   ? STATUS_SUCCESS
+                                      : named(arg(0), A_KEYED_EVENT, mine == FOR_RELEASE ? 1 : 2, NULL);
+    if (status != STATUS_SUCCESS) {
+        return status;
     }
     for (thread *t = threads; t < threads + threads_end; t++) {
         if (t->number != 0 && t->waits == other && t->of == in && t->key == arg(1)) {
