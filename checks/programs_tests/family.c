@@ -4,7 +4,8 @@
 #include <windows.h>
 
 static int child(char **words) {
-    HANDLE semaphore = (HANDLE)(ULONG_PTR)atoi(words[1]), mutex = (HANDLE)(ULONG_PTR)atoi(words[2]), event = OpenEventA(EVENT_MODIFY_STATE, FALSE, "Local\\family");
+    HANDLE semaphore = (HANDLE)(ULONG_PTR)atoi(words[1]), mutex = (HANDLE)(ULONG_PTR)atoi(words[2]);
+    HANDLE event = OpenEventA(EVENT_MODIFY_STATE, FALSE, "Local\\family");
     LONG before = -1;
     printf("child: opened %d\n", event != NULL);
     BOOL is_released = ReleaseSemaphore(semaphore, 2, &before);
@@ -24,7 +25,8 @@ int main(int count, char **words) {
     STARTUPINFOA start = {.cb = sizeof start};
     PROCESS_INFORMATION made;
     DWORD code;
-    HANDLE event = CreateEventA(NULL, TRUE, FALSE, "Local\\family"), semaphore = CreateSemaphoreA(&inherited, 0, 5, NULL), mutex = CreateMutexA(&inherited, TRUE, NULL);
+    HANDLE event = CreateEventA(NULL, TRUE, FALSE, "Local\\family"), semaphore = CreateSemaphoreA(&inherited, 0, 5, NULL);
+    HANDLE mutex = CreateMutexA(&inherited, TRUE, NULL);
     sprintf(command, "family.exe %d %d", (int)(ULONG_PTR)semaphore, (int)(ULONG_PTR)mutex);
     if (!CreateProcessA(NULL, command, NULL, NULL, TRUE, CREATE_SUSPENDED, NULL, NULL, &start, &made)) {
         printf("no process, error %lu\n", GetLastError());

@@ -66,7 +66,8 @@ static void names(void) {
 }
 
 static void shared(void) {
-    HANDLE one = CreateFileMappingA(INVALID_HANDLE_VALUE, NULL, PAGE_READWRITE, 0, 0x10000, "files_memory"), other = OpenFileMappingA(FILE_MAP_READ, FALSE, "files_memory");
+    HANDLE one = CreateFileMappingA(INVALID_HANDLE_VALUE, NULL, PAGE_READWRITE, 0, 0x10000, "files_memory");
+    HANDLE other = OpenFileMappingA(FILE_MAP_READ, FALSE, "files_memory");
     char *to = MapViewOfFile(one, FILE_MAP_WRITE, 0, 0, 0), *from = MapViewOfFile(other, FILE_MAP_READ, 0, 0, 0);
     strcpy(to, "shared");
     printf("%s, at two places %d\n", from, to != from);

@@ -1,5 +1,5 @@
-/* What a guest can't reach: anything but its own folder and Wine's DLLs, whatever path it passes, and nothing of the host by a bad pointer. The folder has links and a
- * pipe in it that lead elsewhere. */
+/* What a guest can't reach: anything but its own folder and Wine's DLLs, whatever path it passes, and nothing of the host by a bad pointer. The folder has
+ * links and a pipe in it that lead elsewhere. */
 #include <setjmp.h>
 #include <stdio.h>
 #include <windows.h>
@@ -29,8 +29,8 @@ static NTSTATUS open_path(const wchar_t *path, ACCESS_MASK access, ULONG disposi
 static void paths(void) {
     static const wchar_t *const all[] = {
         L"\\??\\C:\\..\\secret", L"\\??\\C:\\../secret", L"\\??\\C:\\folder\\..\\..\\secret", L"\\??\\C:\\link\\secret", L"\\??\\C:\\linked", L"\\??\\C:\\pipe",
-        L"\\??\\C:\\windows\\system32\\..\\..\\secret", L"\\??\\Z:\\etc\\passwd", L"\\??\\unix\\etc\\passwd", L"\\Device\\HarddiskVolume1\\secret", L"/etc/passwd",
-        L"\\??\\C:/own", L"\\??\\C:\\own", L"\\??\\C:\\OWN", L"\\??\\C:\\windows\\system32\\ntdll.dll",
+        L"\\??\\C:\\windows\\system32\\..\\..\\secret", L"\\??\\Z:\\etc\\passwd", L"\\??\\unix\\etc\\passwd", L"\\Device\\HarddiskVolume1\\secret",
+        L"/etc/passwd", L"\\??\\C:/own", L"\\??\\C:\\own", L"\\??\\C:\\OWN", L"\\??\\C:\\windows\\system32\\ntdll.dll",
     };
     for (size_t i = 0; i < sizeof all / sizeof *all; i++) {
         printf("%ls: %08lx\n", all[i], open_path(all[i], GENERIC_READ, FILE_OPEN));
@@ -44,8 +44,8 @@ static void paths(void) {
 static void pointers(void) {
     static const char *const names[] = {
         "NtCreateEvent", "NtCreateMutant", "NtOpenEvent", "NtWaitForMultipleObjects", "NtQueryObject", "NtQueryVirtualMemory", "NtReadFile", "NtCreateSection",
-        "NtMapViewOfSection", "NtCreateUserProcess", "NtQueryInformationProcess", "NtQueryInformationThread", "NtQueryDirectoryFile", "NtOpenFile", "NtCreateFile",
-        "NtDuplicateObject", "NtSetTimer", "NtOpenThread", "NtOpenProcess", "NtGetContextThread", "NtReadVirtualMemory", "NtQuerySection", "NtGetNlsSectionPtr",
+        "NtMapViewOfSection", "NtCreateUserProcess", "NtQueryInformationProcess", "NtQueryInformationThread", "NtQueryDirectoryFile", "NtOpenFile",
+        "NtCreateFile", "NtDuplicateObject", "NtSetTimer", "NtOpenThread", "NtOpenProcess", "NtGetContextThread", "NtReadVirtualMemory", "NtQuerySection", "NtGetNlsSectionPtr",
         "NtSetInformationFile", "NtQueryInformationFile", "NtQueryAttributesFile", "NtAllocateVirtualMemory", "NtQuerySystemInformation", "NtQueryEvent",
     };
     enum { NAMES = sizeof names / sizeof *names, WORDS = 11, ROUNDS = 5000 };

@@ -19,6 +19,11 @@ struct told {
     ~told() { std::cout << name << " goes\n"; }
 };
 
+// (mingw-w64 may free a thread's own objects before their destructors run, so this one reads nothing)
+struct thread_end {
+    ~thread_end() { std::cout << "a thread's own goes\n"; }
+};
+
 static int fail(int number) {
     told local{"a local"};
     if (number > 2) {
@@ -53,7 +58,7 @@ int main() {
     } catch (std::exception &error) {
         std::cout << "caught " << error.what() << "\n";
     }
-    std::thread([] { thread_local told mine{"a thread's own"}; (void)mine; }).join();
+    std::thread([] { thread_local thread_end mine; (void)mine; }).join();
     auto before = std::chrono::steady_clock::now();
     std::unique_lock<std::mutex> held(lock);
     bool timed_out = changed.wait_for(held, std::chrono::milliseconds(50)) == std::cv_status::timeout;

@@ -1,6 +1,7 @@
-/* Before each store to memory Unicorn 2.0.1 looks whether code was made of its page, which takes 170 ns. Its calls of its own three functions for that go by the
- * dynamic linker, so these stand before them, and leave the look out for a single store: code that a guest changes is run as it was until NtFlushInstructionCache or
- * NtProtectVirtualMemory, as Windows asks of programs (Learn: FlushInstructionCache). Where a library has no such calls these are never called. */
+/* Before each store to memory Unicorn 2.0.1 looks whether code was made of its page, which takes 170 ns. Its calls of its own three functions for that go by
+ * the dynamic linker, so these stand before them, and leave the look out for a single store: code that a guest changes is run as it was until
+ * NtFlushInstructionCache or NtProtectVirtualMemory, as Windows asks of programs (Learn: FlushInstructionCache). Where a library has no such calls these are
+ * never called. */
 #define _GNU_SOURCE
 #include <dlfcn.h>
 #include <stddef.h>

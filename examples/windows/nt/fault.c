@@ -1,5 +1,5 @@
-/* Where a fault was. Unicorn 2.0.1 tells the address of the block alone, with the registers as they are at the fault: so the first instruction of the block whose operand
- * in memory comes to the address that failed is the one. */
+/* Where a fault was. Unicorn 2.0.1 tells the address of the block alone, with the registers as they are at the fault: so the first instruction of the block
+ * whose operand in memory comes to the address that failed is the one. */
 #include "nt.h"
 
 #include <capstone/capstone.h>

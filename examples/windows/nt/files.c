@@ -1,5 +1,6 @@
-/* The guests' drive C:, and files on it. The drive is one folder of the machine; C:\windows\system32 and C:\windows\globalization\sorting are Wine's, to be read. A path is
- * walked name by name from an open folder, never by a link and never upwards, so nothing else of the machine is found. Sharing modes aren't kept. */
+/* The guests' drive C:, and files on it. The drive is one folder of the machine; C:\windows\system32 and C:\windows\globalization\sorting are Wine's, to be
+ * read. A path is walked name by name from an open folder, never by a link and never upwards, so nothing else of the machine is found. Sharing modes aren't
+ * kept. */
 #define _GNU_SOURCE
 #include "nt.h"
 

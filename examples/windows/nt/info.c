@@ -116,7 +116,8 @@ static void tell_process(const kept *k, const process *p, uint64_t to) {
 /* NtQueryInformationProcess (PROCESS, CLASS, TO, SIZE, &COUNT) */
 uint32_t NtQueryInformationProcess(void) {
     enum { BASICS = 0, TIMES = 4, IMAGE = 37 };
-    /* classes that are one number here: no debugger (7, 30, 31), hard errors (12), handles (20), affinity (21), session (24), not of 32 bits (26), stack (34), cookie (36) */
+    /* classes that are one number here: no debugger (7, 30, 31), hard errors (12), handles (20), affinity (21), session (24), not of 32 bits (26), stack (34),
+     * cookie (36) */
     static const struct {
         uint32_t class, size;
         uint64_t value;

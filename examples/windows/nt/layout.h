@@ -1,6 +1,6 @@
-/* Where in Windows' own structures lies what the host reads or writes: bytes from their beginning, for 64 bits. CONTEXT, EXCEPTION_RECORD and the files of programs
- * are in Learn and winnt.h; PEB, TEB, RTL_USER_PROCESS_PARAMETERS and OBJECT_ATTRIBUTES in Learn and winternl.h, and what is reserved there in Geoff Chappell's
- * studies (geoffchappell.com, "PEB and TEB"); KUSER_SHARED_DATA in Learn's ntddk.h. */
+/* Where in Windows' own structures lies what the host reads or writes: bytes from their beginning, for 64 bits. CONTEXT, EXCEPTION_RECORD and the files of
+ * programs are in Learn and winnt.h; PEB, TEB, RTL_USER_PROCESS_PARAMETERS and OBJECT_ATTRIBUTES in Learn and winternl.h, and what is reserved there in Geoff
+ * Chappell's studies (geoffchappell.com, "PEB and TEB"); KUSER_SHARED_DATA in Learn's ntddk.h. */
 #ifndef LAYOUT_H
 #define LAYOUT_H
 

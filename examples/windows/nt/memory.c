@@ -1,5 +1,5 @@
-/* A process's memory: regions, each of bytes of the host's, which the processor reads and writes in place. What isn't run lies in two arenas, since the processor takes a
- * time that grows with the square of its own regions. All memory can be read and written: rights of pages are told and not enforced. */
+/* A process's memory: regions, each of bytes of the host's, which the processor reads and writes in place. What isn't run lies in two arenas, since the
+ * processor takes a time that grows with the square of its own regions. All memory can be read and written: rights of pages are told and not enforced. */
 #define _DEFAULT_SOURCE
 #include "nt.h"
 

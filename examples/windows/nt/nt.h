@@ -1,15 +1,15 @@
-/* A host that runs 64-bit Windows programs at the system calls: ntdll, kernelbase, kernel32 and msvcrt of an installed Wine are guest code like the program itself,
- * Unicorn is the processor, libobman the kernel's objects, and the host serves the Nt calls alone.
+/* A host that runs 64-bit Windows programs at the system calls: ntdll, kernelbase, kernel32 and msvcrt of an installed Wine are guest code like the program
+ * itself, Unicorn is the processor, libobman the kernel's objects, and the host serves the Nt calls alone.
  *
- * main.c       the command line                    calls.c    which calls are served, and their arguments
- * seeds.c      a program by many seeds             objects.c  events, mutexes, semaphores, timers, names, handles
- * start.c      processes, and what each begins with  waits.c    waits, sleeps, alerts, keyed events
- * memory.c     a process's memory                  control.c  threads and processes: begin, suspend, end
- * image.c      programs and DLLs in it             context.c  registers told, exceptions, APCs
- * threads.c    turns, the clock, the processor     files.c    the guests' drive, and files on it
- * fault.c      which instruction of a block failed sections.c files as memory
- * stuck.c      who waits for whom                  info.c     what is asked of system, processes and threads
- * fast.c       Unicorn's stores, less slow         layout.h   what of Windows' own structures lies where */
+ * main.c     the command line                      calls.c     which calls are served, and their arguments
+ * seeds.c    a program by many seeds               objects.c   events, mutexes, semaphores, timers, names, handles
+ * start.c    processes, and what each begins with  waits.c     waits, sleeps, alerts, keyed events
+ * memory.c   a process's memory                    control.c   threads and processes: begin, suspend, end
+ * image.c    programs and DLLs in it               context.c   registers told, exceptions, APCs
+ * threads.c  turns, the clock, the processor       files.c     the guests' drive, and files on it
+ * fault.c    which instruction of a block failed   sections.c  files as memory, and shared memory
+ * stuck.c    who waits for whom                    info.c      what is asked of the system, processes and threads
+ * fast.c     Unicorn's stores, less slow           layout.h    what of Windows' own structures lies where */
 #ifndef NT_H
 #define NT_H
 
@@ -48,7 +48,6 @@ enum {
 #define STATUS_ALERTED 0x00000101u
 #define STATUS_TIMEOUT 0x00000102u
 #define STATUS_PENDING 0x00000103u
-#define STATUS_OBJECT_NAME_EXISTS 0x40000000u
 #define STATUS_IMAGE_NOT_AT_BASE 0x40000003u
 #define STATUS_BREAKPOINT 0x80000003u
 #define STATUS_SINGLE_STEP 0x80000004u
@@ -69,7 +68,6 @@ enum {
 #define STATUS_NOT_MAPPED_VIEW 0xC0000019u
 #define STATUS_ILLEGAL_INSTRUCTION 0xC000001Du
 #define STATUS_ACCESS_DENIED 0xC0000022u
-#define STATUS_BUFFER_TOO_SMALL 0xC0000023u
 #define STATUS_OBJECT_TYPE_MISMATCH 0xC0000024u
 #define STATUS_OBJECT_NAME_INVALID 0xC0000033u
 #define STATUS_OBJECT_NAME_NOT_FOUND 0xC0000034u
@@ -110,8 +108,8 @@ enum {
     IS_IMAGE = 0x1000000
 };
 
-/* Where each process has what the host puts there: KUSER_SHARED_DATA; the address that Wine's stubs call, to which it says; and the page of that address, of halts
- * that are never run: an instruction in it is a system call, or one of Wine's calls of its Unix side. */
+/* Where each process has what the host puts there: KUSER_SHARED_DATA; the address that Wine's stubs call, to which it says; and the page of that address, of
+ * halts that are never run: an instruction in it is a system call, or one of Wine's calls of its Unix side. */
 #define SHARED 0x7FFE0000u
 #define DISPATCH (SHARED + PAGE)
 #define SYSTEM_CALL (SHARED + 2 * PAGE)
@@ -141,7 +139,8 @@ typedef struct apc {
     struct apc *next;
 } apc;
 
-/* For what a thread waits in the library: an object; a moment alone; or, until a moment, an alert by NtAlertThreadByThreadId or the other side of a keyed event. */
+/* For what a thread waits in the library: an object; a moment alone; or, until a moment, an alert by NtAlertThreadByThreadId or the other side of a keyed
+ * event. */
 typedef enum waiting { RUNS, FOR_OBJECTS, FOR_TIME, FOR_ALERT, FOR_RELEASE, FOR_WAITER } waiting;
 
 typedef struct thread {

@@ -1,4 +1,5 @@
-/* The calls for events, mutexes (NT says mutants), semaphores, timers, names and handles. Most are one call of the library, whose numbers become status codes. */
+/* The calls for events, mutexes (NT says mutants), semaphores, timers, names and handles. Most are one call of the library, whose numbers become status codes.
+ * */
 #include "nt.h"
 
 #include <dirent.h>
@@ -53,7 +54,8 @@ bool inherits(uint64_t attributes) {
     return attributes != 0 && (get(attributes + ATTRIBUTES_FLAGS, 4) & INHERIT) != 0;
 }
 
-/* Rights as the library has them: the generic ones stand for those of the kind (Learn: the page of rights of each kind), and as many as are allowed are all. */
+/* Rights as the library has them: the generic ones stand for those of the kind (Learn: the page of rights of each kind), and as many as are allowed are all.
+ * */
 uint32_t rights_of(uint32_t kind, uint32_t access) {
     static const struct {
         uint32_t reads, writes, runs;
@@ -453,7 +455,8 @@ uint32_t NtDuplicateObject(void) {
     bool inherit = ((uint32_t)arg(5) & INHERIT) != 0;
     if (arg(1) == THIS_THREAD || arg(1) == THIS_PROCESS) {
         const om_opening *own = arg(1) == THIS_THREAD ? &current->own : &source->own;
-        uint32_t rights = options & OM_DUPLICATE_SAME_ACCESS ? OM_HOST_ALL_ACCESS : rights_of(arg(1) == THIS_THREAD ? OM_HOST(A_THREAD) : OM_HOST(A_PROCESS), access);
+        uint32_t kind = arg(1) == THIS_THREAD ? OM_HOST(A_THREAD) : OM_HOST(A_PROCESS);
+        uint32_t rights = options & OM_DUPLICATE_SAME_ACCESS ? OM_HOST_ALL_ACCESS : rights_of(kind, access);
         return to == 0 ? STATUS_INVALID_HANDLE : duplicated(om_duplicate(&om, host.thread, host.process, own->handle, to, rights, inherit, 0, &made), &made);
     }
     if (om_query_handle(&om, source->member.process, handle, &info) == OM_SUCCESS) {

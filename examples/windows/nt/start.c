@@ -1,5 +1,5 @@
-/* Processes and threads as they are before their first instruction: what Windows' kernel has put into a process's memory when ntdll begins in it. What Wine's DLLs look at
- * beyond Windows' structures was found by running them. */
+/* Processes and threads as they are before their first instruction: what Windows' kernel has put into a process's memory when ntdll begins in it. What Wine's
+ * DLLs look at beyond Windows' structures was found by running them. */
 #define _GNU_SOURCE
 #include "nt.h"
 
@@ -145,7 +145,8 @@ static uint64_t map_dll(const char *name, uint64_t *size) {
     return base;
 }
 
-/* ntdll zeros 960 KiB of each new thread's stack, which is of zeros here: 123,000 stores that Unicorn is slow at. In the guests' copy that loop is left out. */
+/* ntdll zeros 960 KiB of each new thread's stack, which is of zeros here: 123,000 stores that Unicorn is slow at. In the guests' copy that loop is left out.
+ * */
 static void leave_out_zeroing(uint64_t size) {
     static const uint8_t loop[] = {0x31, 0xC0, 0x48, 0xC1, 0xE9, 0x03, 0xF3, 0x48, 0xAB, 0x48, 0x8D, 0x63, 0xE0}; /* .. rep stosq .. */
     uint8_t *found = memmem(bytes_at(in->ntdll, size), size, loop, sizeof loop);
@@ -239,7 +240,8 @@ static process *free_process(void) {
     return p == processes + PROCESSES ? NULL : p;
 }
 
-/* A process of the library's begins over a program: its first thread, or NULL where that is no program or there is no room. Its memory is meant from then on. */
+/* A process of the library's begins over a program: its first thread, or NULL where that is no program or there is no room. Its memory is meant from then on.
+ * */
 static thread *begin_process(process *p, om_member member, int program, const passed *from) {
     uint64_t size;
     thread *first = NULL;
@@ -282,8 +284,8 @@ static void set_text(passed *to, int i, uint16_t *room, const char *text) {
 
 /* The first process, of a program on the guests' drive. */
 void begin_first(const char *path, const char *command) {
-    static const char variables[] = "COMSPEC=C:\\windows\\system32\\cmd.exe\0PATH=C:\\windows\\system32;C:\\windows\0SystemDrive=C:\0SystemRoot=C:\\windows\0TEMP=C:\\\0"
-                                    "TMP=C:\\\0USERNAME=guest\0windir=C:\\windows\0";
+    static const char variables[] = "COMSPEC=C:\\windows\\system32\\cmd.exe\0PATH=C:\\windows\\system32;C:\\windows\0SystemDrive=C:\0"
+                                    "SystemRoot=C:\\windows\0TEMP=C:\\\0TMP=C:\\\0USERNAME=guest\0windir=C:\\windows\0";
     static uint16_t room[3][NT_NAME_MOST], command_room[4 * NT_NAME_MOST], environment[sizeof variables];
     char image[NT_NAME_MOST];
     passed from = {.environment = environment, .environment_size = sizeof environment};
@@ -336,7 +338,8 @@ static void pass_standard_files(passed *to, const om_member *child) {
         uint64_t handle, made = 0;
         om_opening opening;
         memcpy(&handle, to->fixed + PARAMETERS_STANDARD + 8 * i, 8);
-        if (om_duplicate(&om, current->number, in->member.process, handle_of(handle), child->process, 0, true, OM_DUPLICATE_SAME_ACCESS, &opening) == OM_SUCCESS) {
+        uint32_t own = in->member.process, same = OM_DUPLICATE_SAME_ACCESS;
+        if (om_duplicate(&om, current->number, own, handle_of(handle), child->process, 0, true, same, &opening) == OM_SUCCESS) {
             made = opening.handle;
         }
         memcpy(to->fixed + PARAMETERS_STANDARD + 8 * i, &made, 8);
@@ -348,7 +351,8 @@ uint32_t NtCreateUserProcess(void) {
     enum { INHERITS = 4, SUSPENDED = 1 };
     char name[NT_NAME_MOST];
     uint64_t size = 0, list = arg(10), image = attribute_of(list, LIST_IMAGE_NAME, &size), information = attribute_of(list, LIST_IMAGE_INFORMATION, NULL);
-    uint64_t client = attribute_of(list, LIST_CLIENT_ID, NULL), access[2] = {arg(2), arg(3)}, attributes[2] = {arg(4), arg(5)};
+    uint64_t client = attribute_of(list, LIST_CLIENT_ID, NULL), attributes[2] = {arg(4), arg(5)};
+    uint32_t access[2] = {(uint32_t)arg(2), (uint32_t)arg(3)};
     bool inherit = ((uint32_t)arg(6) & INHERITS) != 0, suspended = ((uint32_t)arg(7) & SUSPENDED) != 0;
     uint64_t i = 0;
     for (; i < size / 2 && i + 1 < sizeof name; i++) {
@@ -392,6 +396,8 @@ uint32_t NtCreateUserProcess(void) {
         in = parent;
         image_information(head, child->image, 0, information);
     }
-    uint32_t status = answer_handle(arg(0), given(&child->own, rights_of(OM_HOST(A_PROCESS), (uint32_t)access[0]), inherits(attributes[0])));
-    return status == STATUS_SUCCESS ? answer_handle(arg(1), given(&first->own, rights_of(OM_HOST(A_THREAD), (uint32_t)access[1]), inherits(attributes[1]))) : status;
+    access[0] = rights_of(OM_HOST(A_PROCESS), access[0]);
+    access[1] = rights_of(OM_HOST(A_THREAD), access[1]);
+    uint32_t status = answer_handle(arg(0), given(&child->own, access[0], inherits(attributes[0])));
+    return status == STATUS_SUCCESS ? answer_handle(arg(1), given(&first->own, access[1], inherits(attributes[1]))) : status;
 }

@@ -1,5 +1,6 @@
-/* Threads, whose turns have so many instructions; the clock; and the processor. A thread runs in its process's engine until its turn is over or it makes a call. Behind
- * each stop its whole registers are in `now`; its numbers of floating point and its vectors stay in the engine until another thread's turn comes there. */
+/* Threads, whose turns have so many instructions; the clock; and the processor. A thread runs in its process's engine until its turn is over or it makes a
+ * call. Behind each stop its whole registers are in `now`; its numbers of floating point and its vectors stay in the engine until another thread's turn comes
+ * there. */
 #include "nt.h"
 
 #include <stdio.h>
@@ -233,7 +234,8 @@ static void raise_interrupt(thread *t) {
     static const struct {
         uint32_t number, code, count;
     } all[] = {
-        {0, STATUS_INTEGER_DIVIDE_BY_ZERO, 0}, {1, STATUS_SINGLE_STEP, 0}, {3, STATUS_BREAKPOINT, 1}, {6, STATUS_ILLEGAL_INSTRUCTION, 0}, {13, STATUS_ACCESS_VIOLATION, 2},
+        {0, STATUS_INTEGER_DIVIDE_BY_ZERO, 0}, {1, STATUS_SINGLE_STEP, 0},      {3, STATUS_BREAKPOINT, 1},
+        {6, STATUS_ILLEGAL_INSTRUCTION, 0},    {13, STATUS_ACCESS_VIOLATION, 2},
     };
     uint64_t information[2] = {0, interrupt == 13 ? UINT64_MAX : 0};
     size_t i = 0;

@@ -201,7 +201,8 @@ uint32_t NtAlertThreadByThreadId(void) {
     return STATUS_SUCCESS;
 }
 
-/* ---- Keyed events: each wait meets a release of the same key in the same process, and the one that came first waits for the other (Learn has no page of them) ---- */
+/* ---- Keyed events: each wait meets a release of the same key in the same process, and the one that came first waits for the other (Learn has no page of
+ * them) ---- */
 
 uint32_t NtCreateKeyedEvent(void) {
     kept *k;
