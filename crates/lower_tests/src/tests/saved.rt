@@ -376,13 +376,15 @@ const EDITS: &[Edit<'static>] = &[
     // a wait of a thread that isn't there, and for an object that isn't
     (131, &[2, 0], &[3, 0], Some(TextFault::Value)),
     (141, &[1, 0, 0, 0, 1, 0, 0, 0], &[1, 0, 0, 0, 2, 0, 0, 0], Some(TextFault::Value)),
-    // answers: an index, that of an abandoned mutex, and that the time was up, each beside codes that are none
+    // answers: an index, that of an abandoned mutex, that an alert came, and that the time was up, each beside codes
+    // that are none
     (136, PENDING, &[2, 63, 0, 0, 0], None),
     (136, PENDING, &[2, 64, 0, 0, 0], Some(TextFault::Value)),
     (136, PENDING, &[2, 127, 0, 0, 0], Some(TextFault::Value)),
     (136, PENDING, &[2, 128, 0, 0, 0], None),
     (136, PENDING, &[2, 191, 0, 0, 0], None),
-    (136, PENDING, &[2, 192, 0, 0, 0], Some(TextFault::Value)),
+    (136, PENDING, &[2, 192, 0, 0, 0], None),
+    (136, PENDING, &[2, 193, 0, 0, 0], Some(TextFault::Value)),
     (136, PENDING, &[2, 1, 1, 0, 0], Some(TextFault::Value)),
     (136, PENDING, &[2, 2, 1, 0, 0], None),
     (136, PENDING, &[2, 3, 1, 0, 0], Some(TextFault::Value)),
