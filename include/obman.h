@@ -195,7 +195,8 @@ static inline uint32_t om_map_access(uint32_t kind, uint32_t mask) {
 
 /* Until when a wait of so many milliseconds lasts, as om_wait_until, om_sleep and om_signal_and_wait take it: OM_FOREVER for OM_INFINITE. */
 static inline int64_t om_due_in(uint32_t milliseconds) {
-    return milliseconds == OM_INFINITE ? OM_FOREVER : -10000 * (int64_t)milliseconds;
+    int64_t units = milliseconds;
+    return milliseconds == OM_INFINITE ? OM_FOREVER : -10000 * units;
 }
 
 /* The NTSTATUS of a number that a call answers, or of WAIT_TIMEOUT or WAIT_IO_COMPLETION, for a host of native calls; where a number stands for several, the first of
@@ -221,10 +222,17 @@ static inline uint32_t om_nt_status(uint32_t number) {
     }
 }
 
+/* (C++ warns of the casts of C) */
+#ifdef __cplusplus
+#define OM_AS_(type, value) static_cast<type>(value)
+#else
+#define OM_AS_(type, value) ((type)(value))
+#endif
+
 /* A character of UTF-16 as a name may have it, whose bytes are printable ASCII: itself, or % and its number in four hexadecimal digits, so % too, and two
  * names stay two. Writes 1 or 5 bytes, and says how many. */
 static inline size_t om_spell(uint16_t character, char *bytes) {
-    if (character >= 0x20 && character <= 0x7E && character != '%') return *bytes = (char)character, 1;
+    if (character >= 0x20 && character <= 0x7E && character != '%') return *bytes = OM_AS_(char, character), 1;
     *bytes = '%';
     for (int i = 1; i <= 4; i++) bytes[i] = "0123456789ABCDEF"[character >> (16 - 4 * i) & 15];
     return 5;
@@ -234,10 +242,10 @@ static inline size_t om_spell(uint16_t character, char *bytes) {
 static inline size_t om_spelled(const char *bytes, size_t length, uint16_t *character) {
     unsigned number = 0;
     if (*bytes == '%' && length >= 5) {
-        for (int i = 1; i <= 4; i++) number = number << 4 | (unsigned)(bytes[i] <= '9' ? bytes[i] - '0' : bytes[i] - 'A' + 10);
-        return *character = (uint16_t)number, 5;
+        for (int i = 1; i <= 4; i++) number = number << 4 | OM_AS_(unsigned, bytes[i] <= '9' ? bytes[i] - '0' : bytes[i] - 'A' + 10);
+        return *character = OM_AS_(uint16_t, number), 5;
     }
-    return *character = (unsigned char)*bytes, 1;
+    return *character = OM_AS_(unsigned char, *bytes), 1;
 }
 
 /* A manager: a pointer that is its own business. */
@@ -870,7 +878,8 @@ uint32_t om_version(void);
 static inline int32_t om_previous(om_manager *m, uint32_t process, uint32_t handle) {
     om_object_state it;
     if (om_handle_state(m, process, handle, &it) != OM_SUCCESS) return 0;
-    return it.kind == OM_MUTEX ? 1 - (int32_t)it.count : it.kind == OM_SEMAPHORE ? (int32_t)it.count : it.signaled;
+    int32_t count = OM_AS_(int32_t, it.count);
+    return it.kind == OM_MUTEX ? 1 - count : it.kind == OM_SEMAPHORE ? count : it.signaled;
 }
 
 /* om_child with those of the inheritable handles alone that are listed (CreateProcess with PROC_THREAD_ATTRIBUTE_HANDLE_LIST): the process begins with all
