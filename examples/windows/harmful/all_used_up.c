@@ -20,7 +20,8 @@ static BOOL process(void) {
 
 static BOOL periodic(void) {
     LARGE_INTEGER due = {.QuadPart = -10000};
-    return SetWaitableTimer(CreateWaitableTimerA(NULL, FALSE, NULL), &due, 1, NULL, NULL, FALSE);
+    HANDLE made = CreateWaitableTimerA(NULL, FALSE, NULL);
+    return made != NULL && SetWaitableTimer(made, &due, 1, NULL, NULL, FALSE);
 }
 
 /* One more of them: whether there is. */

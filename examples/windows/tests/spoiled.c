@@ -35,7 +35,6 @@ static const struct {
     {"a region between pages", MACHINE(processes[0].regions[0].address), STUBS + 1},
     {"a region where another is", MACHINE(processes[0].regions[0].address), ENVIRONMENT},
     {"rights that there aren't", MACHINE(processes[0].regions[0].rights), 64},
-    {"a period without length", MACHINE(periods[0].handle), 4},
     {"an import without an end", NAMES, NAME_MOST, 'x'},
     {"many more of the library's bytes", 0, 8, UINT64_MAX / 2},
     {"other bytes of the library's", 0, 12, 'x'},
