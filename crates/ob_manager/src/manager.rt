@@ -420,8 +420,8 @@ impl<K: PinKeeper> Manager<K> {
         self.call(&Ask::ReleaseMutex { thread, handle })
     }
 
-    /// Sets an event and resets it: `Done` ([PulseEvent]). Who waits may be satisfied by it, one of them where the event
-    /// isn't reset by hand; it is nonsignaled behind the call.
+    /// Sets an event and resets it: `Done` ([PulseEvent]). Who waits may be satisfied by it, one of them where the
+    /// event isn't reset by hand; it is nonsignaled behind the call.
     ///
     /// Refused as [`set_event`](Manager::set_event) is.
     ///
@@ -460,10 +460,10 @@ impl<K: PinKeeper> Manager<K> {
         })
     }
 
-    /// Sets a timer with a period in milliseconds, of 10,000 units of time each, 0 for none: `Done` ([SetWaitableTimer]).
-    /// Each time its moment comes it is signaled, and due again at the first moment after that of the tick which lies
-    /// whole periods behind the moment it was due: it never drifts, and where several have passed it is signaled once. It
-    /// goes on so until it is set anew or cancelled, or ends.
+    /// Sets a timer with a period in milliseconds, of 10,000 units of time each, 0 for none: `Done`
+    /// ([SetWaitableTimer]). Each time its moment comes it is signaled, and due again at the first moment after that of
+    /// the tick which lies whole periods behind the moment it was due: it never drifts, and where several have passed
+    /// it is signaled once. It goes on so until it is set anew or cancelled, or ends.
     ///
     /// Refused with 87 where the thread isn't live, 170 where it waits, 87 for a period below 0, and then as
     /// [`set_timer`](Manager::set_timer).
@@ -480,7 +480,8 @@ impl<K: PinKeeper> Manager<K> {
         })
     }
 
-    /// Takes a timer's due moment away, and its period; it stays as signaled as it is: `Done` ([CancelWaitableTimer]). It is refused as
+    /// Takes a timer's due moment away, and its period; it stays as signaled as it is: `Done` ([CancelWaitableTimer]).
+    /// It is refused as
     /// [`set_timer`](Manager::set_timer) is.
     ///
     /// [CancelWaitableTimer]: https://learn.microsoft.com/windows/win32/api/synchapi/nf-synchapi-cancelwaitabletimer
@@ -528,16 +529,17 @@ impl<K: PinKeeper> Manager<K> {
     }
 
     /// Signals the object of one handle and waits for that of another, as one call ([SignalObjectAndWait]): an event is
-    /// set, a semaphore raised by 1, a mutex released. `Code` where the wait is satisfied then, and `Code` with 258 where
-    /// it may not last; otherwise `Signaled` with the number of the wait, which is pending. The wait stands behind those
-    /// that stood before the signal was given; it takes a number though it is satisfied at once (*profile*).
+    /// set, a semaphore raised by 1, a mutex released. `Code` where the wait is satisfied then, and `Code` with 258
+    /// where it may not last; otherwise `Signaled` with the number of the wait, which is pending. The wait stands
+    /// behind those that stood before the signal was given; it takes a number though it is satisfied at once
+    /// (*profile*).
     ///
     /// All that may refuse is looked at before anything changes: 87 where the thread isn't live, 170 where it waits, 6
     /// where there is no such handle, of which the one to signal is looked at first; 5 without the right SYNCHRONIZE to
     /// wait; 6 where the object to signal is no event, semaphore or mutex, 5 without MODIFY_STATE for an event or a
-    /// semaphore, 298 where the count would pass the maximum, 288 where the thread doesn't own the mutex; 1450 for a mutex
-    /// to wait for that the thread owns as often as the limit lets before the call, and where each wait number was given;
-    /// and then 8 for want of memory.
+    /// semaphore, 298 where the count would pass the maximum, 288 where the thread doesn't own the mutex; 1450 for a
+    /// mutex to wait for that the thread owns as often as the limit lets before the call, and where each wait number
+    /// was given; and then 8 for want of memory.
     ///
     /// [SignalObjectAndWait]: https://learn.microsoft.com/windows/win32/api/synchapi/nf-synchapi-signalobjectandwait
     pub fn signal_and_wait(

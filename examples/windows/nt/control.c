@@ -4,17 +4,18 @@
 #include <stdlib.h>
 #include <string.h>
 
+/* What is kept at the caller's own thread or process, which the host has a handle to. */
+static uint32_t kept_own(const om_opening *own, kept **found) {
+    om_handle_info info;
+    uint32_t status = om_query_handle(&om, host.process, own->handle, &info);
+    *found = (kept *)(uintptr_t)info.data;
+    return om_nt_status(status);
+}
+
 /* What is kept at a thread that a handle names with a right, and the thread where it lives, else NULL. */
 uint32_t thread_by(uint64_t handle, uint32_t right, kept **k, thread **t) {
     kept *found;
-    om_handle_info info;
-    uint32_t status = STATUS_SUCCESS;
-    if (handle == THIS_THREAD) {
-        om_query_handle(&om, host.process, current->own.handle, &info);
-        found = (kept *)(uintptr_t)info.data;
-    } else {
-        status = named(handle, A_THREAD, right, &found);
-    }
+    uint32_t status = handle == THIS_THREAD ? kept_own(&current->own, &found) : named(handle, A_THREAD, right, &found);
     if (status == STATUS_SUCCESS) {
         *t = found->has_ended ? NULL : thread_numbered(found->number);
         if (k != NULL) {
@@ -27,14 +28,7 @@ uint32_t thread_by(uint64_t handle, uint32_t right, kept **k, thread **t) {
 /* The same of a process, which is to live, unless what is kept is asked for. */
 uint32_t process_by(uint64_t handle, uint32_t right, kept **k, process **p) {
     kept *found;
-    om_handle_info info;
-    uint32_t status = STATUS_SUCCESS;
-    if (handle == THIS_PROCESS) {
-        om_query_handle(&om, host.process, in->own.handle, &info);
-        found = (kept *)(uintptr_t)info.data;
-    } else {
-        status = named(handle, A_PROCESS, right, &found);
-    }
+    uint32_t status = handle == THIS_PROCESS ? kept_own(&in->own, &found) : named(handle, A_PROCESS, right, &found);
     if (status != STATUS_SUCCESS) {
         return status;
     }

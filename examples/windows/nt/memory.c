@@ -425,38 +425,24 @@ uint32_t NtFlushInstructionCache(void) {
     return STATUS_SUCCESS;
 }
 
-uint32_t NtReadVirtualMemory(void) {
+/* Between the caller's memory and that of a process that a handle names with a right. */
+static uint32_t move_between(uint32_t right, bool writes) {
     uint64_t size = arg(3);
     process *of, *before = in;
-    uint32_t status = process_by(arg(0), 0x10, NULL, &of); /* PROCESS_VM_READ */
+    uint32_t status = process_by(arg(0), right, NULL, &of);
     if (status != STATUS_SUCCESS) {
         return status;
     }
-    void *to = bytes_at(arg(2), size);
+    void *own = bytes_at(arg(2), size);
     in = of;
-    void *from = bytes_if(arg(1), size);
+    void *its = bytes_if(arg(1), size);
     in = before;
-    if (from != NULL) {
-        memmove(to, from, size);
+    if (its != NULL) {
+        memmove(writes ? its : own, writes ? own : its, size);
     }
-    put(arg(4), from == NULL ? 0 : size, 8);
-    return from == NULL ? STATUS_PARTIAL_COPY : STATUS_SUCCESS;
+    put(arg(4), its == NULL ? 0 : size, 8);
+    return its == NULL ? STATUS_PARTIAL_COPY : STATUS_SUCCESS;
 }
 
-uint32_t NtWriteVirtualMemory(void) {
-    uint64_t size = arg(3);
-    process *of, *before = in;
-    uint32_t status = process_by(arg(0), 0x20, NULL, &of); /* PROCESS_VM_WRITE */
-    if (status != STATUS_SUCCESS) {
-        return status;
-    }
-    void *from = bytes_at(arg(2), size);
-    in = of;
-    void *to = bytes_if(arg(1), size);
-    in = before;
-    if (to != NULL) {
-        memmove(to, from, size);
-    }
-    put(arg(4), to == NULL ? 0 : size, 8);
-    return to == NULL ? STATUS_PARTIAL_COPY : STATUS_SUCCESS;
-}
+uint32_t NtReadVirtualMemory(void) { return move_between(0x10, false); } /* PROCESS_VM_READ */
+uint32_t NtWriteVirtualMemory(void) { return move_between(0x20, true); } /* PROCESS_VM_WRITE */
