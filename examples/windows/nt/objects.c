@@ -31,23 +31,31 @@ uint32_t answer_handle(uint64_t to, uint64_t handle) {
 
 /* ---- Names and rights ---- */
 
-/* A UNICODE_STRING; a character beyond ASCII is % and its number. */
-void text_of(uint64_t unicode, char *out, size_t capacity) {
+/* A UNICODE_STRING, each character as om_spell has it; but % is itself, unless it is to be told from another's number. */
+static void spell(uint64_t unicode, bool tells_percent, char *out, size_t capacity) {
     size_t length = 0;
     uint64_t bytes = unicode == 0 ? 0 : get(unicode, 2), buffer = unicode == 0 ? 0 : get(unicode + 8, 8);
     for (uint64_t i = 0; i + 1 < bytes && length + 6 < capacity; i += 2) {
-        uint64_t one = get(buffer + i, 2);
-        if (one < 0x20 || one > 0x7E) {
-            length += (size_t)snprintf(out + length, 6, "%%%04X", (unsigned)one);
+        uint16_t one = (uint16_t)get(buffer + i, 2);
+        if (one == '%' && !tells_percent) {
+            out[length++] = '%';
         } else {
-            out[length++] = (char)one;
+            length += om_spell(one, out + length);
         }
     }
     out[length] = 0;
 }
 
+void text_of(uint64_t unicode, char *out, size_t capacity) {
+    spell(unicode, false, out, capacity);
+}
+
+static uint64_t name_in(uint64_t attributes) {
+    return attributes == 0 ? 0 : get(attributes + ATTRIBUTES_NAME, 8);
+}
+
 void name_of(uint64_t attributes, char *out, size_t capacity) {
-    text_of(attributes == 0 ? 0 : get(attributes + ATTRIBUTES_NAME, 8), out, capacity);
+    text_of(name_in(attributes), out, capacity);
 }
 
 bool inherits(uint64_t attributes) {
@@ -84,7 +92,7 @@ static asked asked_by(uint64_t attributes, uint32_t kind, uint32_t access) {
     static const char global[] = "\\BaseNamedObjects\\", session[] = "\\Sessions\\";
     asked a = {.making = om_with_access(rights_of(kind, access))};
     char text[NT_NAME_MOST];
-    name_of(attributes, text, sizeof text);
+    spell(name_in(attributes), true, text, sizeof text);
     const char *behind = strstr(text, global);
     bool is_session = strncmp(text, session, strlen(session)) == 0 && behind != NULL, is_global = behind == text;
     const char *name = is_session || is_global ? behind + strlen(global) : text;
