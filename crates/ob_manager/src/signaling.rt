@@ -4,13 +4,15 @@ ghost use Rattle.ob_manager.specs.Signaling.{pulse_event, release_mutex, release
 ghost use Rattle.ob_manager.specs.Signaling.{host_of};
 ghost use Rattle.ob_manager.specs.Steps.{Gives};
 
-use crate::checks::{body_of, caller, found, granted, positive};
+use crate::checks::{caller, found, granted, positive};
 use crate::reply::Reply;
 use ob_body::Body;
-use ob_rights::{Fault, Kind, Rights};
+use ob_rights::{Fault, Rights};
 use ob_store::Store;
 use pin_core::Id;
 use pin_words::PinKeeper;
+
+// A body is matched where it is found: one that is handed on whole is copied piece by piece.
 
 /// Sets an event.
 #[inline(always)]
@@ -23,9 +25,11 @@ pub fn set_event<K: PinKeeper>(
 {
     let process = caller(store, thread)?;
     let entry = found(store, process, handle)?;
-    let event = body_of(store, entry.id, Kind::Event)?;
+    let Some(Body::Event(event)) = store.body(entry.id) else {
+        return Err(Fault::Handle);
+    };
     granted(Rights::MODIFY_STATE, entry)?;
-    store.set(entry.id, event);
+    store.set(entry.id, Body::Event(event));
     Ok(Reply::Done)
 }
 
@@ -40,9 +44,11 @@ pub fn reset_event<K: PinKeeper>(
 {
     let process = caller(store, thread)?;
     let entry = found(store, process, handle)?;
-    let event = body_of(store, entry.id, Kind::Event)?;
+    let Some(Body::Event(event)) = store.body(entry.id) else {
+        return Err(Fault::Handle);
+    };
     granted(Rights::MODIFY_STATE, entry)?;
-    store.reset(entry.id, event);
+    store.reset(entry.id, Body::Event(event));
     Ok(Reply::Done)
 }
 
@@ -56,9 +62,11 @@ pub fn pulse_event<K: PinKeeper>(
 {
     let process = caller(store, thread)?;
     let entry = found(store, process, handle)?;
-    let event = body_of(store, entry.id, Kind::Event)?;
+    let Some(Body::Event(event)) = store.body(entry.id) else {
+        return Err(Fault::Handle);
+    };
     granted(Rights::MODIFY_STATE, entry)?;
-    store.set(entry.id, event);
+    store.set(entry.id, Body::Event(event));
     if let Some(Body::Event(event)) = store.body(entry.id) {
         store.reset(entry.id, Body::Event(event));
     }
@@ -80,9 +88,11 @@ pub fn release_semaphore<K: PinKeeper>(
         return Err(Fault::Parameter);
     };
     let entry = found(store, process, handle)?;
-    let semaphore = body_of(store, entry.id, Kind::Semaphore)?;
+    let Some(Body::Semaphore(semaphore)) = store.body(entry.id) else {
+        return Err(Fault::Handle);
+    };
     granted(Rights::MODIFY_STATE, entry)?;
-    let count = store.post(entry.id, semaphore, more)?;
+    let count = store.post(entry.id, Body::Semaphore(semaphore), more)?;
     Ok(Reply::Previous { count })
 }
 
@@ -96,8 +106,10 @@ pub fn release_mutex<K: PinKeeper>(
 {
     let process = caller(store, thread)?;
     let entry = found(store, process, handle)?;
-    let mutex = body_of(store, entry.id, Kind::Mutex)?;
-    store.unlock(entry.id, mutex, thread)?;
+    let Some(Body::Mutex(mutex)) = store.body(entry.id) else {
+        return Err(Fault::Handle);
+    };
+    store.unlock(entry.id, Body::Mutex(mutex), thread)?;
     Ok(Reply::Done)
 }
 

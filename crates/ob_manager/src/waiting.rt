@@ -288,6 +288,7 @@ fn has_object_twice(ids: &[Id]) -> bool
 }
 
 /// Whether a wait for all is for one object twice.
+#[inline(always)]
 fn is_for_one_twice(mode: Mode, ids: &[Id]) -> bool
     ensures { result ≡ is_for_one_twice mode ids.now }
 {
@@ -325,6 +326,7 @@ fn have_room<K: PinKeeper>(store: &Store<K>, thread: u32, ids: &[Id]) -> bool
 }
 
 /// Whether a wait never becomes pending.
+#[inline(always)]
 fn is_zero(now: u64, timeout: Timeout) -> bool
     requires { now ≤ LAST_MOMENT }
     ensures { result ≡ is_zero now timeout }
@@ -338,6 +340,7 @@ fn is_zero(now: u64, timeout: Timeout) -> bool
 }
 
 /// The deadline of a wait that becomes pending now.
+#[inline(always)]
 fn deadline_in(now: u64, timeout: Timeout) -> Option<u64>
     requires { now ≤ LAST_MOMENT }
     ensures { result ≡ deadline_in now timeout }

@@ -446,7 +446,7 @@ impl ObjectHeaders {
     }
 
     /// The body of an object.
-    #[inline]
+    #[inline(always)]
     pub(crate) fn body(&self, slot: u32) -> Option<Body>
         ensures { result ≡ slice_index_or self.now.seen.bodies slot None }
     {

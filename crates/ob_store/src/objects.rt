@@ -328,7 +328,7 @@ impl<K: PinKeeper> Bodies for Objects<K> {
 
     ghost rest = { kept_rest };
 
-    #[inline]
+    #[inline(always)]
     fn body(&self, id: Id) -> Option<Body> {
         self.headers.body(id.slot)
     }

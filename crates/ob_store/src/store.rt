@@ -195,7 +195,7 @@ impl<K: PinKeeper> Store<K> {
     }
 
     /// The body of an object, or none where it has ended.
-    #[inline]
+    #[inline(always)]
     pub fn body(&self, id: Id) -> Option<Body>
         ensures { result ≡ slice_index_or self.now.state.bodies id.slot None }
     {

@@ -12,7 +12,7 @@ use crate::wait::Mode;
 use ob_body::RECURSION_MAX;
 use pin_core::Id;
 
-#[inline]
+#[inline(always)]
 fn is_signaled<B: Bodies>(bodies: &B, thread: u32, id: Id) -> bool
     ensures { result ≡ is_signaled thread (B.objects bodies.now).bodies id }
 {
