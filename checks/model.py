@@ -209,8 +209,8 @@ class Wait:
 
 
 class Model:
-    def __init__(self, limits, reuse=False, more=True):
-        self.limits, self.reuse, self.forms = limits, reuse, [*forms(LINES + MORE if more else LINES)]
+    def __init__(self, limits, reuse=False, repeats=False, more=True):
+        self.limits, self.reuse, self.repeats, self.forms = limits, reuse, repeats, [*forms(LINES + MORE if more else LINES)]
         self.lines = self.now = 0
         self.processes, self.threads, self.tables = {}, {}, {}  # the session of a process, the process of a thread, the handles of a process by value
         self.waits = {}  # by number, in the order in which they began, until their answers are taken
@@ -510,7 +510,8 @@ class Model:
 
     def wait(self, thread, which, due, listed):
         table, values = self.caller(thread), [it & ~3 for it in listed or []]
-        test(0 < len(values) <= LISTED_MOST and len({*values}) == len(values), 87)
+        is_once = len({*values}) == len(values) or self.repeats and which == "any"
+        test(0 < len(values) <= LISTED_MOST and is_once, 87)
         handles = [self.handle(table, it) for it in values]
         test(all(it.rights & SYNCHRONIZE for it in handles), 5)
         wait = Wait(thread, which == "all", [it.object for it in handles], self.moment(due))

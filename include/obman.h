@@ -9,8 +9,8 @@
  *
  * - One call at a time. Calls for one manager come from any thread, but one after another: keep a lock of your own around them.
  *   Different managers have nothing in common.
- * - om_new, om_new_reusing or om_load makes a manager and om_free ends it. In between an om_manager may be copied and moved: each copy is
- *   the same manager. A manager that was freed, or that none of them made, is as a pointer that was freed: passing it is undefined. But
+ * - om_new, om_new_reusing, om_new_with or om_load makes a manager and om_free ends it. In between an om_manager may be copied and moved:
+ *   each copy is the same manager. A manager that was freed, or that none of them made, is as a pointer that was freed: passing it is undefined. But
  *   om_free of an om_manager of all zeros, and om_reader_free of an om_reader of all zeros, do nothing, so that one way out serves.
  * - A reader (om_reader_new) pins objects on any thread without that lock, beside calls for the manager and for other readers. It is
  *   given to one call at a time, and passed from thread to thread by a lock or a join; om_inspect takes it with the manager that it
@@ -446,6 +446,12 @@ uint32_t om_new(const om_limits *limits, om_manager *m);
  * OM_ERROR_INVALID_PARAMETER for a limit out of its range; OM_ERROR_NOT_ENOUGH_MEMORY. */
 uint32_t om_new_reusing(const om_limits *limits, om_manager *m);
 
+/* The same, with both that a manager does for its whole life, in its savestates too: `reuse` is whether its numbers come back, and
+ * `repeats` whether a handle may stand twice in a wait for any, as NT takes it and thread pools do it: then the least place that is
+ * signaled is told. In a wait for all it may never, and otherwise in none.
+ * OM_ERROR_INVALID_PARAMETER for a limit out of its range; OM_ERROR_NOT_ENOUGH_MEMORY. */
+uint32_t om_new_with(const om_limits *limits, bool reuse, bool repeats, om_manager *m);
+
 /* Ends a manager and gives its memory back. Of all zeros, as in om_manager m = {0}, there is nothing to end. */
 void om_free(om_manager m);
 
@@ -641,8 +647,8 @@ uint32_t om_next_due(om_manager *m, uint64_t *moment);
  * numbers come back: it lasts until a tick to the moment so many milliseconds (of 10,000 units each) from now, and for OM_INFINITE
  * until it is satisfied. A pending wait keeps its objects; until its answer is taken (om_take_answered, om_wait_result) its thread
  * makes no other call.
- * OM_ERROR_INVALID_PARAMETER for no handle, more than 64, or one that stands twice; OM_ERROR_INVALID_HANDLE where there is no such
- * handle; OM_ERROR_ACCESS_DENIED without OM_SYNCHRONIZE; OM_ERROR_INVALID_PARAMETER where a wait for all is for one object twice;
+ * OM_ERROR_INVALID_PARAMETER for no handle, more than 64, or one that stands twice (but by om_new_with); OM_ERROR_INVALID_HANDLE where
+ * there is no such handle; OM_ERROR_ACCESS_DENIED without OM_SYNCHRONIZE; OM_ERROR_INVALID_PARAMETER where a wait for all is for one object twice;
  * OM_ERROR_NO_SYSTEM_RESOURCES for a mutex that the thread owns as often as it may, and where the wait would be pending and no
  * wait number is left, which is never so where numbers come back; OM_ERROR_NOT_ENOUGH_MEMORY where it would be pending. */
 uint32_t om_wait(om_manager *m, uint32_t thread, bool all, uint32_t milliseconds, const uint32_t *handles, size_t count,
@@ -779,8 +785,8 @@ uint32_t om_record(om_manager *m, bool on);
 
 /* Takes what was recorded since, whole lines only, as many as `capacity` bytes at `lines` have room for: *written says how many bytes. A
  * call is the line of a script that asks for it (docs/FORMATS.md), with its answer behind # in the next line, so that obman replays it
- * under the same limits, with --reuse where numbers come back, and with --more where objects of the host's own are asked for; where a
- * line can't make the call again it stands behind # too. Repeat it until *written is 0.
+ * under the same limits, with --reuse where numbers come back, --repeats where a handle may stand twice, and --more where objects of the
+ * host's own are asked for; where a line can't make the call again it stands behind # too. Repeat it until *written is 0.
  * OM_ERROR_INSUFFICIENT_BUFFER where lines are left and not one fits, with 0 in *written: OM_LINE_MOST bytes are always enough. */
 uint32_t om_take_record(om_manager *m, char *lines, size_t capacity, size_t *written);
 

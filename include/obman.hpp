@@ -9,7 +9,7 @@
 //
 // A call gives a `result`: its status, and where that is no error its value. A refusal is no failure of the host but the answer of a
 // guest's call, so none is thrown but by the making of a manager or a reader, by a load and by `value()`, where there is no value. In a
-// program that is built without exceptions these end it (std::abort); om_new, om_new_reusing, om_load and om_reader_new say the status
+// program that is built without exceptions these end it (std::abort); om_new, om_new_reusing, om_new_with, om_load and om_reader_new say the status
 // before, and what they made a `manager` or a `reader` takes over.
 //
 // What only looks is const, and is one call at a time as all others are.
@@ -316,7 +316,7 @@ public:
             fail(status);
         }
     }
-    // One that om_new, om_new_reusing or om_load made.
+    // One that om_new, om_new_reusing, om_new_with or om_load made.
     explicit manager(om_manager m) noexcept : m_(m) {}
     manager(manager &&other) noexcept : m_(other.m_) { other.m_.at = nullptr; }
     manager &operator=(manager &&other) noexcept {
@@ -325,9 +325,11 @@ public:
     }
     ~manager() { om_free(m_); }
     // One whose numbers come back: a new process or thread has the least number that no live one has, and a wait is called by its thread.
-    static manager reusing(const om_limits &limits = default_limits) {
+    static manager reusing(const om_limits &limits = default_limits) { return with(true, false, limits); }
+    // One whose numbers come back or not, and which takes a handle twice in a wait for any or not.
+    static manager with(bool reuse, bool repeats, const om_limits &limits = default_limits) {
         om_manager m{nullptr};
-        std::uint32_t status = om_new_reusing(&limits, &m);
+        std::uint32_t status = om_new_with(&limits, reuse, repeats, &m);
         if (status != OM_SUCCESS) {
             fail(status);
         }

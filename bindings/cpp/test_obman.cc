@@ -198,6 +198,15 @@ static void names() {
     MUST(obman::manager::script(m.default_limits, "spawn 1\n", answers).value() == 6);
 }
 
+// A handle that stands twice in a wait for any.
+static void handles_repeat() {
+    obman::manager m = obman::manager::with(false, true);
+    std::uint32_t thread = m.spawn(1).value().thread;
+    om_opening event = m.create_event(thread, {}, {}, false, true).value();
+    MUST(m.wait(thread, false, 0, {event.handle, event.handle}).value() == OM_WAIT_OBJECT_0);
+    MUST(m.wait(thread, true, 0, {event.handle, event.handle}).status() == OM_ERROR_INVALID_PARAMETER);
+}
+
 // Numbers that come back, also behind a load: those of threads that are gone, and that of a thread for each of its waits.
 static void numbers_come_back() {
     om_limits limits = obman::manager::default_limits;
@@ -262,6 +271,7 @@ int main() {
     inherits();
     looks();
     names();
+    handles_repeat();
     numbers_come_back();
     refusals();
     std::puts("all held");

@@ -184,6 +184,7 @@ _OPENS = [_M, _U, _U, _B, ctypes.c_char_p, _Z, POINTER(Opening)]
 FUNCTIONS = {
     "om_new": (_U, [POINTER(Limits), _M]),
     "om_new_reusing": (_U, [POINTER(Limits), _M]),
+    "om_new_with": (_U, [POINTER(Limits), c_bool, c_bool, _M]),
     "om_free": (None, [_Manager]),
     "om_limits_of": (_U, [_M, POINTER(Limits)]),
     "om_room_of": (_U, [_M, _U, POINTER(Room)]),
@@ -375,14 +376,15 @@ class Reader(_Owner):
 
 class Manager(_Owner):
     """A manager, which ends with its context. One call at a time: threads keep a lock round it. With `reuse` its numbers come back: a new
-    process or thread has the least number that no live one has, and a wait is called by the number of its thread."""
+    process or thread has the least number that no live one has, and a wait is called by the number of its thread. With `repeats` a handle
+    may stand twice in a wait for any, as NT takes it."""
 
     _free = staticmethod(_c.om_free)
 
-    def __init__(self, limits=None, reuse=False):
+    def __init__(self, limits=None, reuse=False, repeats=False):
         self._at = None
         at = _Manager()
-        _done((_c.om_new_reusing if reuse else _c.om_new)(limits or default_limits(), at))
+        _done(_c.om_new_with(limits or default_limits(), reuse, repeats, at))
         self._at = at
 
     @classmethod

@@ -122,6 +122,18 @@ class Calls(unittest.TestCase):
                 self.assertEqual((room.slots, room.processes, room.threads, room.handles), (63, 63, 1, 1023))
                 self.assertEqual((again.thread(first.process), again.limits().waits), (2, 1))
 
+    def test_handles_that_repeat(self):
+        with obman.Manager(repeats=True) as m:
+            first = m.spawn(1)
+            event = m.create_event(first.thread)
+            self.assertEqual(m.wait(m.thread(first.process), [event.handle] * 2), obman.Pending(1))
+            with obman.Manager.load(m.save()) as again:
+                again.set_event(first.thread, event.handle)
+                self.assertEqual(again.wait_result(1), obman.Over(obman.WAIT_OBJECT_0))
+                with self.assertRaises(obman.Error) as refused:
+                    again.wait(first.thread, [event.handle] * 2, all=True)
+                self.assertEqual(refused.exception.number, 87)
+
     def test_walks_and_ends(self):
         with obman.Manager(obman.default_limits(slots=2)) as m:
             member = m.spawn(7)

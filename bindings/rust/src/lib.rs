@@ -610,7 +610,12 @@ impl Manager {
     /// The same, and its numbers come back: a new process or thread has the least number that no live one has, and a wait is called by the
     /// number of its thread.
     pub fn new_reusing(limits: &Limits) -> Result<Manager, Error> {
-        made(|m| unsafe { sys::om_new_reusing(&limits.raw(), m) })
+        Manager::new_with(limits, true, false)
+    }
+
+    /// The same, whose numbers come back or not, and which takes a handle twice in a wait for any, as NT does, or not.
+    pub fn new_with(limits: &Limits, reuse: bool, repeats: bool) -> Result<Manager, Error> {
+        made(|m| unsafe { sys::om_new_with(&limits.raw(), reuse, repeats, m) })
     }
 
     /// The manager of a savestate. [`Error::InvalidData`] for other bytes.

@@ -53,6 +53,7 @@ structs! {
 extern "C" {
     pub fn om_new(limits: *const om_limits, m: *mut om_manager) -> u32;
     pub fn om_new_reusing(limits: *const om_limits, m: *mut om_manager) -> u32;
+    pub fn om_new_with(limits: *const om_limits, reuse: bool, repeats: bool, m: *mut om_manager) -> u32;
     pub fn om_free(m: om_manager);
     pub fn om_limits_of(m: *mut om_manager, limits: *mut om_limits) -> u32;
     pub fn om_room_of(m: *mut om_manager, process: u32, room: *mut om_room) -> u32;

@@ -98,6 +98,16 @@ fn times_and_waits_are_those_of_windows() -> Result<(), Error> {
 }
 
 #[test]
+fn a_handle_may_stand_twice() -> Result<(), Error> {
+    let mut m = Manager::new_with(&Limits::default(), false, true)?;
+    let thread = m.spawn(1)?.thread;
+    let event = m.create_event(thread, &Create::default(), false, true)?.opening();
+    assert_eq!(m.wait(thread, false, 0, &[event.handle; 2])?, Waited::Over(Outcome::Signaled(0)));
+    assert_eq!(m.wait(thread, true, 0, &[event.handle; 2]), Err(Error::InvalidParameter));
+    Ok(())
+}
+
+#[test]
 fn numbers_come_back() -> Result<(), Error> {
     let mut m = Manager::new_reusing(&Limits { threads: 2, waits: 1, ..Limits::default() })?;
     let first = m.spawn(1)?;

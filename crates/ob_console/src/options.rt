@@ -149,9 +149,9 @@ impl From<AllocError> for OptionsFault {
 
 /// Reads the arguments after the program's name, by the habits of `clap`: `--slots 4` or `--slots=4`, in any order,
 /// each option at most once, `--help` or `-h`, and `--version` or `-V`. The options are the *profile*'s: one for each
-/// limit of [`Limits`], `--reuse`, `--more`, `--lanes`, `--load` and `--save`. A savestate has limits of its own, and
-/// lanes go over new managers alone: beside `--load` stands no limit and no `--reuse`, and beside `--load` and `--save`
-/// no `--lanes`.
+/// limit of [`Limits`], `--reuse`, `--repeats`, `--more`, `--lanes`, `--load` and `--save`. A savestate has limits of its
+/// own, and lanes go over new managers alone: beside `--load` stands no limit, no `--reuse` and no `--repeats`, and
+/// beside `--load` and `--save` no `--lanes`.
 pub fn read_options(alloc: Global, args: Vec<String>) -> Result<Options, OptionsFault>
     ensures lanes { IfOk result (λ options. options.lanes ≤ 64) }
 {
@@ -234,6 +234,13 @@ fn command<'a>(alloc: Global) -> Result<Command<'a>, AllocError> {
         .conflicts_with("load")?)?
         .arg(flag(
             alloc,
+            "repeats",
+            "A handle may stand twice in a wait for any, as NT takes it: the least place that is signaled is told. Not \
+             beside --load",
+        )
+        .conflicts_with("load")?)?
+        .arg(flag(
+            alloc,
             "more",
             "More lines are read, too: for objects of the host's own, moments, periods, sleep, pulse, signalwait and alert",
         ))?
@@ -302,7 +309,9 @@ fn limits_of(matches: &ArgMatches<'_>) -> Result<Limits, OptionsFault> {
         given(matches, MAX_RECURSION, usual.max_recursion)?,
     );
     match limits {
-        Ok(limits) => Ok(limits.with_reuse(matches.get_flag("reuse"))),
+        Ok(limits) => Ok(limits
+            .with_reuse(matches.get_flag("reuse"))
+            .with_repeats(matches.get_flag("repeats"))),
         Err(_) => Err(OptionsFault::BadLine),
     }
 }

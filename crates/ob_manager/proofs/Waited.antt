@@ -32,7 +32,7 @@ use Rattle.ob_manager.specs.declared.waiting.Timeout.{Timeout}
 use Rattle.ob_manager.specs.Checks.{caller, found}
 use Rattle.ob_manager.specs.Rising.{listed}
 use Rattle.ob_manager.specs.Outcomes.{◌>>=◌, or_refuse, refuse_if}
-use Rattle.ob_manager.specs.Waiting.{all_found, has_twice, have_room, id_of, is_for_one_twice, is_misshapen, lacks_synchronize, objects_of, same_handle, wait, wait_on}
+use Rattle.ob_manager.specs.Waiting.{all_found, has_twice, have_room, id_of, is_for_one_twice, is_misshapen, lacks_synchronize, may_repeat, objects_of, wait, wait_on}
 
 -- the objects of handles one by one, after those that were collected
 abbrev pub objects_from : State → ℕ → List Id → Bool → List ℕ → Result (List Id) Fault
@@ -150,17 +150,20 @@ module _ (s : State) (p : ℕ) where
     pub at_most : length ids ≤ 64
     pub is_there : (i : ℕ) → i < length ids → 0 < handles_of s (get_or ids i nowhere)
 
-  pub asked : (hs : List ℕ) (ids : List Id) → Ok ids ≡ listed s p hs → AreAsked ids
-  asked hs ids is = by (is_misshapen hs) refl is
+  pub asked : (mode : Mode) (hs : List ℕ) (ids : List Id) → Ok ids ≡ listed s p mode hs → AreAsked ids
+  asked mode hs ids is = by (is_misshapen repeats hs) refl is
     where
-      by : (b : Bool) → is_misshapen hs ≡ b → Ok ids ≡ (refuse_if b fault.Parameter >>= λ _. objects_of s p hs)
+      repeats : Bool
+      repeats = may_repeat s.limits mode
+
+      by : (b : Bool) → is_misshapen repeats hs ≡ b → Ok ids ≡ (refuse_if b fault.Parameter >>= λ _. objects_of s p hs)
           → AreAsked ids
       by true shape is = absurd (cc)
       by false shape is =
           let e = entered hs ids is in
           let many = e.many in
-          let some = (or_parts (eqb (length hs) 0) (nat_lt 64 (length hs) || has_twice same_handle hs) shape) in
-          let few = (or_parts (nat_lt 64 (length hs)) (has_twice same_handle hs) some.1).0 in
+          let some = or_parts (eqb (length hs) 0) _ shape in
+          let few = (or_parts (nat_lt 64 (length hs)) _ some.1).0 in
           let none = some.0 in
           record {
             not_empty = grind (arith, nat_tests, many, none);
@@ -170,10 +173,10 @@ module _ (s : State) (p : ℕ) where
 
   -- a wait of a caller is a wait for what is listed
   pub waits_listed : (t : ℕ) (mode : Mode) (timeout : Timeout) (hs : List ℕ) → caller s t ≡ Ok p
-      → wait s t mode timeout hs ≡ (listed s p hs >>= wait_on s t mode timeout)
+      → wait s t mode timeout hs ≡ (listed s p mode hs >>= wait_on s t mode timeout)
   waits_listed t mode timeout hs own =
-      ap (λ (r : Result ℕ Fault). r >>= λ process. refuse_if (is_misshapen hs) fault.Parameter >>= λ _.
-      objects_of s process hs >>= wait_on s t mode timeout) own ∙ by (is_misshapen hs)
+      ap (λ (r : Result ℕ Fault). r >>= λ process. refuse_if (is_misshapen (may_repeat s.limits mode) hs) fault.Parameter
+      >>= λ _. objects_of s process hs >>= wait_on s t mode timeout) own ∙ by (is_misshapen (may_repeat s.limits mode) hs)
     where
       by : (b : Bool) → (refuse_if b fault.Parameter >>= λ _. objects_of s p hs >>= wait_on s t mode timeout)
           ≡ ((refuse_if b fault.Parameter >>= λ _. objects_of s p hs) >>= wait_on s t mode timeout)

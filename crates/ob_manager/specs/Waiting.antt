@@ -1,5 +1,5 @@
 -- Waiting for objects, and what becomes of waits.
-use Rattle.std.specs.Prelude.{ℕ, ◌+◌, ◌*◌, ◌/◌, ◌==◌, ◌||◌, nat_le, nat_lt, Bool, true, false, not, List, [], ◌∷◌, length, map, Option, Some, None, Result, Ok, Err, if◌then◌else◌, slice_index_or}
+use Rattle.std.specs.Prelude.{ℕ, ◌+◌, ◌*◌, ◌/◌, ◌==◌, ◌&&◌, ◌||◌, nat_le, nat_lt, Bool, true, false, not, List, [], ◌∷◌, length, map, Option, Some, None, Result, Ok, Err, if◌then◌else◌, slice_index_or}
 use Rattle.std.specs.List.{list_any, list_all}
 use Rattle.arrayvec.specs.ArrayVec.{ArrayVec}
 use Rattle.pin_core.specs.Holds.{same_id}
@@ -21,6 +21,7 @@ use Rattle.ob_manager.specs.declared.reply.Reply.{Reply}
 use Rattle.ob_manager.specs.declared.reply.Reply.TheVariants as reply
 use Rattle.ob_manager.specs.declared.waiting.Timeout.{Timeout}
 use Rattle.ob_manager.specs.declared.waiting.Timeout.TheVariants.{Zero, Infinite, Millis, Until}
+use Rattle.ob_store.specs.declared.limits.Limits.{Limits}
 use Rattle.ob_store.specs.State.{State, settled}
 use Rattle.ob_store.specs.Waiting.{are_waits_given, cut_short, met, open_waits, taken_at, wait_name, wait_number, with_answer, with_taken, with_wait, without_wait}
 use Rattle.ob_manager.specs.Outcomes.{Outcome, ◌>>=◌, or_refuse, refuse_if}
@@ -41,9 +42,15 @@ has_twice same (x ∷ xs) = list_any (same x) xs || has_twice same xs
 abbrev pub same_handle : ℕ → ℕ → Bool
 same_handle a b = a / 4 == b / 4
 
--- whether a list of handles is none to wait for: empty, past 64, or with a handle twice
-abbrev pub is_misshapen : List ℕ → Bool
-is_misshapen handles = length handles == 0 || (nat_lt 64 (length handles) || has_twice same_handle handles)
+-- whether a handle may stand twice in a wait: in one for any, where the manager was made so
+abbrev pub may_repeat : Limits → Mode → Bool
+may_repeat limits Any = limits.repeats
+may_repeat limits All = false
+
+-- whether a list of handles is none to wait for: empty, past 64, or with a handle twice where none may be
+abbrev pub is_misshapen : Bool → List ℕ → Bool
+is_misshapen repeats handles =
+    length handles == 0 || (nat_lt 64 (length handles) || (has_twice same_handle handles && not repeats))
 
 -- the entries of handles, else 6
 abbrev pub all_found : State → ℕ → List ℕ → Result (List Entry) Fault
@@ -131,7 +138,7 @@ wait_on s thread mode timeout ids = do
 abbrev pub wait : State → ℕ → Mode → Timeout → List ℕ → Result Outcome Fault
 wait s thread mode timeout handles = do
   process ← caller s thread
-  _ ← refuse_if (is_misshapen handles) fault.Parameter
+  _ ← refuse_if (is_misshapen (may_repeat s.limits mode) handles) fault.Parameter
   ids ← objects_of s process handles
   wait_on s thread mode timeout ids
 

@@ -13,7 +13,7 @@ ghost use Rattle.ob_manager.specs.Waiting.{give_and_wait, have_room, lasts_until
 ghost use Rattle.ob_store.specs.Waiting.{are_waits_given};
 ghost use Rattle.ob_waits.specs.Form.{IsAfter};
 ghost use Rattle.ob_store.specs.Kept.{Yields};
-ghost use Rattle.ob_manager.specs.Waiting.{is_for_one_twice, is_misshapen, is_zero, lacks_synchronize, objects_of};
+ghost use Rattle.ob_manager.specs.Waiting.{is_for_one_twice, is_misshapen, is_zero, lacks_synchronize, may_repeat, objects_of};
 ghost use Rattle.ob_manager.specs.Waiting.{same_handle, wait, wait_on, wait_result};
 ghost use Rattle.ob_manager.specs.Checks.{caller};
 ghost use Rattle.ob_manager.specs.Steps.{Gives, GivesOrLacks};
@@ -26,7 +26,7 @@ use crate::timing::moment_of;
 use arrayvec::ArrayVec;
 use ob_body::Body;
 use ob_rights::{Fault, Kind, Rights, within};
-use ob_store::{LAST_MOMENT, Store};
+use ob_store::{LAST_MOMENT, Limits, Store};
 use ob_tables::Entry;
 use ob_waits::{MAXIMUM_WAIT_OBJECTS, Mode, WAIT_IO_COMPLETION, WAIT_TIMEOUT, WaitState};
 use pin_core::{Id, same_id};
@@ -137,11 +137,23 @@ fn has_handle_twice(handles: &[u32]) -> bool
     false
 }
 
-/// Whether a list of handles is empty, is longer than 64, or has a handle twice.
-fn is_misshapen(handles: &[u32]) -> bool
-    ensures value { result ≡ is_misshapen handles.now }
+/// Whether a handle may stand twice in a wait: in one for any, where the manager was made so.
+fn may_repeat(limits: Limits, mode: Mode) -> bool
+    ensures { result ≡ may_repeat limits mode }
 {
-    handles.is_empty() || handles.len() > MAXIMUM_WAIT_OBJECTS || has_handle_twice(handles)
+    match mode {
+        Mode::Any => limits.repeats,
+        Mode::All => false,
+    }
+}
+
+/// Whether a list of handles is empty, is longer than 64, or has a handle twice where none may be.
+fn is_misshapen(repeats: bool, handles: &[u32]) -> bool
+    ensures value { result ≡ is_misshapen repeats handles.now }
+{
+    handles.is_empty()
+        || handles.len() > MAXIMUM_WAIT_OBJECTS
+        || (has_handle_twice(handles) && !repeats)
 }
 
 /// Whether a handle wasn't granted the right to wait.
@@ -213,14 +225,15 @@ fn objects_rise<K: PinKeeper>(
 fn collect_any<K: PinKeeper>(
     store: &Store<K>,
     process: u32,
+    mode: Mode,
     handles: &[u32],
     ids: &mut ArrayVec<Id, 64>,
 ) -> Result<(), Fault>
     requires table { process < length store.now.state.tables }
-    ensures value { collected result ids.new ≡ listed store.now.state process handles.now }
+    ensures value { collected result ids.new ≡ listed store.now.state process mode handles.now }
     ensures refusal { IfErr result (λ fault. fault ≢ Fault.Memory) }
 {
-    if is_misshapen(handles) {
+    if is_misshapen(may_repeat(store.limits(), mode), handles) {
         return Err(Fault::Parameter);
     }
     ids.clear();
@@ -232,12 +245,13 @@ fn collect_any<K: PinKeeper>(
 fn collect<K: PinKeeper>(
     store: &Store<K>,
     process: u32,
+    mode: Mode,
     handles: &[u32],
     ids: &mut ArrayVec<Id, 64>,
 ) -> Result<(), Fault>
     requires table { process < length store.now.state.tables }
     requires empty { ids.old.items ≡ [] }
-    ensures value { collected result ids.new ≡ listed store.now.state process handles.now }
+    ensures value { collected result ids.new ≡ listed store.now.state process mode handles.now }
     ensures refusal { IfErr result (λ fault. fault ≢ Fault.Memory) }
 {
     if handles.is_empty() || handles.len() > MAXIMUM_WAIT_OBJECTS {
@@ -246,7 +260,7 @@ fn collect<K: PinKeeper>(
     if objects_rise(store, process, handles, ids) {
         return Ok(());
     }
-    collect_any(store, process, handles, ids)
+    collect_any(store, process, mode, handles, ids)
 }
 
 /// Whether an object stands in a list.
@@ -450,7 +464,7 @@ fn wait_for_some<K: PinKeeper>(
         ≡ true }
 {
     let mut ids = ArrayVec::new();
-    collect(store, process, handles, &mut ids)?;
+    collect(store, process, mode, handles, &mut ids)?;
     wait_on(store, thread, mode, timeout, ids.as_slice())
 }
 

@@ -12,7 +12,6 @@ pub record AreInRange (slots processes threads handles waits max_pins max_gen ma
   pub max_gen_in_range : (1 ≤ max_gen) × (max_gen ≤ 4294967295)
   pub max_recursion_in_range : (1 ≤ max_recursion) × (max_recursion ≤ 2147483647)
 
--- the last number of limits in a savestate: the greatest recursion, with the highest of 32 bits set where numbers come
--- back
-abbrev pub recursion_number : ℕ → Bool → ℕ
-recursion_number max_recursion reuse = if reuse then max_recursion + 2147483648 else max_recursion
+-- a number of limits in a savestate, with the highest of 32 bits set where something is so
+abbrev pub flagged : ℕ → Bool → ℕ
+flagged number flag = if flag then number + 2147483648 else number

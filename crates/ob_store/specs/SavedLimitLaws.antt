@@ -1,7 +1,7 @@
 -- Limits are read as they were written, and nothing else is.
 use Rattle.std.proofs.Common.{◌≡◌, ℕ, ◌+◌, ◌<◌, ◌≤◌, ◌^◌, ◌&&◌, leb, Bool, true, false, Some, None, refl, sym, ap, ◌∙◌, subst, arith}
 use Rattle.std.proofs.lemmas.Bool.Decides.{nat_tests}
-use Rattle.ob_store.specs.Limits.{AreInRange, recursion_number}
+use Rattle.ob_store.specs.Limits.{AreInRange, flagged}
 use Rattle.std.specs.Int.{w32, to_le_bytes}
 use Rattle.std.proofs.Math.Bridge.{le_prop}
 use Rattle.std.proofs.lemmas.Bool.{and_from, le-leb}
@@ -10,7 +10,7 @@ use Rattle.ob_codec.specs.Codecs.{both_codec, some_codec, u32_codec}
 use Rattle.ob_codec.specs.Laws.{IsCodec}
 use Rattle.ob_codec.specs.Spelling.{Any, BothFit, both}
 use Rattle.ob_store.specs.declared.limits.Limits.{Limits}
-use Rattle.ob_store.specs.SavedLimits.{InRange, LimitNumbers, are_in_range, in_range, is_up_to, limits_at, limits_of, limits_text, limits_where, limits_with, numbers_at, numbers_of, recursion_in, reuse_in}
+use Rattle.ob_store.specs.SavedLimits.{InRange, LimitNumbers, are_in_range, in_range, is_up_to, limits_at, limits_of, limits_text, limits_where, limits_with, flag_in, number_in, numbers_at, numbers_of}
 
 to_up : (most n : ℕ) → (1 ≤ n) × (n ≤ most) → is_up_to most n ≡ true
 to_up most n r = and_from (leb 1 n) (leb n most) (le-leb 1 n r.0) (le-leb n most r.1)
@@ -24,9 +24,9 @@ range_in n r =
     (to_up 16384 n.1.1.1.0 r.handles_in_range))
     (and_from (is_up_to 4294967295 n.1.1.1.1.0 && is_up_to 1073741823 n.1.1.1.1.1.0) _
     (and_from (is_up_to 4294967295 n.1.1.1.1.0) _ (to_up 4294967295 n.1.1.1.1.0 r.waits_in_range)
-    (to_up 1073741823 n.1.1.1.1.1.0 r.max_pins_in_range))
+    (to_up 1073741823 (number_in n.1.1.1.1.1.0) r.max_pins_in_range))
     (and_from (is_up_to 4294967295 n.1.1.1.1.1.1.0) _ (to_up 4294967295 n.1.1.1.1.1.1.0 r.max_gen_in_range)
-    (to_up 2147483647 (recursion_in n.1.1.1.1.1.1.1) r.max_recursion_in_range))))
+    (to_up 2147483647 (number_in n.1.1.1.1.1.1.1) r.max_recursion_in_range))))
 
 -- a range holds in one way
 same_range : {slots processes threads handles waits max_pins max_gen max_recursion : ℕ}
@@ -60,55 +60,51 @@ same_range r s = λ i. record {
   );
 }
 
--- the last number says both
-recursion_is : (n : ℕ) (reuse : Bool) → n ≤ 2147483647 → recursion_in (recursion_number n reuse) ≡ n
-recursion_is n true le = omega (arith, le)
-recursion_is n false le = omega (arith, le)
+-- such a number says both
+number_is : (n : ℕ) (flag : Bool) → n ≤ 2147483647 → number_in (flagged n flag) ≡ n
+number_is n true le = omega (arith, le)
+number_is n false le = omega (arith, le)
 
-reuse_is : (n : ℕ) (reuse : Bool) → n ≤ 2147483647 → reuse_in (recursion_number n reuse) ≡ reuse
-reuse_is n true le = le-leb 2147483648 (n + 2147483648) (omega arith)
-reuse_is n false le = grind (arith, nat_tests)
+flag_is : (n : ℕ) (flag : Bool) → n ≤ 2147483647 → flag_in (flagged n flag) ≡ flag
+flag_is n true le = le-leb 2147483648 (n + 2147483648) (omega arith)
+flag_is n false le = grind (arith, nat_tests)
 
-last_number : (n : ℕ) → n < 2 ^ 32 → recursion_number (recursion_in n) (reuse_in n) ≡ n
-last_number n lt = grind (arith, nat_tests)
-
-pub last_is : (l : Limits) (n : ℕ) → n < 2 ^ 32 → ◌≡◌ {A = LimitNumbers} (
-  l.slots,
-  (
-    l.processes,
-    (l.threads, (l.handles, (l.waits, (l.max_pins, (l.max_gen, recursion_number (recursion_in n) (reuse_in n)))))),
-  ),
-) (l.slots, (l.processes, (l.threads, (l.handles, (l.waits, (l.max_pins, (l.max_gen, n)))))))
-last_is l n lt = ap {B = LimitNumbers} (λ k.
-    (l.slots, (l.processes, (l.threads, (l.handles, (l.waits, (l.max_pins, (l.max_gen, k)))))))) (last_number n lt)
+pub both_said : (n : ℕ) → n < 2 ^ 32 → flagged (number_in n) (flag_in n) ≡ n
+both_said n lt = grind (arith, nat_tests)
 
 -- limits are those of their numbers
 pub limits_back : (l : Limits) → limits_of (numbers_of l) ≡ Some l
 limits_back l = by (are_in_range (numbers_of l)) refl (range_in (numbers_of l) range)
   where
-    same : recursion_in (recursion_number l.max_recursion l.reuse) ≡ l.max_recursion
-    same = recursion_is l.max_recursion l.reuse l.in_range.max_recursion_in_range.1
+    pins_low : l.max_pins ≤ 2147483647
+    pins_low = let range = l.in_range.max_pins_in_range.1 in omega (arith, range)
 
-    reuse : reuse_in (recursion_number l.max_recursion l.reuse) ≡ l.reuse
-    reuse = reuse_is l.max_recursion l.reuse l.in_range.max_recursion_in_range.1
+    pins : number_in (flagged l.max_pins l.repeats) ≡ l.max_pins
+    pins = number_is l.max_pins l.repeats pins_low
+
+    recursion : number_in (flagged l.max_recursion l.reuse) ≡ l.max_recursion
+    recursion = number_is l.max_recursion l.reuse l.in_range.max_recursion_in_range.1
 
     range : InRange (numbers_of l)
-    range = rw same l.in_range
+    range = rw (pins, recursion) l.in_range
 
-    with : (m : ℕ) (b : Bool) → l.max_recursion ≡ m → l.reuse ≡ b
-        → (r : AreInRange l.slots l.processes l.threads l.handles l.waits l.max_pins l.max_gen m)
-        → Some (record l { max_recursion = m; reuse = b; in_range = r }) ≡ Some l
-    with m b e d = subst (λ (m : ℕ).
-        (r : AreInRange l.slots l.processes l.threads l.handles l.waits l.max_pins l.max_gen m)
-        → Some (record l { max_recursion = m; reuse = b; in_range = r }) ≡ Some l) e
-        (subst (λ (b : Bool).
-        (r : AreInRange l.slots l.processes l.threads l.handles l.waits l.max_pins l.max_gen l.max_recursion)
-        → Some (record l { reuse = b; in_range = r }) ≡ Some l) d
-        (λ r. ap (λ (r : AreInRange l.slots l.processes l.threads l.handles l.waits l.max_pins l.max_gen
-        l.max_recursion). Some (record l { in_range = r })) (same_range r l.in_range)))
+    -- the limits that are read, from those that were written: what stands in a number with a flag is as it was
+    Read : (pins recursion : ℕ) (repeats reuse : Bool) → Type 0
+    Read pins recursion repeats reuse =
+        (r : AreInRange l.slots l.processes l.threads l.handles l.waits pins l.max_gen recursion)
+        → Some (record l { max_pins = pins; max_recursion = recursion; repeats = repeats; reuse = reuse; in_range = r })
+        ≡ Some l
+
+    read : Read l.max_pins l.max_recursion l.repeats l.reuse
+    read r = ap (λ (r : AreInRange l.slots l.processes l.threads l.handles l.waits l.max_pins l.max_gen
+        l.max_recursion). Some (record l { in_range = r })) (same_range r l.in_range)
 
     by : (b : Bool) (e : are_in_range (numbers_of l) ≡ b) → b ≡ true → limits_where (numbers_of l) b e ≡ Some l
-    by true e is = with _ _ (sym same) (sym reuse) (in_range (numbers_of l) e)
+    by true e is = subst (λ (n : ℕ). Read n _ _ _) (sym pins) (subst (λ (n : ℕ). Read _ n _ _) (sym recursion)
+        (subst (λ (b : Bool). Read _ _ b _) (sym (flag_is l.max_pins l.repeats pins_low))
+        (subst (λ (b : Bool). Read _ _ _ b)
+        (sym (flag_is l.max_recursion l.reuse l.in_range.max_recursion_in_range.1)) read)))
+        (in_range (numbers_of l) e)
     by false e is = absurd (cc is)
 
 pub limits_are : (l : Limits) (n : LimitNumbers) → numbers_of l ≡ n → limits_of n ≡ Some l
@@ -135,9 +131,9 @@ numbers_codec = both_codec u32_codec (both_codec u32_codec (both_codec u32_codec
 low : (most n : ℕ) → most ≤ 4294967295 → (1 ≤ n) × (n ≤ most) → n < 2 ^ 32
 low most n le r = omega (arith, le, r.1)
 
-last_low : (n : ℕ) (reuse : Bool) → n ≤ 2147483647 → recursion_number n reuse < 2 ^ 32
-last_low n true le = omega (arith, le)
-last_low n false le = omega (arith, le)
+flagged_low : (n : ℕ) (flag : Bool) → n ≤ 2147483647 → flagged n flag < 2 ^ 32
+flagged_low n true le = omega (arith, le)
+flagged_low n false le = omega (arith, le)
 
 there : (l : Limits) → Any l → (limits_of (numbers_of l) ≡ Some l) × NumbersFit (numbers_of l)
 there l any = (
@@ -153,10 +149,11 @@ there l any = (
           (
             low 4294967295 l.waits (omega arith) l.in_range.waits_in_range,
             (
-              low 1073741823 l.max_pins (omega arith) l.in_range.max_pins_in_range,
+              flagged_low l.max_pins l.repeats
+              (let range = l.in_range.max_pins_in_range.1 in omega (arith, range)),
               (
                 low 4294967295 l.max_gen (omega arith) l.in_range.max_gen_in_range,
-                last_low l.max_recursion l.reuse l.in_range.max_recursion_in_range.1,
+                flagged_low l.max_recursion l.reuse l.in_range.max_recursion_in_range.1,
               ),
             ),
           ),
@@ -170,9 +167,13 @@ back : (n : LimitNumbers) (l : Limits) → NumbersFit n → limits_of n ≡ Some
 back n l fits e = (by (are_in_range n) refl e, tt)
   where
     by : (b : Bool) (e : are_in_range n ≡ b) → limits_where n b e ≡ Some l → numbers_of l ≡ n
-    by true e is = sym (ap numbers_of (same_Some (limits_with n (in_range n e)) l is))
-        ∙ ap (λ k. (n.0, (n.1.0, (n.1.1.0, (n.1.1.1.0, (n.1.1.1.1.0, (n.1.1.1.1.1.0, (n.1.1.1.1.1.1.0, k))))))))
-        (last_number n.1.1.1.1.1.1.1 fits.1.1.1.1.1.1.1)
+    by true e is =
+        let pins = both_said n.1.1.1.1.1.0 fits.1.1.1.1.1.0 in
+        let last = both_said n.1.1.1.1.1.1.1 fits.1.1.1.1.1.1.1 in
+        sym (ap numbers_of (same_Some (limits_with n (in_range n e)) l is))
+        ∙ ap (λ k. (n.0, (n.1.0, (n.1.1.0, (n.1.1.1.0, (n.1.1.1.1.0, (k, (n.1.1.1.1.1.1.0,
+        flagged (number_in n.1.1.1.1.1.1.1) (flag_in n.1.1.1.1.1.1.1))))))))) pins
+        ∙ ap (λ k. (n.0, (n.1.0, (n.1.1.0, (n.1.1.1.0, (n.1.1.1.1.0, (n.1.1.1.1.1.0, (n.1.1.1.1.1.1.0, k)))))))) last
     by false e is = absurd cc
 
 pub limits_codec : IsCodec limits_text limits_at Any

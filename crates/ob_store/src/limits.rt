@@ -1,24 +1,20 @@
 ghost use Rattle.std.specs.Prelude.{◌≡◌, ◌≤◌, ◌↔◌, IsOk, IfErr, IfOk, false, true};
-ghost use Rattle.ob_store.specs.Limits.{AreInRange, recursion_number};
+ghost use Rattle.ob_store.specs.Limits.{AreInRange, flagged};
 
 use ob_codec::{Cursor, ReadFault, Spelled, TextFault};
 use ob_rights::Fault;
 use pin_core::Shape;
 use std::alloc::{AllocError, Global};
 
-/// What is added to the last number of a savestate's limits where numbers come back: one more than it can be.
-const REUSE: u32 = 2_147_483_648;
+/// What is added to a number of a savestate's limits where something is so: more than the number can be.
+const FLAG: u32 = 2_147_483_648;
 
-/// The last number of limits in a savestate.
-fn recursion_number(max_recursion: u32, reuse: bool) -> u32
-    requires { max_recursion ≤ 2147483647 }
-    ensures { result ≡ recursion_number max_recursion reuse }
+/// A number of limits in a savestate, which says as well whether something is so.
+fn flagged(number: u32, flag: bool) -> u32
+    requires { number ≤ 2147483647 }
+    ensures { result ≡ flagged number flag }
 {
-    if reuse {
-        max_recursion + REUSE
-    } else {
-        max_recursion
-    }
+    if flag { number + FLAG } else { number }
 }
 
 /// How much a manager may hold. The ranges and the defaults are this project's own (*profile*).
@@ -46,6 +42,12 @@ pub struct Limits {
     /// gives process and thread Ids again, and a wait is called by the number of its thread. By default each number is
     /// given once. [`with_reuse`](Limits::with_reuse) sets it.
     pub reuse: bool,
+    /// Whether a handle may stand twice in a wait for any, as Windows takes it: the first place that is signaled is told.
+    /// By default that is refused with 87, as the page of [WaitForMultipleObjects] has it, and in a wait for all always.
+    /// [`with_repeats`](Limits::with_repeats) sets it.
+    ///
+    /// [WaitForMultipleObjects]: https://learn.microsoft.com/windows/win32/api/synchapi/nf-synchapi-waitformultipleobjects
+    pub repeats: bool,
     pub ghost in_range: { AreInRange slots processes threads handles waits max_pins max_gen max_recursion },
 }
 
@@ -72,6 +74,7 @@ impl Limits {
         ensures max_gen { IfOk result (λ limits. limits.max_gen ≡ max_gen) }
         ensures max_recursion { IfOk result (λ limits. limits.max_recursion ≡ max_recursion) }
         ensures once { IfOk result (λ limits. limits.reuse ≡ false) }
+        ensures apart { IfOk result (λ limits. limits.repeats ≡ false) }
         ensures refused { IfErr result (λ fault. fault ≡ Fault.Parameter) }
     {
         if slots < 1
@@ -104,6 +107,7 @@ impl Limits {
             max_gen,
             max_recursion,
             reuse: false,
+            repeats: false,
         })
     }
 
@@ -112,6 +116,14 @@ impl Limits {
         ensures { result ≡ record self { reuse = reuse } }
     {
         self.reuse = reuse;
+        self
+    }
+
+    /// The same limits, for a manager that takes a handle twice in a wait for any, or refuses it.
+    pub fn with_repeats(mut self, repeats: bool) -> Limits
+        ensures { result ≡ record self { repeats = repeats } }
+    {
+        self.repeats = repeats;
         self
     }
 }
@@ -140,8 +152,8 @@ impl Limits {
     }
 }
 
-/// Eight numbers of four bytes, in the order of the fields, to the last of which 2,147,483,648 is added where numbers
-/// come back; [`TextFault::Value`] where one is out of its range.
+/// Eight numbers of four bytes, in the order of the fields. 2,147,483,648 is added to the last where numbers come back,
+/// and to that of the pins where a handle may stand twice; [`TextFault::Value`] where one is out of its range.
 impl Spelled for Limits {
     ghost use Rattle.ob_codec.specs.Spelling.{Any};
     ghost use Rattle.ob_store.specs.SavedLimits.{limits_at, limits_text};
@@ -159,9 +171,9 @@ impl Spelled for Limits {
         self.threads.write(out)?;
         self.handles.write(out)?;
         self.waits.write(out)?;
-        self.max_pins.write(out)?;
+        flagged(self.max_pins, self.repeats).write(out)?;
         self.max_gen.write(out)?;
-        recursion_number(self.max_recursion, self.reuse).write(out)
+        flagged(self.max_recursion, self.reuse).write(out)
     }
 
     fn read(_alloc: Global, from: &mut Cursor<'_>) -> Result<Limits, ReadFault> {
@@ -170,7 +182,7 @@ impl Spelled for Limits {
         let threads = from.four()?;
         let handles = from.four()?;
         let waits = from.four()?;
-        let max_pins = from.four()?;
+        let pins = from.four()?;
         let max_gen = from.four()?;
         let last = from.four()?;
         match Limits::checked(
@@ -179,11 +191,11 @@ impl Spelled for Limits {
             threads,
             handles,
             waits,
-            max_pins,
+            pins % FLAG,
             max_gen,
-            last % REUSE,
+            last % FLAG,
         ) {
-            Ok(limits) => Ok(limits.with_reuse(last >= REUSE)),
+            Ok(limits) => Ok(limits.with_reuse(last >= FLAG).with_repeats(pins >= FLAG)),
             Err(_) => Err(ReadFault::Text(TextFault::Value)),
         }
     }
@@ -202,6 +214,7 @@ impl Default for Limits {
         ensures max_gen { result.max_gen ≡ 4294967295 }
         ensures max_recursion { result.max_recursion ≡ 2147483647 }
         ensures once { result.reuse ≡ false }
+        ensures apart { result.repeats ≡ false }
     {
         Limits {
             slots: 64,
@@ -213,6 +226,7 @@ impl Default for Limits {
             max_gen: 4_294_967_295,
             max_recursion: 2_147_483_647,
             reuse: false,
+            repeats: false,
         }
     }
 }

@@ -24,10 +24,11 @@ new_manager limits t = record { state = opening limits; keeper = state_of (new_k
 abbrev pub new_owned : Limits → TableState → OwnedManager
 new_owned limits t = unrecorded (new_manager limits t) no_data
 
--- A place gets a new manager with these limits, whose numbers come back or not, over words of its own, and 0 is told; or
--- it stays as it is, and 87 is told where a limit is out of its range, else 8, for want of memory.
-pub data Opens (reuse : Bool) (b : CLimits) (status : ℕ) (before after : Option OwnedManager) : Type 0 where
-  opens : (limits : Limits) (t : TableState) → AreAs b limits → limits.reuse ≡ reuse → status ≡ 0
-      → after ≡ Some (new_owned limits t) → Opens reuse b status before after
-  outside : (AreAllowed b → ⊥) → status ≡ 87 → after ≡ before → Opens reuse b status before after
-  lacks : AreAllowed b → status ≡ 8 → after ≡ before → Opens reuse b status before after
+-- A place gets a new manager with these limits, whose numbers come back or not, and which takes a handle twice in a wait
+-- for any or not, over words of its own, and 0 is told; or it stays as it is, and 87 is told where a limit is out of its
+-- range, else 8, for want of memory.
+pub data Opens (reuse repeats : Bool) (b : CLimits) (status : ℕ) (before after : Option OwnedManager) : Type 0 where
+  opens : (limits : Limits) (t : TableState) → AreAs b limits → limits.reuse ≡ reuse → limits.repeats ≡ repeats
+      → status ≡ 0 → after ≡ Some (new_owned limits t) → Opens reuse repeats b status before after
+  outside : (AreAllowed b → ⊥) → status ≡ 87 → after ≡ before → Opens reuse repeats b status before after
+  lacks : AreAllowed b → status ≡ 8 → after ≡ before → Opens reuse repeats b status before after

@@ -18,28 +18,48 @@ use std::alloc::Global;
 /// A new manager, at a place of C's: 0, 87 where a limit is out of its range, or 8. What stood at the place isn't read.
 #[unsafe(no_mangle)]
 pub extern "C" fn om_new(alloc: Global, bounds: &CLimits, place: &mut ManagerOut) -> u32
-    ensures { Opens false bounds.now result place.old.value place.new.value }
+    ensures { Opens false false bounds.now result place.old.value place.new.value }
 {
-    opened(alloc, bounds, false, place)
+    opened(alloc, bounds, false, false, place)
 }
 
 /// The same, and the manager's numbers come back.
 #[unsafe(no_mangle)]
 pub extern "C" fn om_new_reusing(alloc: Global, bounds: &CLimits, place: &mut ManagerOut) -> u32
-    ensures { Opens true bounds.now result place.old.value place.new.value }
+    ensures { Opens true false bounds.now result place.old.value place.new.value }
 {
-    opened(alloc, bounds, true, place)
+    opened(alloc, bounds, true, false, place)
 }
 
-/// A new manager, whose numbers come back or not.
+/// The same, and the manager's numbers come back or not, and it takes a handle twice in a wait for any or not.
+#[unsafe(no_mangle)]
+pub extern "C" fn om_new_with(
+    alloc: Global,
+    bounds: &CLimits,
+    reuse: bool,
+    repeats: bool,
+    place: &mut ManagerOut,
+) -> u32
+    ensures { Opens reuse repeats bounds.now result place.old.value place.new.value }
+{
+    opened(alloc, bounds, reuse, repeats, place)
+}
+
+/// A new manager, with what it does beside.
 #[tactic(auto, using(crate::proofs::Opened::out_of_range, crate::proofs::Opened::no_memory))]
-fn opened(alloc: Global, bounds: &CLimits, reuse: bool, place: &mut ManagerOut) -> u32
-    ensures { Opens reuse bounds.now result place.old.value place.new.value }
+fn opened(
+    alloc: Global,
+    bounds: &CLimits,
+    reuse: bool,
+    repeats: bool,
+    place: &mut ManagerOut,
+) -> u32
+    ensures { Opens reuse repeats bounds.now result place.old.value place.new.value }
 {
     let Ok(limits) = limits_of(bounds) else {
         return code_of(Fault::Parameter);
     };
-    match held(alloc, limits.with_reuse(reuse)) {
+    match held(alloc, limits.with_reuse(reuse).with_repeats(repeats)) {
         Ok(held) => {
             *place = ManagerOut::of(held);
             SUCCESS

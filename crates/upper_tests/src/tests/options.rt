@@ -12,6 +12,8 @@ enum Due {
     Numbers([u32; 8], u32),
     /// The usual limits, of numbers that come back, and how many lanes.
     Reused(u32),
+    /// The usual limits, where a handle may stand twice.
+    Repeated,
     /// The usual limits with the lines that `--more` adds, and how many lanes.
     More(u32),
     /// The path of what is loaded, and that of what is saved.
@@ -110,6 +112,9 @@ const ROWS: &[(&[&str], Due)] = &[
     (&["--reuse=1"], Due::Bad(None)),
     (&["--reuse", "1"], Due::Bad(None)),
     (&["--reuse", "--load=a"], Due::Bad(None)),
+    // handles that stand twice
+    (&["--repeats"], Due::Repeated),
+    (&["--repeats", "--load=a"], Due::Bad(None)),
     // more lines
     (&["--more"], Due::More(0)),
     (&["--lanes=2", "--more"], Due::More(2)),
@@ -172,19 +177,19 @@ fn numbers_of(limits: &Limits) -> [u32; 8] {
 }
 
 /// Whether these options have these limits and lanes, and these switches are on.
-fn have(options: &Options, limits: [u32; 8], reuse: bool, more: bool, lanes: u32) -> bool {
+fn have(options: &Options, limits: [u32; 8], switches: [bool; 3], lanes: u32) -> bool {
     numbers_of(&options.limits) == limits
-        && options.limits.reuse == reuse
-        && options.more == more
+        && [options.limits.reuse, options.limits.repeats, options.more] == switches
         && options.lanes == lanes
 }
 
 /// Whether these options are due.
 fn are_read(options: &Options, due: Due) -> bool {
     match due {
-        Due::Numbers(limits, lanes) => have(options, limits, false, false, lanes),
-        Due::Reused(lanes) => have(options, USUAL, true, false, lanes),
-        Due::More(lanes) => have(options, USUAL, false, true, lanes),
+        Due::Numbers(limits, lanes) => have(options, limits, [false; 3], lanes),
+        Due::Reused(lanes) => have(options, USUAL, [true, false, false], lanes),
+        Due::Repeated => have(options, USUAL, [false, true, false], 0),
+        Due::More(lanes) => have(options, USUAL, [false, false, true], lanes),
         Due::Paths(load, save) => options.load.as_deref() == load
             && options.save.as_deref() == save,
         Due::Bad(_) => false,
@@ -232,6 +237,7 @@ const IN_HELP: &[&str] = &[
     "--max-recursion <NUMBER>", "1 to 2147483647, the default.",
     "--lanes <NUMBER>", "0 to 64, default 0.",
     "--reuse",
+    "--repeats",
     "--more",
 ];
 

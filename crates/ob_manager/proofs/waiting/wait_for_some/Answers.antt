@@ -7,7 +7,7 @@ pub wait_on-requires : goal.wait_on-requires
 wait_on-requires g c =
     let are : AreAsked c.args.store.now.state c.args.process c.as_slice.result.now =
     subst (λ (ids : List Id). AreAsked c.args.store.now.state c.args.process ids) (sym c.as_slice.ensures.value)
-    (asked c.args.store.now.state c.args.process c.args.handles.now c.collect.new.ids.items c.in_ok-collect.ensures.value)
+    (asked c.args.store.now.state c.args.process c.args.mode c.args.handles.now c.collect.new.ids.items c.in_ok-collect.ensures.value)
     in
     record {
       not_empty = λ all. are.not_empty;
