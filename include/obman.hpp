@@ -325,9 +325,9 @@ public:
     }
     ~manager() { om_free(m_); }
     // One whose numbers come back: a new process or thread has the least number that no live one has, and a wait is called by its thread.
-    static manager reusing(const om_limits &limits = default_limits) { return with(true, false, limits); }
+    static manager reusing(const om_limits &limits = default_limits) { return new_with(true, false, limits); }
     // One whose numbers come back or not, and which takes a handle twice in a wait for any or not.
-    static manager with(bool reuse, bool repeats, const om_limits &limits = default_limits) {
+    static manager new_with(bool reuse, bool repeats, const om_limits &limits = default_limits) {
         om_manager m{nullptr};
         std::uint32_t status = om_new_with(&limits, reuse, repeats, &m);
         if (status != OM_SUCCESS) {

@@ -200,7 +200,7 @@ static void names() {
 
 // A handle that stands twice in a wait for any.
 static void handles_repeat() {
-    obman::manager m = obman::manager::with(false, true);
+    obman::manager m = obman::manager::new_with(false, true);
     std::uint32_t thread = m.spawn(1).value().thread;
     om_opening event = m.create_event(thread, {}, {}, false, true).value();
     MUST(m.wait(thread, false, 0, {event.handle, event.handle}).value() == OM_WAIT_OBJECT_0);
