@@ -11,8 +11,8 @@ static FILE *begun(const char *path) {
     MUST(record != NULL && setvbuf(record, NULL, _IOFBF, 1 << 16) == 0);
     limits.slots = 128; /* for waits for 64 objects */
     om_free(manager);
-    MUST(om_new_reusing(&limits, &manager) == OM_SUCCESS && om_record(&manager, true) == OM_SUCCESS);
-    fprintf(record, "# obman --more --reuse --slots=%u --processes=%u --threads=%u", limits.slots, limits.processes, limits.threads);
+    MUST(om_new_with(&limits, true, true, &manager) == OM_SUCCESS && om_record(&manager, true) == OM_SUCCESS);
+    fprintf(record, "# obman --more --reuse --repeats --slots=%u --processes=%u --threads=%u", limits.slots, limits.processes, limits.threads);
     fprintf(record, " --handles=%u --waits=%u\n", limits.handles, limits.waits);
     return record;
 }

@@ -335,7 +335,7 @@ static void begin(void) {
     clock_begins_at = ((uint64_t)(real.tv_sec - monotonic.tv_sec) + 11644473600u) * 10000000u; /* 1601 to 1970 */
     clock_begins_at += (uint64_t)(real.tv_nsec / 100) - (uint64_t)(monotonic.tv_nsec / 100);
     clock_sleeps_until = NEVER;
-    must(om_new_reusing(&limits, &om) == OM_SUCCESS && om_advance(&om, now()) == OM_SUCCESS, "no manager");
+    must(om_new_with(&limits, true, true, &om) == OM_SUCCESS && om_advance(&om, now()) == OM_SUCCESS, "no manager");
     must(om_spawn(&om, SESSION, &host) == OM_SUCCESS && om_spawn(&om, SESSION, &member) == OM_SUCCESS, "no process");
     must(begin_process(member, &program) == OM_SUCCESS && begin_thread(program, member.thread, &me) == OM_SUCCESS, "no process");
     must(pthread_key_create(&adopted, adopted_ends) == 0 && pthread_setspecific(adopted, me) == 0, "no thread");

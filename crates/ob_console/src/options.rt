@@ -309,9 +309,11 @@ fn limits_of(matches: &ArgMatches<'_>) -> Result<Limits, OptionsFault> {
         given(matches, MAX_RECURSION, usual.max_recursion)?,
     );
     match limits {
-        Ok(limits) => Ok(limits
-            .with_reuse(matches.get_flag("reuse"))
-            .with_repeats(matches.get_flag("repeats"))),
+        Ok(limits) => Ok(
+            limits
+                .with_reuse(matches.get_flag("reuse"))
+                .with_repeats(matches.get_flag("repeats")),
+        ),
         Err(_) => Err(OptionsFault::BadLine),
     }
 }

@@ -150,7 +150,7 @@ there l any = (
             low 4294967295 l.waits (omega arith) l.in_range.waits_in_range,
             (
               flagged_low l.max_pins l.repeats
-              (let range = l.in_range.max_pins_in_range.1 in omega (arith, range)),
+                  (let range = l.in_range.max_pins_in_range.1 in omega (arith, range)),
               (
                 low 4294967295 l.max_gen (omega arith) l.in_range.max_gen_in_range,
                 flagged_low l.max_recursion l.reuse l.in_range.max_recursion_in_range.1,
@@ -171,8 +171,28 @@ back n l fits e = (by (are_in_range n) refl e, tt)
         let pins = both_said n.1.1.1.1.1.0 fits.1.1.1.1.1.0 in
         let last = both_said n.1.1.1.1.1.1.1 fits.1.1.1.1.1.1.1 in
         sym (ap numbers_of (same_Some (limits_with n (in_range n e)) l is))
-        ∙ ap (λ k. (n.0, (n.1.0, (n.1.1.0, (n.1.1.1.0, (n.1.1.1.1.0, (k, (n.1.1.1.1.1.1.0,
-        flagged (number_in n.1.1.1.1.1.1.1) (flag_in n.1.1.1.1.1.1.1))))))))) pins
+        ∙ ap (λ k. (
+          n.0,
+          (
+            n.1.0,
+            (
+              n.1.1.0,
+              (
+                n.1.1.1.0,
+                (
+                  n.1.1.1.1.0,
+                  (
+                    k,
+                    (
+                      n.1.1.1.1.1.1.0,
+                      flagged (number_in n.1.1.1.1.1.1.1) (flag_in n.1.1.1.1.1.1.1),
+                    ),
+                  ),
+                ),
+              ),
+            ),
+          ),
+        )) pins
         ∙ ap (λ k. (n.0, (n.1.0, (n.1.1.0, (n.1.1.1.0, (n.1.1.1.1.0, (n.1.1.1.1.1.0, (n.1.1.1.1.1.1.0, k)))))))) last
     by false e is = absurd cc
 
