@@ -22,7 +22,7 @@ range_in n r =
     (and_from (is_up_to 65536 n.1.1.0 && is_up_to 16384 n.1.1.1.0) _
     (and_from (is_up_to 65536 n.1.1.0) _ (to_up 65536 n.1.1.0 r.threads_in_range)
     (to_up 16384 n.1.1.1.0 r.handles_in_range))
-    (and_from (is_up_to 4294967295 n.1.1.1.1.0 && is_up_to 1073741823 n.1.1.1.1.1.0) _
+    (and_from (is_up_to 4294967295 n.1.1.1.1.0 && is_up_to 1073741823 (number_in n.1.1.1.1.1.0)) _
     (and_from (is_up_to 4294967295 n.1.1.1.1.0) _ (to_up 4294967295 n.1.1.1.1.0 r.waits_in_range)
     (to_up 1073741823 (number_in n.1.1.1.1.1.0) r.max_pins_in_range))
     (and_from (is_up_to 4294967295 n.1.1.1.1.1.1.0) _ (to_up 4294967295 n.1.1.1.1.1.1.0 r.max_gen_in_range)
@@ -88,23 +88,24 @@ limits_back l = by (are_in_range (numbers_of l)) refl (range_in (numbers_of l) r
     range : InRange (numbers_of l)
     range = rw (pins, recursion) l.in_range
 
-    -- the limits that are read, from those that were written: what stands in a number with a flag is as it was
-    Read : (pins recursion : ℕ) (repeats reuse : Bool) → Type 0
-    Read pins recursion repeats reuse =
-        (r : AreInRange l.slots l.processes l.threads l.handles l.waits pins l.max_gen recursion)
-        → Some (record l { max_pins = pins; max_recursion = recursion; repeats = repeats; reuse = reuse; in_range = r })
-        ≡ Some l
+    -- limits that are read, where each number with a flag is as it was written
+    Read : (p m : ℕ) (a b : Bool) → Type 0
+    Read p m a b = (r : AreInRange l.slots l.processes l.threads l.handles l.waits p l.max_gen m)
+        → Some (record l { max_pins = p; max_recursion = m; repeats = a; reuse = b; in_range = r }) ≡ Some l
 
-    read : Read l.max_pins l.max_recursion l.repeats l.reuse
-    read r = ap (λ (r : AreInRange l.slots l.processes l.threads l.handles l.waits l.max_pins l.max_gen
+    same : Read l.max_pins l.max_recursion l.repeats l.reuse
+    same r = ap (λ (r : AreInRange l.slots l.processes l.threads l.handles l.waits l.max_pins l.max_gen
         l.max_recursion). Some (record l { in_range = r })) (same_range r l.in_range)
 
+    read : (p m : ℕ) (a b : Bool) → l.max_pins ≡ p → l.max_recursion ≡ m → l.repeats ≡ a → l.reuse ≡ b → Read p m a b
+    read p m a b of_p of_m of_a of_b = subst (λ (p : ℕ). Read p m a b) of_p
+        (subst (λ (m : ℕ). Read l.max_pins m a b) of_m
+        (subst (λ (a : Bool). Read l.max_pins l.max_recursion a b) of_a
+        (subst (λ (b : Bool). Read l.max_pins l.max_recursion l.repeats b) of_b same)))
+
     by : (b : Bool) (e : are_in_range (numbers_of l) ≡ b) → b ≡ true → limits_where (numbers_of l) b e ≡ Some l
-    by true e is = subst (λ (n : ℕ). Read n _ _ _) (sym pins) (subst (λ (n : ℕ). Read _ n _ _) (sym recursion)
-        (subst (λ (b : Bool). Read _ _ b _) (sym (flag_is l.max_pins l.repeats pins_low))
-        (subst (λ (b : Bool). Read _ _ _ b)
-        (sym (flag_is l.max_recursion l.reuse l.in_range.max_recursion_in_range.1)) read)))
-        (in_range (numbers_of l) e)
+    by true e is = read _ _ _ _ (sym pins) (sym recursion) (sym (flag_is l.max_pins l.repeats pins_low))
+        (sym (flag_is l.max_recursion l.reuse l.in_range.max_recursion_in_range.1)) (in_range (numbers_of l) e)
     by false e is = absurd (cc is)
 
 pub limits_are : (l : Limits) (n : LimitNumbers) → numbers_of l ≡ n → limits_of n ≡ Some l
