@@ -6,7 +6,7 @@
 #include <stdlib.h>
 #include <string.h>
 
-enum { NUMBERS = 0x1000, GRAPHICS = 0x2000 /* the numbers of win32u, of windows, are from the one to the other */ };
+enum { GRAPHICS = 0x2000 /* the numbers of win32u, of windows, are from CALLS to that */ };
 
 uint64_t calls_count;
 bool tells_calls, has_set_registers;
@@ -24,11 +24,8 @@ static const struct served {
 #undef CALL
 };
 
-static struct {
-    char name[64];
-    const struct served *served;
-    bool is_told; /* that it isn't served */
-} numbers[NUMBERS];
+system_call system_calls[CALLS];
+static const struct served *served_by[CALLS]; /* by number, or NULL */
 
 static uint64_t stack;    /* of the thread whose call is served, as it made the call */
 static jmp_buf no_memory; /* where a call ends that was passed a bad pointer */
@@ -50,17 +47,25 @@ void read_numbers(void) {
         const char *name = bytes_at(in->ntdll + get(names + 4 * i, 4), 1);
         uint64_t code = in->ntdll + get(functions + 4 * get(ordinals + 2 * i, 2), 4);
         const uint8_t *bytes = bytes_if(code, 8);
-        if (bytes == NULL || memcmp(bytes, "\x4C\x8B\xD1\xB8", 4) != 0 || strncmp(name, "Zw", 2) == 0) {
+        bool is_alias = strncmp(name, "Zw", 2) == 0 || strncmp(name, "Rtl", 3) == 0;
+        if (bytes == NULL || memcmp(bytes, "\x4C\x8B\xD1\xB8", 4) != 0 || is_alias) {
             continue;
         }
         uint64_t number = get(code + 4, 4);
-        for (size_t k = 0; number < NUMBERS && k < sizeof all / sizeof *all; k++) {
-            if (strcmp(all[k].name, name) == 0) {
-                numbers[number].served = &all[k];
-            }
+        if (number < CALLS) {
+            snprintf(system_calls[number].name, sizeof system_calls[number].name, "%s", name);
         }
-        if (number < NUMBERS) {
-            snprintf(numbers[number].name, sizeof numbers[number].name, "%s", name);
+    }
+    find_served();
+}
+
+/* Who serves each call, by its name. */
+void find_served(void) {
+    for (size_t number = 0; number < CALLS; number++) {
+        for (size_t k = 0; system_calls[number].name[0] != 0 && k < sizeof all / sizeof *all; k++) {
+            if (strcmp(all[k].name, system_calls[number].name) == 0) {
+                served_by[number] = &all[k];
+            }
         }
     }
 }
@@ -73,20 +78,21 @@ uint64_t arg(int i) {
 
 static uint32_t serve_number(uint64_t number) {
     uint64_t first = arg(0);
-    if (NUMBERS <= number && number < GRAPHICS) {
+    if (CALLS <= number && number < GRAPHICS) {
         return STATUS_SUCCESS; /* there are no windows: each answers 0 */
     }
-    if (number >= NUMBERS || numbers[number].name[0] == 0) {
+    system_call *call = number < CALLS ? &system_calls[number] : NULL;
+    if (call == NULL || call->name[0] == 0) {
         return 0xC000001Cu; /* STATUS_INVALID_SYSTEM_SERVICE */
     }
-    bool is_served = numbers[number].served != NULL;
-    if (!is_served && !numbers[number].is_told) {
-        fprintf(stderr, "nt: %s isn't served\n", numbers[number].name);
-        numbers[number].is_told = true;
+    bool is_served = served_by[number] != NULL;
+    if (!is_served && !call->is_told) {
+        fprintf(stderr, "nt: %s isn't served\n", call->name);
+        call->is_told = true;
     }
-    uint32_t by = current->number, status = is_served ? numbers[number].served->by() : STATUS_NOT_IMPLEMENTED;
+    uint32_t by = current->number, status = is_served ? served_by[number]->by() : STATUS_NOT_IMPLEMENTED;
     if (tells_calls) {
-        fprintf(stderr, "t%u %s %llx: %x\n", by, numbers[number].name, (unsigned long long)first, status);
+        fprintf(stderr, "t%u %s %llx: %x\n", by, call->name, (unsigned long long)first, status);
     }
     return status;
 }

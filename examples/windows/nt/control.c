@@ -6,9 +6,9 @@
 
 /* What is kept at the caller's own thread or process, which the host has a handle to. */
 static uint32_t kept_own(const om_opening *own, kept **found) {
-    om_handle_info info;
+    om_handle_info info = {0};
     uint32_t status = om_query_handle(&om, host.process, own->handle, &info);
-    *found = (kept *)(uintptr_t)info.data;
+    *found = kept_at(info.data);
     return om_nt_status(status);
 }
 
@@ -99,7 +99,7 @@ uint32_t NtOpenProcess(void) {
 
 /* Signals what stands for a thread or process, which ends. */
 static void over(const om_opening *own, uint32_t code, int32_t priority) {
-    kept *k = (kept *)(uintptr_t)om_object_data(&om, own->object.slot, own->object.generation);
+    kept *k = kept_at(om_object_data(&om, own->object.slot, own->object.generation));
     k->has_ended = true;
     k->code = code;
     k->priority = priority;
@@ -134,7 +134,7 @@ static void drop(thread *t, uint32_t code) {
 }
 
 uint32_t exit_code;
-static bool has_first_ended;
+bool has_first_ended;
 
 static uint32_t live_threads(const process *p) {
     uint32_t count = 0;

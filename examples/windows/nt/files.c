@@ -28,13 +28,15 @@ typedef struct place {
     char last[ONE_MOST];
 } place;
 
+char drive_folder[NT_NAME_MOST];
 static int drive = -1;
 
 void set_drive(const char *folder) {
     drive = open(folder, O_PATH | O_DIRECTORY | O_CLOEXEC);
-    if (drive < 0) {
-        stop("%s: %s", folder, strerror(errno));
+    if (drive < 0 || strlen(folder) >= sizeof drive_folder) {
+        stop("%s: %s", folder, strerror(drive < 0 ? errno : ENAMETOOLONG));
     }
+    memmove(drive_folder, folder, strlen(folder) + 1);
 }
 
 /* ---- Paths ---- */
@@ -170,17 +172,34 @@ static uint32_t path_of(uint64_t attributes, char *path, size_t capacity) {
     return status;
 }
 
+/* What is at a path, opened in one of Linux' ways, or -1. */
+int open_path(const char *name, int how) {
+    place at;
+    if (place_of(name, &at) != STATUS_SUCCESS) {
+        return -1;
+    }
+    int file = openat(at.folder, at.last, how | O_NONBLOCK | O_CLOEXEC | (at.is_wines ? 0 : O_NOFOLLOW));
+    close(at.folder);
+    return file;
+}
+
 /* A program on the drive by its path, as of NT or from the drive on, opened; or -1. */
 int open_program(const char *name) {
     char path[NT_NAME_MOST + 16];
-    place at;
     snprintf(path, sizeof path, "%s%s", name[0] == '\\' ? "" : "\\??\\C:\\", name);
-    if (place_of(path, &at) != STATUS_SUCCESS) {
-        return -1;
+    return open_path(path, O_RDONLY);
+}
+
+/* Whether the path of what is open leads to it, and not to nothing or to another file of that name. */
+bool is_named(const kept *k) {
+    place at;
+    struct stat is, there;
+    if (k->name[0] == 0 || fstat(k->file, &is) != 0 || place_of(k->name, &at) != STATUS_SUCCESS) {
+        return false;
     }
-    int file = openat(at.folder, at.last, O_RDONLY | O_NONBLOCK | O_CLOEXEC | (at.is_wines ? 0 : O_NOFOLLOW));
+    bool is_found = fstatat(at.folder, at.last, &there, at.is_wines ? 0 : AT_SYMLINK_NOFOLLOW) == 0;
     close(at.folder);
-    return file;
+    return is_found && is.st_dev == there.st_dev && is.st_ino == there.st_ino;
 }
 
 /* A handle of a first process to one of the host's own standard files. */
@@ -571,16 +590,29 @@ static uint64_t put_entry(uint64_t to, const char *name, const struct stat *is) 
     return size;
 }
 
-/* The entries of a directory from the first one on, of those of a form: that of the first call counts for all. */
+/* Reads the names of a directory's entries of a form: that of the first call counts for all. */
 static bool begin_entries(kept *k, const char *form) {
-    if (k->entries == NULL) {
-        int again = openat(k->file, ".", O_RDONLY | O_DIRECTORY | O_CLOEXEC);
-        if (again < 0 || (k->entries = fdopendir(again)) == NULL) {
-            return false;
-        }
+    int again = openat(k->file, ".", O_RDONLY | O_DIRECTORY | O_CLOEXEC);
+    DIR *all = again < 0 ? NULL : fdopendir(again);
+    if (all == NULL) {
+        return false;
+    }
+    if (k->form[0] == 0) {
         snprintf(k->form, sizeof k->form, "%s", form[0] == 0 ? "*" : form);
     }
-    rewinddir(k->entries);
+    k->entries_size = k->next_entry = 0;
+    for (struct dirent *one; (one = readdir(all)) != NULL;) {
+        size_t length = strlen(one->d_name) + 1;
+        if (matches(k->form, one->d_name)) {
+            k->entries = realloc(k->entries, k->entries_size + length);
+            if (k->entries == NULL) {
+                stop("no memory");
+            }
+            memcpy(k->entries + k->entries_size, one->d_name, length);
+            k->entries_size += length;
+        }
+    }
+    closedir(all);
     return true;
 }
 
@@ -597,18 +629,20 @@ uint32_t NtQueryDirectoryFile(void) {
     }
     text_of(arg(9), form, sizeof form);
     bytes_at(to, left);
-    bool is_first = k->entries == NULL || again;
+    bool is_first = k->form[0] == 0 || again;
     if (is_first && !begin_entries(k, form)) {
         return STATUS_ACCESS_DENIED;
     }
-    for (struct dirent *entry; left >= used + ENTRY_MOST && !(one && used > 0) && (entry = readdir(k->entries)) != NULL;) {
+    while (left >= used + ENTRY_MOST && !(one && used > 0) && k->next_entry < k->entries_size) {
         struct stat is;
-        if (matches(k->form, entry->d_name) && fstatat(k->file, entry->d_name, &is, AT_SYMLINK_NOFOLLOW) == 0) {
+        const char *entry = k->entries + k->next_entry;
+        k->next_entry += strlen(entry) + 1;
+        if (fstatat(k->file, entry, &is, AT_SYMLINK_NOFOLLOW) == 0) {
             if (used > 0) {
                 put(to + last, used - last, 4);
             }
             last = used;
-            used = (used + put_entry(to + used, entry->d_name, &is) + 7) / 8 * 8;
+            used = (used + put_entry(to + used, entry, &is) + 7) / 8 * 8;
         }
     }
     if (used == 0) {

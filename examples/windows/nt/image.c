@@ -115,11 +115,14 @@ uint64_t export_of(uint64_t base, const char *name) {
     return 0;
 }
 
-/* SECTION_IMAGE_INFORMATION of a file that begins so, at its base or, for 0, the one that it is made for. */
+/* SECTION_IMAGE_INFORMATION of a file that begins so, at its base or, for 0, the one that it is made for. All zeros where a guest has written over its head. */
 void image_information(const uint8_t *head, uint64_t base, uint64_t file_size, uint64_t out) {
+    memset(bytes_at(out, 0x40), 0, 0x40);
+    if (!is_program(head, HEAD)) {
+        return;
+    }
     const uint8_t *new_header = head + word(head + IMAGE_NEW_HEADER), *optional = new_header + IMAGE_OPTIONAL;
     bool is_wines = memcmp(head + 0x40, "Wine builtin DLL", 16) == 0;
-    memset(bytes_at(out, 0x40), 0, 0x40);
     put(out, (base != 0 ? base : longer(optional + OPTIONAL_BASE)) + word(optional + OPTIONAL_ENTRY), 8);
     put(out + 0x10, longer(optional + OPTIONAL_STACK_RESERVE), 8);
     put(out + 0x18, longer(optional + OPTIONAL_STACK_COMMIT), 8);

@@ -88,9 +88,10 @@ uint32_t NtGetCurrentProcessorNumber(void) {
     return 0;
 }
 
+uint64_t last_unique = 1000;
+
 uint32_t NtAllocateLocallyUniqueId(void) {
-    static uint64_t last = 1000;
-    put(arg(0), ++last, 8);
+    put(arg(0), ++last_unique, 8);
     return STATUS_SUCCESS;
 }
 

@@ -1,4 +1,5 @@
 /* nt [OPTION ..] PROGRAM [WORD ..]
+ * nt [OPTION ..] --load FILE
  *
  * Runs a 64-bit program for Windows, and those that it begins, to the status with which it ends. The folder in which it lies is their drive C:.
  *
@@ -8,6 +9,9 @@
  * --seeds A..B      runs it by each of these, and says how the runs end: whether alike, and which is the first that ends so
  * --most N          a run stops behind so many instructions, with the status 124; 2,000,000,000 with --seeds
  * --trace FILE      writes the calls that reach the library as a script for obman, each with its answer behind #
+ * --save FILE       writes all of it to a file, and ends, once
+ * --at N            N instructions have run, and those to the end of a block; a run that ends before writes none
+ * --load FILE       goes on from there, as if nothing had been; with --seed N or --seeds A..B by other turns from there on. The drive is to be as it was
  * --calls           says each system call with its first argument and its status on standard error
  * --figures         says at the end how many instructions and calls there were, and how much of the guests' time has passed
  *
@@ -28,7 +32,7 @@ om_member host;
 char wine_dlls[512], wine_nls[512];
 
 static struct {
-    const char *drive, *wine, *seed, *seeds, *most, *trace, *calls, *figures;
+    const char *drive, *wine, *seed, *seeds, *most, *trace, *save, *at, *load, *calls, *figures;
 } options;
 
 static FILE *trace;
@@ -60,7 +64,8 @@ void must(uint32_t status, const char *what) {
 
 _Noreturn static void refuse(void) {
     fputs("nt: bad command line\n"
-          "nt [--drive FOLDER] [--wine DIR] [--seed N | --seeds A..B] [--most N] [--trace FILE] [--calls] [--figures] PROGRAM [WORD ..]\n",
+          "nt [--drive FOLDER] [--wine DIR] [--seed N | --seeds A..B] [--most N | --save FILE --at N] [--trace FILE] [--calls] [--figures]\n"
+          "   PROGRAM [WORD ..] | --load FILE\n",
           stderr);
     exit(2);
 }
@@ -82,7 +87,8 @@ static int take_options(int count, char **words) {
         bool is_alone;
     } all[] = {
         {"--drive", &options.drive, false}, {"--wine", &options.wine, false}, {"--seed", &options.seed, false},   {"--seeds", &options.seeds, false},
-        {"--most", &options.most, false},   {"--trace", &options.trace, false}, {"--calls", &options.calls, true}, {"--figures", &options.figures, true},
+        {"--most", &options.most, false},   {"--trace", &options.trace, false}, {"--save", &options.save, false},   {"--at", &options.at, false},
+        {"--load", &options.load, false},   {"--calls", &options.calls, true},  {"--figures", &options.figures, true},
     };
     int at = 1;
     while (at < count && strncmp(words[at], "--", 2) == 0) {
@@ -96,7 +102,9 @@ static int take_options(int count, char **words) {
         *all[i].value = words[at + !all[i].is_alone];
         at += all[i].is_alone ? 1 : 2;
     }
-    if (at >= count || (options.seeds != NULL && (options.seed != NULL || options.trace != NULL))) {
+    bool begins = at < count, loads = options.load != NULL, saves = options.save != NULL;
+    bool is_many = options.seeds != NULL && (options.seed != NULL || options.trace != NULL || saves);
+    if (begins == loads || is_many || saves != (options.at != NULL) || (saves && options.most != NULL) || (loads && options.trace != NULL)) {
         refuse();
     }
     return at;
@@ -185,16 +193,32 @@ static void end_trace(void) {
     trace = NULL;
 }
 
-/* Runs the program to its end, for its status. */
-static int run_program(void) {
+static void begin_run(void) {
     om_limits limits = LIMITS;
-    must(om_new_reusing(&limits, &om), "a manager");
-    if (options.trace != NULL) {
-        begin_trace(&limits);
+    uint64_t own = seed;
+    if (options.load == NULL) {
+        must(om_new_reusing(&limits, &om), "a manager");
+        if (options.trace != NULL) {
+            begin_trace(&limits);
+        }
+        begin_first(program_path, command);
+    } else {
+        load(options.load);
+        seed = options.seed != NULL || options.seeds != NULL ? own : seed;
     }
-    begin_first(program_path, command);
+}
+
+/* Runs the program to its end, for its status, or to where it is saved. */
+static int run_program(void) {
+    begin_run();
     bool has_ended = run();
-    if (!has_ended) {
+    if (options.save != NULL) {
+        if (has_ended) {
+            fputs("nt: the program ended before, and nothing is saved\n", stderr);
+        } else {
+            save(options.save);
+        }
+    } else if (!has_ended) {
         tell_waits();
         fprintf(stderr, "nt: no end within %llu instructions\n", (unsigned long long)instructions_most);
     }
@@ -204,16 +228,21 @@ static int run_program(void) {
         fprintf(stderr, "nt: %llu instructions, %llu calls, %llu ms\n", all, calls, milliseconds);
     }
     end_all();
-    return has_ended ? (int)(exit_code & 0xFF) : NO_END;
+    return has_ended ? (int)(exit_code & 0xFF) : options.save != NULL ? 0 : NO_END;
 }
 
 int main(int count, char **words) {
     int at = take_options(count, words);
     seed = options.seed == NULL ? 1 : number_of(options.seed, "");
-    instructions_most = options.most != NULL ? number_of(options.most, "") : options.seeds != NULL ? SEEDS_MOST_INSTRUCTIONS : UINT64_MAX;
+    const char *most = options.at != NULL ? options.at : options.most;
+    instructions_most = most != NULL ? number_of(most, "") : options.seeds != NULL ? SEEDS_MOST_INSTRUCTIONS : UINT64_MAX;
     tells_calls = options.calls != NULL;
     find_wine();
-    take_words(count - at, words + at);
+    if (options.load == NULL) {
+        take_words(count - at, words + at);
+    } else if (options.drive != NULL) {
+        set_drive(options.drive);
+    }
     if (options.seeds == NULL) {
         return run_program();
     }

@@ -3,9 +3,11 @@
 #define _DEFAULT_SOURCE
 #include "nt.h"
 
+#include <fcntl.h>
 #include <stdlib.h>
 #include <string.h>
 #include <sys/mman.h>
+#include <unistd.h>
 
 /* Below 2 GiB, where blocks of threads and processes go, and above. */
 static const struct {
@@ -132,7 +134,7 @@ static bool has_room(void) {
 
 /* Memory from now on, of zeros, or NULL where some of it was there before or there is no room for it. */
 void *map_at(uint64_t address, uint64_t size, uint32_t protect, uint32_t type) {
-    region made = {.address = address, .size = whole_pages(size), .protect = protect, .type = type, .is_committed = true};
+    region made = {.address = address, .size = whole_pages(size), .protect = protect, .type = type, .is_committed = true, .file = -1};
     uint32_t i = place_of(address);
     bool is_free = size != 0 && size <= MEMORY_MOST && address % PAGE == 0 && address < UINT64_MAX / 2 &&
                    (i == 0 || address - in->regions[i - 1].address >= in->regions[i - 1].size) &&
@@ -151,7 +153,9 @@ void *map_at(uint64_t address, uint64_t size, uint32_t protect, uint32_t type) {
 /* The region that begins at an address, outside of the arenas, has the bytes of a file of the host's from now on, which others may have too. */
 bool share_at(uint64_t address, int file, uint64_t offset) {
     region *r = region_at(address);
-    return mmap(r->bytes, r->size, PROT_READ | PROT_WRITE, MAP_SHARED | MAP_FIXED, file, (off_t)offset) != MAP_FAILED;
+    r->file = r->in_arena ? -1 : fcntl(file, F_DUPFD_CLOEXEC, 0);
+    r->offset = offset;
+    return r->file >= 0 && mmap(r->bytes, r->size, PROT_READ | PROT_WRITE, MAP_SHARED | MAP_FIXED, file, (off_t)offset) != MAP_FAILED;
 }
 
 /* The first gap of a size between two addresses, at multiples of 64 KiB, or 0. */
@@ -193,14 +197,36 @@ uint64_t map_anywhere(uint64_t size, uint64_t below, uint32_t protect, uint32_t 
     return address != 0 && map_at(address, size, protect, type) != NULL ? address : 0;
 }
 
+/* What was run there is read again, with the blocks that come from the page before. */
+static void forget_code(uint64_t address, uint64_t size) {
+    uc_ctl_remove_cache(in->engine, address, address + size);
+    address -= PAGE;
+    size += PAGE;
+    for (uint64_t i = 0; i < (size < BLOCKS ? size : BLOCKS); i++) {
+        block_length *b = size < BLOCKS ? length_at(in, address + i) : &in->lengths[i];
+        if (b->address - address < size) {
+            b->address = 0;
+        }
+    }
+}
+
+/* Bytes of a region outside of the arenas go. */
+static void unmap_bytes(region *r) {
+    munmap(r->bytes, r->size);
+    if (r->file >= 0) {
+        close(r->file);
+    }
+}
+
 void unmap(region *r) {
     if (r->in_arena) {
         madvise(r->bytes, r->size, MADV_DONTNEED);
     } else {
+        forget_code(r->address, r->size);
         if (uc_mem_unmap(in->engine, r->address, r->size) != UC_ERR_OK) {
             stop("memory at %llx stays", (unsigned long long)r->address);
         }
-        munmap(r->bytes, r->size);
+        unmap_bytes(r);
     }
     in->reserved -= r->size;
     reserved -= r->size;
@@ -212,7 +238,7 @@ void end_memory(process *of) {
     uc_close(of->engine);
     for (region *r = of->regions; r < of->regions + of->regions_count; r++) {
         if (!r->in_arena) {
-            munmap(r->bytes, r->size);
+            unmap_bytes(r);
         }
     }
     for (int i = 0; i < ARENAS; i++) {
@@ -235,7 +261,7 @@ static void round_out(uint64_t *address, uint64_t *size) {
 
 /* From now on it may be run, and what was run there before is read again. */
 static void make_runnable(region *r, uint64_t address, uint64_t size, uint32_t protect) {
-    uc_ctl_remove_cache(in->engine, address, address + size);
+    forget_code(address, size);
     if (is_runnable(protect) && !is_runnable(r->protect) && uc_mem_protect(in->engine, address, size, UC_PROT_ALL) != UC_ERR_OK) {
         stop("memory at %llx can't be run", (unsigned long long)address);
     }
@@ -310,8 +336,11 @@ uint32_t NtAllocateVirtualMemory(void) {
     return told(status, arg(1), address, arg(3), size);
 }
 
-/* Whether a live thread has a region as its stack: that goes with the thread. */
-static bool is_stack(const region *r) {
+/* Whether a region isn't the guest's to free: what the host puts into each process, and the stack of a live thread, which goes with it. */
+static bool is_needed(const region *r) {
+    if (r->address == SHARED) {
+        return true;
+    }
     for (thread *t = threads; t < threads + threads_end; t++) {
         if (t->number != 0 && t->of == in && t->stack == r->address) {
             return true;
@@ -333,7 +362,7 @@ static uint32_t release(uint64_t *address, uint64_t *size, uint32_t type) {
             return STATUS_INVALID_PARAMETER;
         }
         *size = r->size;
-        if (!is_stack(r)) {
+        if (!is_needed(r)) {
             unmap(r);
         }
         return STATUS_SUCCESS;
@@ -420,7 +449,7 @@ uint32_t NtFlushInstructionCache(void) {
     uint64_t address = arg(1), size = arg(2);
     if (size != 0 && bytes_if(address, size) != NULL) {
         round_out(&address, &size);
-        uc_ctl_remove_cache(in->engine, address, address + size);
+        forget_code(address, size);
     }
     return STATUS_SUCCESS;
 }

@@ -9,7 +9,8 @@
  * threads.c  turns, the clock, the processor       files.c     the guests' drive, and files on it
  * fault.c    which instruction of a block failed   sections.c  files as memory, and shared memory
  * stuck.c    who waits for whom                    info.c      what is asked of the system, processes and threads
- * fast.c     Unicorn's stores, less slow           layout.h    what of Windows' own structures lies where */
+ * fast.c     Unicorn's stores, less slow           save.c      all of it in a file
+ * layout.h   what of Windows' own structures lies where */
 #ifndef NT_H
 #define NT_H
 
@@ -21,6 +22,7 @@
 enum {
     PROCESSES = 64, /* that live at a time */
     THREADS = 4096, /* of all processes */
+    SLOTS = 65536,  /* objects at a time */
     PAGE = 0x1000,
     GRANULE = 0x10000, /* where memory begins that is asked for anywhere */
     NT_NAME_MOST = 1024,
@@ -31,7 +33,7 @@ enum {
     THREAD_NUMBER = 4 /* so many times the library's is the guest's, and a process's */
 };
 
-#define LIMITS {65536u, PROCESSES + 1u, THREADS + 1u, 16384u, 4294967295u, 1073741823u, 4294967295u, 2147483647u}
+#define LIMITS {SLOTS, PROCESSES + 1u, THREADS + 1u, 16384u, 4294967295u, 1073741823u, 4294967295u, 2147483647u}
 
 /* What all guests together have of memory, reserved or not, since what is reserved can be written. */
 #define MEMORY_MOST (4ull << 30)
@@ -146,38 +148,39 @@ typedef enum waiting { RUNS, FOR_OBJECTS, FOR_TIME, FOR_ALERT, FOR_RELEASE, FOR_
 typedef struct thread {
     registers now;
     uint32_t number; /* the library's; 0 where there is none */
-    process *of;
     waiting waits;
-    bool alertable; /* its wait ends for an APC */
-    bool alerted;   /* its next wait for an alert ends at once */
-    bool has_apc;   /* it runs the first of its APCs when its call returns */
+    bool alertable : 1; /* its wait ends for an APC */
+    bool alerted : 1;   /* its next wait for an alert ends at once */
+    bool has_apc : 1;   /* it runs the first of its APCs when its call returns */
     uint32_t suspended;
     int32_t priority;
     uint64_t block, stack, stack_size;
     uint64_t entry;
     uint64_t key;         /* of a keyed event, or the address of a wait for an alert */
     uint8_t places[64];   /* of its wait's objects among the handles that it passed */
+    om_opening own;       /* the object that stands for it, by the host's handle */
+    process *of;          /* (what is before this is in a savestate as it stands) */
     apc *apcs;
-    om_opening own; /* the object that stands for it, by the host's handle */
 } thread;
 
 /* The types of objects of the host's own. */
 typedef enum type { A_THREAD = 1, A_PROCESS, A_FILE, A_SECTION, A_KEYED_EVENT, AN_OBJECT_DIRECTORY } type;
 
-/* What the host keeps at an object of its own, to which the object's number points. */
+/* What the host keeps at an object of its own. */
 typedef struct kept {
     uint32_t number; /* of a thread or process */
     uint32_t code;   /* with which it has ended */
-    bool has_ended;
-    bool is_directory, is_standard; /* a file */
-    bool is_image, is_copied;       /* a section: of a program, or of a file's bytes */
+    bool has_ended : 1;
+    bool is_directory : 1, is_standard : 1; /* a file */
+    bool is_image : 1, is_copied : 1;       /* a section: of a program, or of a file's bytes */
     int32_t priority;
-    int file;       /* of a file or a section: the descriptor, or -1 */
     uint64_t at;    /* where it is read next */
     uint64_t size;  /* of a section */
-    void *entries;  /* of a directory of which some were told: Linux' stream of them, and of what form they are */
-    char form[256];
-    char name[];    /* of a file, as the guests see it */
+    uint64_t entries_size, next_entry; /* of a directory that was asked for its entries */
+    char form[256]; /* of which form those are */
+    int file;       /* of a file or a section: the descriptor, or -1 (what is before this is in a savestate as it stands) */
+    char *entries;  /* their names, each with a 0 behind it */
+    char name[];    /* of a file, as the guests see it; of a section, its file's */
 } kept;
 
 typedef struct region {
@@ -185,6 +188,8 @@ typedef struct region {
     uint8_t *bytes;
     uint32_t protect, type;
     bool is_committed, in_arena;
+    int file;        /* whose bytes it has, a descriptor of its own, or -1 */
+    uint64_t offset; /* from there on */
 } region;
 
 /* How many instructions the block at an address has. */
@@ -193,19 +198,25 @@ typedef struct block_length {
     uint32_t count;
 } block_length;
 
-enum { LOW_ARENA, HIGH_ARENA, ARENAS, BLOCKS = 65536 };
+enum { LOW_ARENA, HIGH_ARENA, ARENAS, BLOCKS = 65536, CALLS = 0x1000 /* numbers of system calls are below */ };
+
+/* A system call by its number. */
+typedef struct system_call {
+    char name[63];
+    bool is_told : 1; /* that it isn't served */
+} system_call;
 
 struct process {
     om_member member; /* the library's numbers of it and its first thread; 0 where there is none */
-    uc_engine *engine;
+    om_opening own;
+    uint64_t peb, image;
+    uint64_t ntdll, thread_start, user_start, exception_dispatcher, apc_dispatcher;
+    uc_engine *engine; /* (what is before this is in a savestate as it stands) */
     thread *loaded; /* whose registers the engine has */
     region *regions; /* by rising address */
     uint32_t regions_count, regions_room;
     uint8_t *arenas[ARENAS];
     uint64_t reserved; /* bytes of all regions */
-    uint64_t peb, image;
-    uint64_t ntdll, thread_start, user_start, exception_dispatcher, apc_dispatcher;
-    om_opening own;
     block_length lengths[BLOCKS];
 };
 
@@ -213,18 +224,34 @@ extern om_manager om;
 extern om_member host; /* the host's own process */
 extern process processes[PROCESSES];
 extern thread threads[THREADS];
+extern kept *all_kept[SLOTS];
+extern system_call system_calls[CALLS];
 extern uint32_t threads_end; /* behind the last place where one is */
 extern thread *current;      /* the thread whose call is served */
 extern process *in;          /* whose memory and engine are meant */
 extern uint64_t instructions, instructions_most, calls_count, seed;
+extern uint64_t idle; /* time that has passed while no thread could run */
+extern uint64_t left; /* instructions of this turn */
+extern bool goes_on;  /* a turn that a run stopped within, by so many instructions */
+extern uint64_t last_unique;
 extern bool tells_calls;
 extern uint32_t exit_code; /* of the first process */
+extern bool has_first_ended;
+extern char drive_folder[NT_NAME_MOST];
 extern char wine_dlls[512], wine_nls[512];
+
+static inline block_length *length_at(process *of, uint64_t address) {
+    return &of->lengths[(address ^ address >> 16) % BLOCKS];
+}
 
 /* main.c */
 _Noreturn void stop(const char *format, ...) __attribute__((format(printf, 1, 2)));
 void must(uint32_t status, const char *what);
 void write_trace(void);
+
+/* save.c */
+void save(const char *path);
+void load(const char *path);
 
 /* seeds.c */
 int run_seeds(uint64_t from, uint64_t to, int (*program)(void));
@@ -271,6 +298,7 @@ void tell_waits(void);
 /* calls.c */
 uint64_t arg(int i);
 void read_numbers(void);
+void find_served(void);
 void serve(uint64_t stub);
 _Noreturn void refuse_pointer(uint64_t address);
 extern bool has_set_registers;
@@ -282,9 +310,11 @@ uint64_t attribute_of(uint64_t list, uint64_t number, uint64_t *size);
 
 /* objects.c */
 om_opening host_object(type is, uint32_t number);
+kept *kept_at(uint64_t data);
+kept *new_kept(uint32_t place, const char *name);
 kept *keep(om_object object, const char *name);
 uint32_t new_handle(type is, const char *name, uint32_t access, uint64_t attributes, kept **made);
-uint32_t new_named(type is, uint32_t access, uint64_t attributes, uint64_t to, kept **made);
+uint32_t new_named(type is, const char *name, uint32_t access, uint64_t attributes, uint64_t to, kept **made);
 typedef uint32_t (*opener)(om_manager *m, uint32_t thread, uint32_t access, bool inherit, const char *name, size_t length, om_opening *opening);
 uint32_t open_named(opener by, uint32_t kind);
 uint64_t given(const om_opening *own, uint32_t access, bool inherit);
@@ -296,7 +326,7 @@ uint32_t answer_handle(uint64_t to, uint64_t handle);
 bool inherits(uint64_t attributes);
 void text_of(uint64_t unicode, char *out, size_t capacity);
 void name_of(uint64_t attributes, char *out, size_t capacity);
-void forget(kept *k);
+void forget(uint64_t data);
 
 /* waits.c */
 void answered(thread *t, uint32_t code);
@@ -317,6 +347,8 @@ void first_context(uint8_t *context, uint64_t stack, uint64_t start, uint64_t en
 /* files.c */
 void set_drive(const char *folder);
 int open_program(const char *name);
+bool is_named(const kept *k);
+int open_path(const char *name, int how);
 uint32_t standard_file(int file);
 
 #endif

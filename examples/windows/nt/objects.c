@@ -2,7 +2,6 @@
  * */
 #include "nt.h"
 
-#include <dirent.h>
 #include <stdio.h>
 #include <stdlib.h>
 #include <string.h>
@@ -327,8 +326,14 @@ uint32_t NtQueryTimer(void) {
 
 /* ---- Objects of the host's own ---- */
 
-/* What the host keeps at an object from now on. */
-kept *keep(om_object object, const char *name) {
+kept *all_kept[SLOTS];
+
+/* What the host keeps at an object with these data: 1 more than its place among all, or 0 for nothing. */
+kept *kept_at(uint64_t data) {
+    return data == 0 || data > SLOTS ? NULL : all_kept[data - 1];
+}
+
+kept *new_kept(uint32_t place, const char *name) {
     size_t length = strlen(name) + 1;
     kept *k = calloc(1, sizeof *k + length);
     if (k == NULL) {
@@ -336,19 +341,26 @@ kept *keep(om_object object, const char *name) {
     }
     memcpy(k->name, name, length);
     k->file = -1;
-    must(om_set_object_data(&om, object.slot, object.generation, (uint64_t)(uintptr_t)k), "what is kept");
-    return k;
+    return all_kept[place] = k;
 }
 
-/* An object has ended at which something was kept, or nothing. */
-void forget(kept *k) {
-    if (k != NULL && k->file >= 0 && !k->is_standard) {
-        close(k->file);
+/* What the host keeps at an object from now on, at the place of the object's slot. */
+kept *keep(om_object object, const char *name) {
+    must(om_set_object_data(&om, object.slot, object.generation, object.slot + (uint64_t)1), "what is kept");
+    return new_kept(object.slot, name);
+}
+
+/* An object has ended with these data. */
+void forget(uint64_t data) {
+    kept *k = kept_at(data);
+    if (k != NULL) {
+        if (k->file >= 0 && !k->is_standard) {
+            close(k->file);
+        }
+        free(k->entries);
+        free(k);
+        all_kept[data - 1] = NULL;
     }
-    if (k != NULL && k->entries != NULL) {
-        closedir(k->entries);
-    }
-    free(k);
 }
 
 /* An object that the host has a handle to, which isn't signaled until the thread or process ends. */
@@ -375,7 +387,7 @@ uint32_t new_handle(type is, const char *name, uint32_t access, uint64_t attribu
 }
 
 /* A create of an object of the host's own by its name, where attributes have one: its handle is written. Nothing is made where the object was there before. */
-uint32_t new_named(type is, uint32_t access, uint64_t attributes, uint64_t to, kept **made) {
+uint32_t new_named(type is, const char *name, uint32_t access, uint64_t attributes, uint64_t to, kept **made) {
     om_opening opening;
     asked a = asked_by(attributes, OM_HOST(is), access);
     bytes_at(to, 8);
@@ -385,7 +397,7 @@ uint32_t new_named(type is, uint32_t access, uint64_t attributes, uint64_t to, k
     }
     uint32_t error = om_create_host(&om, current->number, &a.making, a.name, a.length, (uint8_t)is, true, true, &opening);
     if (error == OM_SUCCESS) {
-        *made = keep(opening.object, "");
+        *made = keep(opening.object, name);
     }
     return created(error, &opening);
 }
@@ -415,7 +427,7 @@ uint32_t named(uint64_t handle, type is, uint32_t right, kept **found) {
         return info.kind != OM_HOST(is) ? STATUS_OBJECT_TYPE_MISMATCH : STATUS_ACCESS_DENIED;
     }
     if (found != NULL) {
-        *found = (kept *)(uintptr_t)info.data;
+        *found = kept_at(info.data);
     }
     return STATUS_SUCCESS;
 }
@@ -451,10 +463,11 @@ uint32_t NtDuplicateObject(void) {
     process *source, *target = NULL;
     om_opening made;
     om_handle_info info;
-    uint32_t handle = handle_of(arg(1)), access = (uint32_t)arg(4), options = (uint32_t)arg(6);
+    uint32_t handle = handle_of(arg(1)), access = (uint32_t)arg(4), options = (uint32_t)arg(6), no_target = STATUS_SUCCESS;
     uint32_t status = process_by(arg(0), DUPLICATES, NULL, &source);
     if (status == STATUS_SUCCESS && arg(2) != 0) {
-        status = process_by(arg(2), DUPLICATES, NULL, &target);
+        no_target = process_by(arg(2), DUPLICATES, NULL, &target);
+        status = options & OM_DUPLICATE_CLOSE_SOURCE ? status : no_target;
     }
     if (status != STATUS_SUCCESS) {
         return status;
@@ -472,7 +485,8 @@ uint32_t NtDuplicateObject(void) {
         inherit = options & SAME_ATTRIBUTES ? (info.flags & OM_HANDLE_FLAG_INHERIT) != 0 : inherit;
     }
     options &= OM_DUPLICATE_CLOSE_SOURCE | OM_DUPLICATE_SAME_ACCESS;
-    return duplicated(om_duplicate(&om, current->number, source->member.process, handle, to, access, inherit, options, &made), &made);
+    uint32_t error = om_duplicate(&om, current->number, source->member.process, handle, to, access, inherit, options, &made);
+    return no_target != STATUS_SUCCESS ? no_target : duplicated(error, &made); /* the source is closed all the same */
 }
 
 uint32_t NtSetInformationObject(void) {
@@ -509,7 +523,7 @@ static uint32_t tell_name(const om_handle_info *info, uint64_t to, uint32_t room
     } else if (row.length > 0) {
         snprintf(text, sizeof text, "\\Sessions\\%u\\BaseNamedObjects\\%.*s", row.session, (int)row.length, name);
     } else if (info->kind == OM_HOST(A_FILE)) {
-        snprintf(text, sizeof text, "%s", ((kept *)(uintptr_t)info->data)->name);
+        snprintf(text, sizeof text, "%s", kept_at(info->data)->name);
     }
     return tell_text(to, 16, text, room);
 }

@@ -50,7 +50,7 @@ uint32_t NtCreateSection(void) {
     if (bytes < 0) {
         return STATUS_INSUFFICIENT_RESOURCES;
     }
-    status = new_named(A_SECTION, (uint32_t)arg(1), arg(2), arg(0), &k);
+    status = new_named(A_SECTION, file == NULL ? "" : file->name, (uint32_t)arg(1), arg(2), arg(0), &k);
     if (k == NULL) {
         close(bytes);
         return status;
@@ -99,7 +99,7 @@ static uint32_t map_bytes(const kept *k, uint64_t offset, uint64_t *base, uint64
         return STATUS_NO_MEMORY;
     }
     if (!k->is_copied) {
-        return region_at(*base)->in_arena || !share_at(*base, k->file, offset) ? STATUS_NO_MEMORY : STATUS_SUCCESS;
+        return share_at(*base, k->file, offset) ? STATUS_SUCCESS : STATUS_NO_MEMORY;
     }
     return pread(k->file, bytes_if(*base, *size), *size, (off_t)offset) < 0 ? STATUS_ACCESS_DENIED : STATUS_SUCCESS;
 }

@@ -5,7 +5,7 @@
 
 /* A thread of an object of the host's that stands for one, else 0. */
 static uint32_t thread_at(const om_object *object, uint32_t kind) {
-    kept *k = (kept *)(uintptr_t)om_object_data(&om, object->slot, object->generation);
+    kept *k = kept_at(om_object_data(&om, object->slot, object->generation));
     return kind == OM_HOST(A_THREAD) && k != NULL ? k->number : 0;
 }
 

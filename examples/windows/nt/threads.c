@@ -8,13 +8,11 @@
 
 om_manager om;
 process processes[PROCESSES], *in;
-thread threads[THREADS], *current;
+thread threads[THREADS], *current = threads;
 uint32_t threads_end;
-uint64_t instructions, instructions_most, seed;
-bool ends_turn;
+uint64_t instructions, instructions_most, seed, idle, left;
+bool ends_turn, goes_on;
 
-static uint64_t idle;              /* time that has passed while no thread could run */
-static uint64_t left;              /* instructions of this turn */
 static uint64_t stopped_at;        /* the block before which the engine stopped */
 static uint64_t block_at;          /* the one that runs */
 static uint64_t fault_address;
@@ -74,7 +72,7 @@ void put_floats(thread *t) {
     }
 }
 
-static void load(thread *t) {
+static void put_registers(thread *t) {
     thread *before = t->of->loaded;
     if (before != t) {
         if (before != NULL) {
@@ -122,12 +120,12 @@ static void show_time(void) {
 
 thread *thread_numbered(uint32_t number) {
     uint64_t place = om_thread_data(&om, number);
-    return place == 0 || threads[place - 1].number != number ? NULL : &threads[place - 1];
+    return place == 0 || place > THREADS || threads[place - 1].number != number ? NULL : &threads[place - 1];
 }
 
 process *process_numbered(uint32_t number) {
     uint64_t place = om_process_data(&om, number);
-    return place == 0 || processes[place - 1].member.process != number ? NULL : &processes[place - 1];
+    return place == 0 || place > PROCESSES || processes[place - 1].member.process != number ? NULL : &processes[place - 1];
 }
 
 /* Behind each call: whose waits were answered can go on, and what has ended is forgotten. */
@@ -144,7 +142,7 @@ void look_round(void) {
     do {
         om_take_ended(&om, ended, 16, &count);
         for (size_t i = 0; i < count; i++) {
-            forget((kept *)(uintptr_t)om_object_data(&om, ended[i].object.slot, ended[i].object.generation));
+            forget(om_object_data(&om, ended[i].object.slot, ended[i].object.generation));
         }
     } while (count == 16);
     write_trace();
@@ -186,15 +184,15 @@ static bool is_call(uint64_t address) {
     return address - SYSTEM_CALL < PAGE;
 }
 
-/* Before each block: a call is served outside of here, and a turn that is over ends. */
+/* Before each block: a call is served outside of here, and a turn that is over ends, or a run. */
 static void on_block(uc_engine *engine, uint64_t address, uint32_t size, void *of) {
     (void)size;
-    if (left == 0 || is_call(address)) {
+    if (left == 0 || is_call(address) || instructions >= instructions_most) {
         stopped_at = address;
         uc_emu_stop(engine);
         return;
     }
-    block_length *b = &((process *)of)->lengths[(address ^ address >> 16) % BLOCKS];
+    block_length *b = length_at(of, address);
     if (b->address != address) {
         uc_tb known;
         *b = (block_length){.address = address, .count = uc_ctl_request_cache(engine, address, &known) == UC_ERR_OK ? known.icount : 1};
@@ -270,12 +268,15 @@ static void raise_fault(thread *t, uc_err error) {
 static void run_current(void) {
     thread *t = current;
     in = t->of;
-    show_time();
-    load(t);
+    if (!goes_on) {
+        show_time();
+    }
+    put_registers(t);
     stopped_at = 0;
     interrupt = fault_kind = -1;
     uc_err error = uc_emu_start(in->engine, t->now.whole[RIP], UINT64_MAX, 0, 0);
     move_whole(t, uc_reg_read_batch);
+    goes_on = interrupt < 0 && error == UC_ERR_OK && stopped_at != 0 && !is_call(stopped_at) && left > 0;
     if (interrupt >= 0) {
         raise_interrupt(t);
     } else if (error != UC_ERR_OK || stopped_at == 0) {

@@ -206,7 +206,7 @@ uint32_t NtAlertThreadByThreadId(void) {
 
 uint32_t NtCreateKeyedEvent(void) {
     kept *k;
-    return new_named(A_KEYED_EVENT, (uint32_t)arg(1), arg(2), arg(0), &k);
+    return new_named(A_KEYED_EVENT, "", (uint32_t)arg(1), arg(2), arg(0), &k);
 }
 
 static uint32_t meet(waiting mine, waiting other) {
