@@ -19,9 +19,9 @@ static BOOL process(void) {
 }
 
 static BOOL periodic(void) {
-    LARGE_INTEGER due = {.QuadPart = -10000};
+    LARGE_INTEGER due = {.QuadPart = -1000000};
     HANDLE made = CreateWaitableTimerA(NULL, FALSE, NULL);
-    return made != NULL && SetWaitableTimer(made, &due, 1, NULL, NULL, FALSE);
+    return made != NULL && SetWaitableTimer(made, &due, 100, NULL, NULL, FALSE);
 }
 
 /* One more of them: whether there is. */

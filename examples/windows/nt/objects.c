@@ -114,9 +114,7 @@ static bool collides(const asked *a) {
 }
 
 static uint32_t created(uint32_t error, const om_opening *made) {
-    if (error == OM_SUCCESS || error == OM_ERROR_ALREADY_EXISTS) {
-        put(arg(0), made->handle, 8);
-    }
+    put(arg(0), error == OM_SUCCESS || error == OM_ERROR_ALREADY_EXISTS ? made->handle : 0, 8); /* Wine's kernelbase takes what is there for its answer */
     /* a create takes no handle: 6 is of the name */
     return error == OM_ERROR_INVALID_HANDLE ? STATUS_OBJECT_TYPE_MISMATCH : om_nt_status(error);
 }
@@ -498,9 +496,15 @@ uint32_t NtSetInformationObject(void) {
     return om_nt_status(om_set_handle_flags(&om, current->number, handle_of(arg(0)), OM_HANDLE_FLAG_INHERIT | OM_HANDLE_FLAG_PROTECT_FROM_CLOSE, flags));
 }
 
-/* A UNICODE_STRING, and its text behind it where a structure of a size ends; how many bytes all that has. */
-static uint32_t tell_text(uint64_t to, uint32_t size, const char *text, uint32_t room) {
-    uint32_t length = (uint32_t)strlen(text), need = size + 2 * length + (length > 0 ? 2 : 0);
+/* A UNICODE_STRING, and its text behind it where a structure of a size ends; how many bytes all that has. What is spelled is told as it was. */
+static uint32_t tell_text(uint64_t to, uint32_t size, const char *text, bool is_spelled, uint32_t room) {
+    uint16_t wide[NT_NAME_MOST];
+    uint32_t length = 0;
+    for (size_t i = 0, end = strlen(text); i < end; length++) {
+        wide[length] = (uint8_t)text[i];
+        i += is_spelled ? om_spelled(text + i, end - i, &wide[length]) : 1;
+    }
+    uint32_t need = size + 2 * length + (length > 0 ? 2 : 0);
     if (room < need) {
         return need;
     }
@@ -508,8 +512,8 @@ static uint32_t tell_text(uint64_t to, uint32_t size, const char *text, uint32_t
     put(to, 2 * length, 2);
     put(to + 2, length > 0 ? 2 * length + 2 : 0, 2);
     put(to + 8, length > 0 ? to + size : 0, 8);
-    for (uint32_t i = 0; i < length; i++) {
-        put(to + size + 2 * i, (uint8_t)text[i], 2);
+    if (length > 0) {
+        fill(to + size, wide, 2 * length);
     }
     return need;
 }
@@ -525,13 +529,13 @@ static uint32_t tell_name(const om_handle_info *info, uint64_t to, uint32_t room
     } else if (info->kind == OM_HOST(A_FILE)) {
         snprintf(text, sizeof text, "%s", kept_at(info->data)->name);
     }
-    return tell_text(to, 16, text, room);
+    return tell_text(to, 16, text, row.length > 0, room);
 }
 
 static uint32_t tell_type(uint32_t kind, uint64_t to, uint32_t room) {
     static const char *const kinds[] = {"Event", "Mutant", "Semaphore", "Timer"};
     static const char *const own[] = {"", "Thread", "Process", "File", "Section", "KeyedEvent", "Directory"};
-    return tell_text(to, 0x68, kind < OM_ENDED ? kinds[kind] : own[kind - OM_HOST(0)], room);
+    return tell_text(to, 0x68, kind < OM_ENDED ? kinds[kind] : own[kind - OM_HOST(0)], false, room);
 }
 
 /* PUBLIC_OBJECT_BASIC_INFORMATION, with the counts of handles and references. */

@@ -130,8 +130,8 @@ process *process_numbered(uint32_t number) {
 
 /* Behind each call: whose waits were answered can go on, and what has ended is forgotten. */
 void look_round(void) {
+    static om_reaping ended[SLOTS]; /* a place for each that there can be, so that one call tells all */
     om_answer answers[16];
-    om_reaping ended[16];
     size_t count;
     do {
         om_take_answered(&om, answers, 16, &count);
@@ -139,12 +139,10 @@ void look_round(void) {
             answered(thread_numbered(answers[i].thread), answers[i].code);
         }
     } while (count == 16);
-    do {
-        om_take_ended(&om, ended, 16, &count);
-        for (size_t i = 0; i < count; i++) {
-            forget(om_object_data(&om, ended[i].object.slot, ended[i].object.generation));
-        }
-    } while (count == 16);
+    om_take_ended(&om, ended, SLOTS, &count);
+    for (size_t i = 0; i < count; i++) {
+        forget(om_object_data(&om, ended[i].object.slot, ended[i].object.generation));
+    }
     write_trace();
 }
 
@@ -274,7 +272,7 @@ static void run_current(void) {
     put_registers(t);
     stopped_at = 0;
     interrupt = fault_kind = -1;
-    uc_err error = uc_emu_start(in->engine, t->now.whole[RIP], UINT64_MAX, 0, 0);
+    uc_err error = uc_emu_start(in->engine, t->now.whole[RIP], SYSTEM_CALL + PAGE - 1, 0, 0); /* the end is never reached */
     move_whole(t, uc_reg_read_batch);
     goes_on = interrupt < 0 && error == UC_ERR_OK && stopped_at != 0 && !is_call(stopped_at) && left > 0;
     if (interrupt >= 0) {

@@ -1,56 +1,86 @@
-/* spoiled FROM TO N: writes a savestate of examples/windows/host anew, with its N-th lie and the digest that fits, and says which. The status
- * is 1 where there is no such lie. */
-#include "../host/host.h"
+/* spoiled FROM TO N: writes a savestate of examples/windows/nt anew, with its N-th lie and the digest that fits, and says which. The status is 1 where there is
+ * no such lie. */
+#include "../nt/nt.h"
 
 #include <stddef.h>
 #include <stdio.h>
 #include <stdlib.h>
 #include <string.h>
 
-#define BEHIND_MARK 32u
-#define MACHINE(member) BEHIND_MARK + offsetof(machine_state, member), sizeof(((machine_state *)0)->member)
-#define NAMES (BEHIND_MARK + sizeof(machine_state))
+/* Where a lie's place counts from: the beginning, or the length of the library's bytes; in front of that is a thread, and behind the bytes what is kept. */
+typedef enum base { BEGINNING, LIBRARY, BEHIND_LIBRARY } base;
+
+enum {
+    NUMBERS = 24 + 3 * 8, /* behind the mark and what the build is */
+    HOST = NUMBERS + 11 * 8,
+    CALLS_AT = HOST + (int)sizeof(om_member),
+    DRIVE = CALLS_AT + (int)sizeof system_calls,
+    NAMELESS = DRIVE + (int)sizeof drive_folder,
+    FIRST = NAMELESS + 8 + 8, /* the first process, where no file is without a name */
+    REGIONS = FIRST + (int)offsetof(process, engine),
+    REGION = REGIONS + 8,
+    THREAD = -16 - (int)offsetof(thread, of) /* before its process's place and how many APCs it has */
+};
 
 /* A number at a place, or this byte all over it. */
 static const struct {
     const char *what;
-    size_t at, size;
+    base from;
+    int at;
+    size_t size;
     uint64_t value;
 } lies[] = {
-    {"another seed, which is no lie", MACHINE(seed), 7},
-    {"a turn of nobody", MACHINE(current), THREADS},
-    {"a turn far behind all", MACHINE(current), 0x80000000u},
-    {"a thread of a process behind all", MACHINE(threads[0].process), PROCESSES},
-    {"a thread of no process", MACHINE(threads[0].process), PROCESSES - 1},
-    {"a stack behind all", MACHINE(threads[0].place), PLACES},
-    {"more regions than there can be", MACHINE(processes[0].regions_count), REGIONS + 1},
-    {"more imports than there can be", MACHINE(processes[0].imports), IMPORTS + 1},
-    {"far more imports", MACHINE(processes[0].imports), 4096},
-    {"a process without an end to its name", MACHINE(processes[0].name), 'x'},
-    {"a folder without an end", MACHINE(folder), 'x'},
-    {"a region of no size", MACHINE(processes[0].regions[0].size), 0},
-    {"a region that is too large", MACHINE(processes[0].regions[0].size), MEMORY_MOST},
-    {"a region without an end", MACHINE(processes[0].regions[0].size), UINT64_MAX - PAGE + 1},
-    {"a region of half a page", MACHINE(processes[0].regions[0].size), PAGE / 2},
-    {"a region between pages", MACHINE(processes[0].regions[0].address), STUBS + 1},
-    {"a region where another is", MACHINE(processes[0].regions[0].address), ENVIRONMENT},
-    {"rights that there aren't", MACHINE(processes[0].regions[0].rights), 64},
-    {"an import without an end", NAMES, NAME_MOST, 'x'},
-    {"many more of the library's bytes", 0, 8, UINT64_MAX / 2},
-    {"other bytes of the library's", 0, 12, 'x'},
+    {"another seed, which is no lie", BEGINNING, NUMBERS, 8, 7},
+    {"more threads than there can be", BEGINNING, NUMBERS + 9 * 8, 8, THREADS + 1},
+    {"a turn of nobody", BEGINNING, NUMBERS + 10 * 8, 8, THREADS},
+    {"another host's process", BEGINNING, HOST, 4, 77},
+    {"a system call without an end to its name", BEGINNING, CALLS_AT, sizeof(system_call), 'x'},
+    {"a folder without an end", BEGINNING, DRIVE, sizeof drive_folder, 'x'},
+    {"far more files", BEGINNING, NAMELESS, 8, UINT64_MAX},
+    {"a file that isn't there", BEGINNING, NAMELESS, 8, 1},
+    {"another process", BEGINNING, FIRST + (int)offsetof(process, member), 4, 77},
+    {"a process that nothing stands for", BEGINNING, FIRST + (int)offsetof(process, own), 4, 0x1000},
+    {"far more regions", BEGINNING, REGIONS, 8, UINT64_MAX},
+    {"a region of no size", BEGINNING, REGION + 8, 8, 0},
+    {"a region that is too large", BEGINNING, REGION + 8, 8, MEMORY_MOST + PAGE},
+    {"a region without an end", BEGINNING, REGION + 8, 8, UINT64_MAX - PAGE + 1},
+    {"a region of half a page", BEGINNING, REGION + 8, 8, PAGE / 2},
+    {"a region between pages", BEGINNING, REGION, 8, 0x10001},
+    {"a region at the end of all", BEGINNING, REGION, 8, UINT64_MAX - PAGE + 1},
+    {"a view of no file", BEGINNING, REGION + 48, 8, 1},
+    {"another thread", LIBRARY, THREAD + (int)offsetof(thread, number), 4, 77},
+    {"a thread that waits for what there isn't", LIBRARY, THREAD + (int)offsetof(thread, waits), 4, FOR_WAITER + 1},
+    {"a thread that nothing stands for", LIBRARY, THREAD + (int)offsetof(thread, own), 4, 0x1000},
+    {"a thread of a process behind all", LIBRARY, -16, 8, PROCESSES},
+    {"a thread of no process", LIBRARY, -16, 8, PROCESSES - 1},
+    {"far more APCs", LIBRARY, -8, 8, UINT64_MAX},
+    {"many more of the library's bytes", LIBRARY, 0, 8, UINT64_MAX / 2},
+    {"other bytes of the library's", LIBRARY, 16, 12, 'x'},
+    {"what is kept at a place behind all", BEHIND_LIBRARY, 0, 8, SLOTS + 1},
+    {"nothing that is kept", BEHIND_LIBRARY, 0, 8, SLOTS},
+    {"what is kept elsewhere", BEHIND_LIBRARY, 0, 8, SLOTS - 1},
+    {"a name without an end", BEHIND_LIBRARY, 8, 8, UINT64_MAX},
+    {"far more entries", BEHIND_LIBRARY, 16, 8, UINT64_MAX},
+    {"entries that aren't there", BEHIND_LIBRARY, 24 + (int)offsetof(kept, entries_size), 8, 1000},
+    {"a form without an end", BEHIND_LIBRARY, 24 + (int)offsetof(kept, form), sizeof ((kept *)0)->form, 'x'},
+    {"a file of no kind", BEHIND_LIBRARY, 24 + (int)offsetof(kept, file), 8, 4},
+    {"a standard file that there isn't", BEHIND_LIBRARY, 32 + (int)offsetof(kept, file), 8, 3},
 };
 
 int main(int count, char **words) {
     static uint8_t bytes[64 << 20];
     FILE *from = count == 4 ? fopen(words[1], "rb") : NULL, *to = from == NULL ? NULL : fopen(words[2], "wb");
     size_t length = to == NULL ? 0 : fread(bytes, 1, sizeof bytes, from), lie = count == 4 ? (size_t)atoi(words[3]) : 0, i = length;
-    if (length < NAMES || length == sizeof bytes || lie >= sizeof lies / sizeof *lies) {
+    if (length < REGION || length == sizeof bytes || lie >= sizeof lies / sizeof *lies) {
         return 1;
     }
-    /* the library's bytes are the last, and begin with its mark behind their number */
-    while (memcmp(bytes + --i, "OBJS", 4) != 0) {
-    }
-    uint8_t *at = lies[lie].at == 0 ? bytes + i - 8 : bytes + lies[lie].at;
+    /* the library's bytes begin with its mark, behind their number; a host keeps something */
+    do {
+        i--;
+    } while (memcmp(bytes + i, "OBJD\1\0\0", 8) != 0);
+    uint64_t size;
+    memcpy(&size, bytes + i - 8, 8);
+    uint8_t *at = (lies[lie].from == BEGINNING ? bytes : bytes + i + (lies[lie].from == LIBRARY ? 0 : size + 8) - 8) + lies[lie].at;
     if (lies[lie].size <= sizeof lies[lie].value) {
         memcpy(at, &lies[lie].value, lies[lie].size);
     } else {

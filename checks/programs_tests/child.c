@@ -27,7 +27,7 @@ int main(int count, char **words) {
     DWORD code;
     HANDLE event = CreateEventA(NULL, TRUE, FALSE, "Local\\family"), semaphore = CreateSemaphoreA(&inherited, 0, 5, NULL);
     HANDLE mutex = CreateMutexA(&inherited, TRUE, NULL);
-    sprintf(command, "family.exe %d %d", (int)(ULONG_PTR)semaphore, (int)(ULONG_PTR)mutex);
+    sprintf(command, "child.exe %d %d", (int)(ULONG_PTR)semaphore, (int)(ULONG_PTR)mutex);
     if (!CreateProcessA(NULL, command, NULL, NULL, TRUE, CREATE_SUSPENDED, NULL, NULL, &start, &made)) {
         printf("no process, error %lu\n", GetLastError());
         return 1;
