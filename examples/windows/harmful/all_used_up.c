@@ -4,7 +4,7 @@
 
 enum { WAYS = 6, GRANDCHILD = WAYS };
 
-static const char *const ways[WAYS] = {"handles", "events", "handles to threads that ended", "threads", "timers that come again", "processes"};
+static const char *const ways[WAYS] = {"handles", "events", "handles to threads that ended", "threads with large stacks", "timers that come again", "processes"};
 
 static DWORD WINAPI sleeper(void *milliseconds) {
     Sleep((DWORD)(ULONG_PTR)milliseconds);
@@ -31,7 +31,7 @@ static BOOL one_more(unsigned way) {
     case 0: return DuplicateHandle(GetCurrentProcess(), GetStdHandle(STD_OUTPUT_HANDLE), GetCurrentProcess(), &made, SYNCHRONIZE, FALSE, 0);
     case 1: return CreateEventA(NULL, TRUE, FALSE, NULL) != NULL;
     case 2: made = CreateThread(NULL, 0, sleeper, (void *)0, 0, NULL); return made != NULL && WaitForSingleObject(made, INFINITE) == WAIT_OBJECT_0;
-    case 3: return CreateThread(NULL, 0, sleeper, (void *)1000, 0, NULL) != NULL;
+    case 3: return CreateThread(NULL, 16 << 20, sleeper, (void *)1000, STACK_SIZE_PARAM_IS_A_RESERVATION, NULL) != NULL;
     case 4: return periodic();
     default: return process();
     }

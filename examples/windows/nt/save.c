@@ -26,7 +26,7 @@ static struct {
 static const char mark[24] = "nt of guests, state 1";
 
 static void part(void *bytes, size_t size) {
-    size_t moved = file.is_written ? fwrite(bytes, 1, size, file.at) : fread(bytes, 1, size, file.at);
+    size_t moved = size == 0 ? 0 : file.is_written ? fwrite(bytes, 1, size, file.at) : fread(bytes, 1, size, file.at);
     file.is_good = file.is_good && moved == size;
     for (size_t i = 0; i < moved; i++) {
         file.digest = (file.digest ^ ((uint8_t *)bytes)[i]) * 1099511628211u;
