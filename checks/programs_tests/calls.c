@@ -1,6 +1,7 @@
 /* What kernel32 makes of system calls: locks without handles, objects by name, APCs, suspended threads, fiber-local storage, handlers of exceptions, timers. */
 #include <stdio.h>
 #include <windows.h>
+#include <winternl.h>
 
 static CRITICAL_SECTION section;
 static SRWLOCK slim = SRWLOCK_INIT;
@@ -46,6 +47,18 @@ static void locks(void) {
     printf("code %lu\n", code);
 }
 
+/* What an event's name is told as, behind the path to it. */
+static void told(const WCHAR *name) {
+    struct {
+        UNICODE_STRING text;
+        WCHAR room[300];
+    } all = {.room = {0}};
+    HANDLE event = CreateEventW(NULL, TRUE, FALSE, name);
+    NTSTATUS status = NtQueryObject(event, (OBJECT_INFORMATION_CLASS)1, &all, sizeof all, NULL); /* ObjectNameInformation */
+    const WCHAR *behind = status == 0 ? wcsrchr(all.text.Buffer, L'\\') : NULL;
+    printf("told as it is spelled %d\n", behind != NULL && wcscmp(behind + 1, name) == 0);
+}
+
 static void names(void) {
     HANDLE mutex = CreateMutexA(NULL, TRUE, "Local\\programs_mutex"), again = OpenMutexA(SYNCHRONIZE, FALSE, "programs_mutex");
     printf("opened %d, owned %lx\n", again != NULL, WaitForSingleObject(again, 0));
@@ -58,6 +71,7 @@ static void names(void) {
     printf("a wide name %d", CreateEventW(NULL, TRUE, FALSE, L"\x00e4 name") != NULL);
     printf(" %d", CreateEventW(NULL, TRUE, FALSE, L"\x00e4 name") != NULL);
     printf(", error %lu\n", GetLastError());
+    told(L"50%0041% \x00e4\x4e2d");
 }
 
 static VOID CALLBACK apc(ULONG_PTR number) {
@@ -130,6 +144,16 @@ static void exceptions(void) {
     RemoveVectoredExceptionHandler(handler);
 }
 
+static LONGLONG now(void) {
+    FILETIME time;
+    GetSystemTimeAsFileTime(&time);
+    return (LONGLONG)time.dwHighDateTime << 32 | time.dwLowDateTime;
+}
+
+static VOID CALLBACK came(LPVOID with, DWORD low, DWORD high) {
+    printf("came with %d, not early %d\n", (int)(ULONG_PTR)with, ((LONGLONG)high << 32 | low) <= now());
+}
+
 static void timers(void) {
     HANDLE timer = CreateWaitableTimerA(NULL, FALSE, NULL);
     LARGE_INTEGER due = {.QuadPart = -200000};
@@ -141,6 +165,14 @@ static void timers(void) {
     printf(", not early %d", GetTickCount64() - before >= 50);
     printf(", cancelled %d", CancelWaitableTimer(timer));
     printf(" %lx\n", WaitForSingleObject(timer, 50));
+    due.QuadPart = now() + 200000;
+    SetWaitableTimer(timer, &due, 20, came, (void *)3, FALSE);
+    for (int i = 0; i < 3; i++) {
+        printf("slept %lx\n", SleepEx(1000, TRUE));
+    }
+    Sleep(30);
+    printf("cancelled %d", CancelWaitableTimer(timer));
+    printf(", slept %lx\n", SleepEx(50, TRUE));
 }
 
 static void refusals(void) {

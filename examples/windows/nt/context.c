@@ -238,12 +238,12 @@ void run_apc(thread *t, uint32_t status) {
 }
 
 /* Behind those that a thread has. A wait of it that is alertable ends. */
-void queue_apc(thread *t, uint64_t routine, uint64_t a, uint64_t b, uint64_t c) {
+void queue_apc(thread *t, uint64_t timer, uint64_t routine, uint64_t a, uint64_t b, uint64_t c) {
     apc *made = calloc(1, sizeof *made), **end = &t->apcs;
     if (made == NULL) {
         stop("no memory");
     }
-    *made = (apc){.routine = routine, .arguments = {a, b, c}};
+    *made = (apc){.routine = routine, .arguments = {a, b, c}, .timer = timer};
     while (*end != NULL) {
         end = &(*end)->next;
     }
@@ -254,6 +254,19 @@ void queue_apc(thread *t, uint64_t routine, uint64_t a, uint64_t b, uint64_t c) 
     }
 }
 
+/* A timer's APC doesn't run any more. */
+void cancel_apc(thread *t, uint64_t timer) {
+    apc **at = &t->apcs;
+    while (*at != NULL && (*at)->timer != timer) {
+        at = &(*at)->next;
+    }
+    if (*at != NULL) {
+        apc *found = *at;
+        *at = found->next;
+        free(found);
+    }
+}
+
 uint32_t NtQueueApcThread(void) {
     thread *t;
     uint32_t status = thread_by(arg(0), 0x10, NULL, &t); /* THREAD_SET_CONTEXT */
@@ -261,7 +274,7 @@ uint32_t NtQueueApcThread(void) {
         return status != STATUS_SUCCESS ? status : STATUS_UNSUCCESSFUL; /* it has ended */
     }
     if (arg(1) != 0) {
-        queue_apc(t, arg(1), arg(2), arg(3), arg(4));
+        queue_apc(t, 0, arg(1), arg(2), arg(3), arg(4));
     }
     return STATUS_SUCCESS;
 }

@@ -126,6 +126,7 @@ static void drop(thread *t, uint32_t code) {
     if (in->loaded == t) {
         in->loaded = NULL;
     }
+    drop_routines(t->number);
     om_opening own = t->own;
     int32_t priority = t->priority;
     memset(t, 0, sizeof *t);

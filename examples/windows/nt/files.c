@@ -416,6 +416,22 @@ uint32_t NtQueryInformationFile(void) {
     return STATUS_SUCCESS;
 }
 
+/* What is open by a path is from now on by another one. */
+static void have_path(const char *path, const char *to) {
+    char before[2 * NT_NAME_MOST];
+    snprintf(before, sizeof before, "%s", path);
+    for (uint32_t i = 0; i < SLOTS; i++) {
+        if (all_kept[i] != NULL && strcmp(all_kept[i]->name, before) == 0) {
+            kept *k = realloc(all_kept[i], sizeof *k + strlen(to) + 1);
+            if (k == NULL) {
+                stop("no memory");
+            }
+            strcpy(k->name, to);
+            all_kept[i] = k;
+        }
+    }
+}
+
 /* FILE_RENAME_INFORMATION: whether it replaces, from where on, how long, the name. */
 static uint32_t rename_file(const kept *k, uint64_t from) {
     char to[2 * NT_NAME_MOST];
@@ -440,6 +456,9 @@ static uint32_t rename_file(const kept *k, uint64_t from) {
         close(new.folder);
     }
     close(old.folder);
+    if (status == STATUS_SUCCESS) {
+        have_path(k->name, to);
+    }
     return status;
 }
 
@@ -478,7 +497,7 @@ static uint32_t moved(uint32_t status, uint64_t count) {
         om_set_event(&om, current->number, handle_of(arg(1)));
     }
     if (arg(2) != 0) {
-        queue_apc(current, arg(2), arg(3), arg(4), 0);
+        queue_apc(current, 0, arg(2), arg(3), arg(4), 0);
     }
     return status;
 }

@@ -138,6 +138,7 @@ typedef struct process process;
 /* A call that a thread makes as soon as it may: of a routine with three arguments. */
 typedef struct apc {
     uint64_t routine, arguments[3];
+    uint64_t timer; /* the data of the timer that made it, or 0 */
     struct apc *next;
 } apc;
 
@@ -168,7 +169,7 @@ typedef enum type { A_THREAD = 1, A_PROCESS, A_FILE, A_SECTION, A_KEYED_EVENT, A
 
 /* What the host keeps at an object of its own. */
 typedef struct kept {
-    uint32_t number; /* of a thread or process */
+    uint32_t number; /* of a thread or process; of a timer with a routine its thread */
     uint32_t code;   /* with which it has ended */
     bool has_ended : 1;
     bool is_directory : 1, is_standard : 1; /* a file */
@@ -176,6 +177,8 @@ typedef struct kept {
     int32_t priority;
     uint64_t at;    /* where it is read next */
     uint64_t size;  /* of a section */
+    uint64_t routine, with, due; /* of a timer: what its thread runs at that moment, or 0 */
+    uint32_t period;             /* and each so many milliseconds, or 0 */
     uint64_t entries_size, next_entry; /* of a directory that was asked for its entries */
     char form[256]; /* of which form those are */
     int file;       /* of a file or a section: the descriptor, or -1 (what is before this is in a savestate as it stands) */
@@ -327,6 +330,9 @@ bool inherits(uint64_t attributes);
 void text_of(uint64_t unicode, char *out, size_t capacity);
 void name_of(uint64_t attributes, char *out, size_t capacity);
 void forget(uint64_t data);
+void run_routines(void);
+void drop_routines(uint32_t of);
+extern uint64_t next_routine;
 
 /* waits.c */
 void answered(thread *t, uint32_t code);
@@ -341,7 +347,8 @@ void end_all(void);
 /* context.c */
 void raise_exception(thread *t, uint32_t code, const uint64_t *information, uint32_t count);
 void run_apc(thread *t, uint32_t status);
-void queue_apc(thread *t, uint64_t routine, uint64_t a, uint64_t b, uint64_t c);
+void queue_apc(thread *t, uint64_t timer, uint64_t routine, uint64_t a, uint64_t b, uint64_t c);
+void cancel_apc(thread *t, uint64_t timer);
 void first_context(uint8_t *context, uint64_t stack, uint64_t start, uint64_t entry, uint64_t with);
 
 /* files.c */

@@ -230,17 +230,67 @@ uint32_t NtReleaseSemaphore(void) {
     return status;
 }
 
-/* ---- Timers ---- */
+/* ---- Timers, and their routines, whose moments the host keeps ---- */
 
+uint64_t next_routine = UINT64_MAX; /* when the next one is due, or what was */
+
+/* Each routine that is due is queued for its thread, which has it queued once at most. */
+void run_routines(void) {
+    next_routine = UINT64_MAX;
+    for (uint32_t i = 0; i < SLOTS; i++) {
+        kept *k = all_kept[i];
+        thread *t = k == NULL || k->due == 0 ? NULL : thread_numbered(k->number);
+        if (t == NULL) {
+            continue;
+        }
+        if (k->due <= now()) {
+            cancel_apc(t, i + 1);
+            queue_apc(t, i + 1, k->routine, k->with, k->due & UINT32_MAX, k->due >> 32);
+            k->due = k->period == 0 ? 0 : now() + k->period * (uint64_t)10000 - (now() - k->due) % (k->period * (uint64_t)10000);
+        }
+        if (k->due != 0 && k->due < next_routine) {
+            next_routine = k->due;
+        }
+    }
+}
+
+/* The timer of the call's handle has another routine from now on, or none: 0. */
+static void set_routine(uint64_t routine, uint64_t with, int64_t due, uint32_t period) {
+    om_handle_info info = {0};
+    om_query_handle(&om, in->member.process, handle_of(arg(0)), &info);
+    kept *k = kept_at(info.data);
+    thread *before = k == NULL || k->routine == 0 ? NULL : thread_numbered(k->number);
+    if (before != NULL) {
+        cancel_apc(before, info.data);
+    }
+    if (k != NULL || routine != 0) {
+        k = k == NULL ? keep(info.object, "") : k;
+        k->number = current->number;
+        k->routine = routine;
+        k->with = with;
+        k->due = routine == 0 ? 0 : due > 0 ? (uint64_t)due : now() - (uint64_t)due;
+        k->period = period;
+        next_routine = k->due != 0 && k->due < next_routine ? k->due : next_routine;
+    }
+}
+
+/* A thread ends, and its timers' routines with it. */
+void drop_routines(uint32_t of) {
+    for (uint32_t i = 0; next_routine != UINT64_MAX && i < SLOTS; i++) {
+        if (all_kept[i] != NULL && all_kept[i]->routine != 0 && all_kept[i]->number == of) {
+            all_kept[i]->routine = all_kept[i]->due = 0;
+        }
+    }
+}
+
+/* NtSetTimer (HANDLE, &DUE, ROUTINE, WITH, RESUMES, PERIOD, &BEFORE) */
 uint32_t NtSetTimer(void) {
     int64_t due = (int64_t)get(arg(1), 8);
     om_object_state before = state_before();
-    if (arg(2) != 0) {
-        return STATUS_NOT_IMPLEMENTED; /* with a routine */
-    }
     tell_time();
     uint32_t status = status_of(om_set_periodic_timer(&om, current->number, handle_of(arg(0)), due, (int32_t)arg(5)), arg(0));
     if (status == STATUS_SUCCESS) {
+        set_routine(arg(2), arg(3), due, (uint32_t)arg(5));
         put(arg(6), before.signaled, 1);
     }
     return status;
@@ -250,6 +300,7 @@ uint32_t NtCancelTimer(void) {
     om_object_state before = state_before();
     uint32_t status = status_of(om_cancel_timer(&om, current->number, handle_of(arg(0))), arg(0));
     if (status == STATUS_SUCCESS) {
+        set_routine(0, 0, 0, 0);
         put(arg(1), before.signaled, 1);
     }
     return status;

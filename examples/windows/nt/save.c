@@ -1,7 +1,7 @@
-/* All that there is in a file, and a run that goes on from there: the host's numbers, files that have no name, processes with what of their memory isn't zeros,
- * threads, the library's savestate, what is kept at objects, and a digest of it all, which finds what was cut or changed by accident. A file is for the build of
- * the host that wrote it; the files of the drive aren't in it. Of one that was changed on purpose, with its digest, each count and each place is tested, and no
- * more. */
+/* All that there is in a file, and a run that goes on from there: the host's numbers, files that have no name, processes with what of their memory isn't
+ * zeros, threads, the library's savestate, what is kept at objects, and a digest of it all, which finds what was cut or changed by accident. A file is for the
+ * build of the host that wrote it; the files of the drive aren't in it. Of one that was changed on purpose, with its digest, each count and each place is
+ * tested, and no more. */
 #define _GNU_SOURCE
 #include "nt.h"
 
@@ -78,6 +78,7 @@ static void numbers(void) {
     left = number(left);
     goes_on = number(goes_on) != 0;
     last_unique = number(last_unique);
+    next_routine = number(next_routine);
     exit_code = (uint32_t)number(exit_code);
     has_first_ended = number(has_first_ended) != 0;
     threads_end = (uint32_t)number(threads_end);
@@ -367,6 +368,9 @@ static void all_that_is_kept(void) {
         bool is_whole = k->entries_size == entries_size && k->next_entry <= entries_size && memchr(k->form, 0, sizeof k->form) != NULL;
         file.is_good = file.is_good && is_whole && strlen(k->name) == name_length;
         file_of(k);
+        struct stat is;
+        bool is_copied = k->is_image || k->is_copied || k->size == 0; /* else views are of the file itself */
+        file.is_good = file.is_good && (is_copied || (k->name[0] == 0 && fstat(k->file, &is) == 0 && k->size <= whole_pages((uint64_t)is.st_size)));
     }
 }
 
@@ -384,9 +388,9 @@ static bool is_one_run(void) {
     om_object object;
     om_object_state state;
     for (uint32_t from = 0; om_next_object(&om, from, &object) == OM_SUCCESS; from = object.slot + 1) {
-        is_good = is_good && om_state(&om, object.slot, object.generation, &state) == OM_SUCCESS;
         uint64_t data = om_object_data(&om, object.slot, object.generation);
-        is_good = is_good && (state.kind < OM_HOST(0) || (data == object.slot + (uint64_t)1 && all_kept[object.slot] != NULL));
+        is_good = is_good && om_state(&om, object.slot, object.generation, &state) == OM_SUCCESS && (data == 0 || data == object.slot + (uint64_t)1);
+        is_good = is_good && (state.kind < OM_HOST(0) || kept_at(data) != NULL);
     }
     for (const process *p = processes; p < processes + PROCESSES && is_good; p++) {
         is_good = p->engine == NULL || (process_numbered(p->member.process) == p && is_own(&p->own, A_PROCESS));

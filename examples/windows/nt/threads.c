@@ -92,14 +92,18 @@ uint64_t now(void) {
     return BEGAN + idle + instructions / PER_UNIT;
 }
 
-/* Tells the library the time: what was due by now comes in the order of its moments. */
+/* Tells the library the time: what was due by now comes in the order of its moments, and then timers' routines. */
 void tell_time(void) {
     must(om_advance(&om, now()), "the time");
+    if (next_routine <= now()) {
+        run_routines();
+    }
 }
 
 static uint64_t next_moment(void) {
     uint64_t moment;
-    return om_next_due(&om, &moment) == OM_SUCCESS ? moment : UINT64_MAX;
+    bool is_due = om_next_due(&om, &moment) == OM_SUCCESS && moment < next_routine;
+    return is_due ? moment : next_routine;
 }
 
 /* A KSYSTEM_TIME: the high half twice, so that a reader sees whether both are of one moment. */
@@ -111,6 +115,9 @@ static void put_moment(uint8_t *to, uint64_t moment) {
 static void show_time(void) {
     uint8_t *shared = bytes_if(SHARED, PAGE);
     uint64_t since = now() - BEGAN + 10000000; /* as if the machine had begun a second before */
+    if (shared == NULL) {
+        return; /* a savestate that lies has none */
+    }
     put_moment(shared + SHARED_INTERRUPT_TIME, since);
     put_moment(shared + SHARED_SYSTEM_TIME, now());
     put_moment(shared + SHARED_TICKS, since / 10000);

@@ -12,7 +12,7 @@ typedef enum base { BEGINNING, LIBRARY, BEHIND_LIBRARY } base;
 
 enum {
     NUMBERS = 24 + 3 * 8, /* behind the mark and what the build is */
-    HOST = NUMBERS + 11 * 8,
+    HOST = NUMBERS + 12 * 8,
     CALLS_AT = HOST + (int)sizeof(om_member),
     DRIVE = CALLS_AT + (int)sizeof system_calls,
     NAMELESS = DRIVE + (int)sizeof drive_folder,
@@ -31,8 +31,8 @@ static const struct {
     uint64_t value;
 } lies[] = {
     {"another seed, which is no lie", BEGINNING, NUMBERS, 8, 7},
-    {"more threads than there can be", BEGINNING, NUMBERS + 9 * 8, 8, THREADS + 1},
-    {"a turn of nobody", BEGINNING, NUMBERS + 10 * 8, 8, THREADS},
+    {"more threads than there can be", BEGINNING, NUMBERS + 10 * 8, 8, THREADS + 1},
+    {"a turn of nobody", BEGINNING, NUMBERS + 11 * 8, 8, THREADS},
     {"another host's process", BEGINNING, HOST, 4, 77},
     {"a system call without an end to its name", BEGINNING, CALLS_AT, sizeof(system_call), 'x'},
     {"a folder without an end", BEGINNING, DRIVE, sizeof drive_folder, 'x'},
