@@ -8,10 +8,8 @@
 #     make dist                  all that as a tarball in build/, for machines without the kit, wherever it is unpacked
 #     make examples              builds and runs the examples in C, C++, Rust and Python
 #     make check                 passes every check (./check)
-#     make windows               builds examples/windows: Windows programs, and a host that runs them, in build/windows; it needs
-#                                mingw-w64 and Unicorn (docs/WINDOWS.md)
-#     make nt                    builds examples/windows/nt, a host that runs Windows programs at the system calls: build/windows/nt; it needs
-#                                Unicorn and Capstone, and runs them by the DLLs of an installed Wine
+#     make windows               builds examples/windows: Windows programs, and build/windows/nt, a host that runs such by the DLLs of an
+#                                installed Wine; it needs mingw-w64, Unicorn and Capstone (docs/WINDOWS.md); LIBRARY as below
 #     make win32                 builds examples/win32: the calls of Windows for the threads of one process, build/win32/libwin32.a, and a
 #                                Windows program on it, build/win32/buffer; LIBRARY may name another archive than build/libobman.a
 #
@@ -44,7 +42,7 @@ HEADERS = $(shell realpath -ms --relative-to=$(LIBDIR) $(INCLUDEDIR))
 WIN32 = $(patsubst examples/win32/%.c,build/win32/%.o,$(wildcard examples/win32/*.c))
 GUESTS = $(patsubst examples/windows/guests/%.c,build/windows/%.exe,$(wildcard examples/windows/guests/*.c))
 
-.PHONY: all proved check install install-strip dist examples windows nt win32 clean
+.PHONY: all proved check install install-strip dist examples windows win32 clean
 
 all: build/libobman.a build/libobman.so
 
@@ -123,13 +121,7 @@ examples: all
 check:
 	./check
 
-windows: build/windows/host $(GUESTS)
-
-build/windows/host: $(wildcard examples/windows/host/*) include/obman.h build/libobman.a
-	mkdir -p $(@D)
-	$(CC) -std=c11 -O2 -Iinclude -o $@ $(filter %.c,$^) build/libobman.a -lunicorn
-
-nt: build/windows/nt
+windows: build/windows/nt $(GUESTS)
 
 # (fast.c stands before functions of Unicorn's library, which finds it among what the program exports)
 build/windows/nt: $(wildcard examples/windows/nt/*) include/obman.h $(LIBRARY)

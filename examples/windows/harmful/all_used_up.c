@@ -4,7 +4,9 @@
 
 enum { WAYS = 6, GRANDCHILD = WAYS };
 
-static const char *const ways[WAYS] = {"handles", "events", "handles to threads that ended", "threads with large stacks", "timers that come again", "processes"};
+static const char *const ways[WAYS] = {
+    "handles", "events", "handles to threads that ended", "threads with large stacks", "timers that come again", "processes",
+};
 
 static DWORD WINAPI sleeper(void *milliseconds) {
     Sleep((DWORD)(ULONG_PTR)milliseconds);
