@@ -472,7 +472,7 @@ void load(const char *path) {
         stop("%s is no savestate of this host", path);
     }
     find_served();
-    for (uint64_t i = 0; i < nameless_count; i++) {
-        close(nameless[i].file);
+    while (nameless_count > 0) {
+        close(nameless[--nameless_count].file); /* those who have it have descriptors of their own */
     }
 }
