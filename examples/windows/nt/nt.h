@@ -146,6 +146,7 @@ typedef struct apc {
  * event. */
 typedef enum waiting { RUNS, FOR_OBJECTS, FOR_TIME, FOR_ALERT, FOR_RELEASE, FOR_WAITER } waiting;
 
+/* (A bool here is one bit, so that whatever byte a savestate has is one.) */
 typedef struct thread {
     registers now;
     uint32_t number; /* the library's; 0 where there is none */
