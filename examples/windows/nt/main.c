@@ -178,7 +178,7 @@ static void begin_trace(const om_limits *limits) {
     if (trace == NULL) {
         stop("%s can't be written", options.trace);
     }
-    fprintf(trace, "# obman --more --reuse --slots=%u --processes=%u --threads=%u", limits->slots, limits->processes, limits->threads);
+    fprintf(trace, "# obman --more --reuse --repeats --slots=%u --processes=%u --threads=%u", limits->slots, limits->processes, limits->threads);
     fprintf(trace, " --handles=%u --waits=%u\n", limits->handles, limits->waits);
     must(om_record(&om, true), "a record");
 }
@@ -197,7 +197,7 @@ static void begin_run(void) {
     om_limits limits = LIMITS;
     uint64_t own = seed;
     if (options.load == NULL) {
-        must(om_new_reusing(&limits, &om), "a manager");
+        must(om_new_with(&limits, true, true, &om), "a manager");
         if (options.trace != NULL) {
             begin_trace(&limits);
         }

@@ -159,7 +159,6 @@ typedef struct thread {
     uint64_t block, stack, stack_size;
     uint64_t entry;
     uint64_t key;         /* of a keyed event, or the address of a wait for an alert */
-    uint8_t places[64];   /* of its wait's objects among the handles that it passed */
     om_opening own;       /* the object that stands for it, by the host's handle */
     process *of;          /* (what is before this is in a savestate as it stands) */
     apc *apcs;

@@ -10,19 +10,13 @@ static int64_t until(uint64_t pointer) {
     return pointer == 0 ? OM_FOREVER : (int64_t)get(pointer, 8);
 }
 
-/* What a wait answers whose code is the library's, which are the same numbers but that the index is that of the handle that was passed. */
-static uint32_t placed(const thread *t, uint32_t code) {
-    uint32_t index = code & (OM_MAXIMUM_WAIT_OBJECTS - 1);
-    return code < OM_WAIT_OBJECT_0 + 64 || (OM_WAIT_ABANDONED_0 <= code && code < OM_WAIT_ABANDONED_0 + 64) ? code - index + t->places[index] : code;
-}
-
 /* Whether an alertable wait isn't begun, since an APC is there: that runs first. */
 static bool has_apc(bool alertable) {
     current->has_apc = alertable && current->apcs != NULL;
     return current->has_apc;
 }
 
-/* What a wait that began answers; where it is pending that is said when it ends. */
+/* What a wait that began answers, whose code is the same number as NT's status; where it is pending that is said when it ends. */
 static uint32_t begun(uint32_t error, uint32_t code, waiting waits, bool alertable) {
     if (error == OM_ERROR_IO_PENDING) {
         current->waits = waits;
@@ -30,7 +24,7 @@ static uint32_t begun(uint32_t error, uint32_t code, waiting waits, bool alertab
         return STATUS_PENDING;
     }
     ends_turn = ends_turn || (error == OM_SUCCESS && code == OM_WAIT_TIMEOUT); /* so that what it polls for can come */
-    return error == OM_SUCCESS ? placed(current, code) : status_of(error, 0);
+    return error == OM_SUCCESS ? code : status_of(error, 0);
 }
 
 /* A wait of the library's for nothing, which the host or its moment ends. */
@@ -54,7 +48,7 @@ void answered(thread *t, uint32_t code) {
         stop("an answer for no thread");
     }
     waiting was = t->waits;
-    uint32_t status = code == OM_WAIT_IO_COMPLETION ? says[was].alerted : code == OM_WAIT_TIMEOUT ? says[was].timed_out : placed(t, code);
+    uint32_t status = code == OM_WAIT_IO_COMPLETION ? says[was].alerted : code == OM_WAIT_TIMEOUT ? says[was].timed_out : code;
     t->waits = RUNS;
     t->alertable = false;
     t->now.whole[RAX] = status;
@@ -90,7 +84,6 @@ static uint32_t wait_for(const uint32_t *handles, size_t count, bool all, bool a
 static uint32_t wait_for_one(uint64_t object, bool alertable, int64_t due) {
     bool is_own;
     uint32_t handle = waitable(object, &is_own);
-    current->places[0] = 0;
     uint32_t status = wait_for(&handle, 1, false, alertable, due);
     if (is_own) {
         close_own(handle);
@@ -101,22 +94,6 @@ static uint32_t wait_for_one(uint64_t object, bool alertable, int64_t due) {
 uint32_t NtWaitForSingleObject(void) {
     int64_t due = until(arg(2));
     return wait_for_one(arg(0), (uint8_t)arg(1) != 0, due);
-}
-
-/* In a wait for any a handle may stand several times, as in those of thread pools; the library refuses that with 87, and the first place stands for all. */
-static uint32_t first_places(uint32_t *handles, uint32_t count) {
-    uint32_t kept = 0;
-    for (uint32_t i = 0; i < count; i++) {
-        uint32_t k = 0;
-        while (k < kept && handles[k] / 4 != handles[i] / 4) {
-            k++;
-        }
-        if (k == kept) {
-            current->places[kept] = (uint8_t)i;
-            handles[kept++] = handles[i];
-        }
-    }
-    return kept;
 }
 
 uint32_t NtWaitForMultipleObjects(void) {
@@ -131,9 +108,7 @@ uint32_t NtWaitForMultipleObjects(void) {
     }
     for (uint32_t i = 0; i < count; i++) {
         handles[i] = handle_of(get(arg(1) + 8 * i, 8));
-        current->places[i] = (uint8_t)i;
     }
-    count = any ? first_places(handles, count) : count;
     return wait_for(handles, count, !any, alertable, due);
 }
 
@@ -145,7 +120,6 @@ uint32_t NtSignalAndWaitForSingleObject(void) {
         due = 0; /* the signal is given, and the APC ends the wait */
     }
     uint32_t handle = waitable(arg(1), &is_own);
-    current->places[0] = 0;
     tell_time();
     uint32_t error = om_signal_and_wait(&om, current->number, signal, handle, due, &code);
     om_handle_info info;
