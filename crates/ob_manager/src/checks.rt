@@ -3,12 +3,13 @@ ghost use Rattle.ob_body.specs.Body as spec;
 ghost use Rattle.ob_store.specs.Kept.{IsLive};
 ghost use Rattle.ob_tables.specs.Table.{entry_at};
 ghost use Rattle.ob_tables.specs.Tables.{table_of};
-ghost use Rattle.ob_manager.specs.Checks.{caller, found, granted, if_kind, is_allowed, natural, positive, same_kind};
+ghost use Rattle.ob_manager.specs.Checks.{body_of, caller, found, granted, if_kind, is_allowed, natural, positive, same_kind};
 
 use ob_body::Body;
 use ob_rights::{Fault, Kind, Rights, within};
 use ob_store::Store;
 use ob_tables::Entry;
+use pin_core::Id;
 use pin_words::PinKeeper;
 
 /// The process of a thread that makes a call in its own name: refused with 87 where the thread isn't live, and with 170
@@ -63,6 +64,16 @@ pub fn if_kind(kind: Kind, body: Option<Body>) -> Result<Body, Fault>
         Some(body) if same_kind(body.kind(), kind) => Ok(body),
         _ => Err(Fault::Handle),
     }
+}
+
+/// The body of an object; refused with 6 where it isn't of the kind.
+#[inline(always)]
+pub fn body_of<K: PinKeeper>(store: &Store<K>, id: Id, kind: Kind) -> Result<Body, Fault>
+    ensures value { result ≡ body_of store.now.state id kind }
+    ensures is_there { IfOk result (λ body. slice_index_or store.now.state.bodies id.slot None ≡ Some body) }
+    ensures kind { IfOk result (λ body. spec.kind_of body ≡ kind) }
+{
+    if_kind(kind, store.body(id))
 }
 
 /// Refused with 5 where the handle wasn't granted the right.

@@ -4,15 +4,15 @@ ghost use Rattle.ob_manager.specs.Signaling.{pulse_event, release_mutex, release
 ghost use Rattle.ob_manager.specs.Signaling.{host_of};
 ghost use Rattle.ob_manager.specs.Steps.{Gives};
 
-use crate::checks::{caller, found, granted, positive};
+use crate::checks::{body_of, caller, found, granted, positive};
 use crate::reply::Reply;
 use ob_body::Body;
-use ob_rights::{Fault, Rights};
+use ob_rights::{Fault, Kind, Rights};
 use ob_store::Store;
 use pin_core::Id;
 use pin_words::PinKeeper;
 
-// A body is matched where it is found: one that is handed on whole is copied piece by piece.
+// An event is matched where it is found: a body that is handed on whole is copied piece by piece.
 
 /// Sets an event.
 #[inline(always)]
@@ -88,11 +88,9 @@ pub fn release_semaphore<K: PinKeeper>(
         return Err(Fault::Parameter);
     };
     let entry = found(store, process, handle)?;
-    let Some(Body::Semaphore(semaphore)) = store.body(entry.id) else {
-        return Err(Fault::Handle);
-    };
+    let semaphore = body_of(store, entry.id, Kind::Semaphore)?;
     granted(Rights::MODIFY_STATE, entry)?;
-    let count = store.post(entry.id, Body::Semaphore(semaphore), more)?;
+    let count = store.post(entry.id, semaphore, more)?;
     Ok(Reply::Previous { count })
 }
 
@@ -106,10 +104,8 @@ pub fn release_mutex<K: PinKeeper>(
 {
     let process = caller(store, thread)?;
     let entry = found(store, process, handle)?;
-    let Some(Body::Mutex(mutex)) = store.body(entry.id) else {
-        return Err(Fault::Handle);
-    };
-    store.unlock(entry.id, Body::Mutex(mutex), thread)?;
+    let mutex = body_of(store, entry.id, Kind::Mutex)?;
+    store.unlock(entry.id, mutex, thread)?;
     Ok(Reply::Done)
 }
 

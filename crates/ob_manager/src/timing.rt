@@ -3,10 +3,9 @@ ghost use Rattle.ob_manager.specs.Checks.{caller};
 ghost use Rattle.ob_manager.specs.Steps.{Gives};
 ghost use Rattle.ob_manager.specs.Timing.{arm_timer, cancel_timer, moment_of, set_periodic_timer, set_timer, tick};
 
-use crate::checks::{caller, found, granted, natural};
+use crate::checks::{body_of, caller, found, granted, natural};
 use crate::reply::Reply;
-use ob_body::Body;
-use ob_rights::{Fault, Rights};
+use ob_rights::{Fault, Kind, Rights};
 use ob_store::{LAST_MOMENT, Store};
 use pin_words::PinKeeper;
 
@@ -36,12 +35,10 @@ fn arm<K: PinKeeper>(
     ensures { Gives result store.old store.new (arm_timer store.old.state thread handle due period) }
 {
     let entry = found(store, process, handle)?;
-    let Some(Body::Timer(timer)) = store.body(entry.id) else {
-        return Err(Fault::Handle);
-    };
+    let timer = body_of(store, entry.id, Kind::Timer)?;
     granted(Rights::MODIFY_STATE, entry)?;
     let moment = moment_of(store.now(), due);
-    store.arm(entry.id, Body::Timer(timer), moment, period);
+    store.arm(entry.id, timer, moment, period);
     Ok(Reply::Done)
 }
 
@@ -87,11 +84,9 @@ pub fn cancel_timer<K: PinKeeper>(
 {
     let process = caller(store, thread)?;
     let entry = found(store, process, handle)?;
-    let Some(Body::Timer(timer)) = store.body(entry.id) else {
-        return Err(Fault::Handle);
-    };
+    let timer = body_of(store, entry.id, Kind::Timer)?;
     granted(Rights::MODIFY_STATE, entry)?;
-    store.disarm(entry.id, Body::Timer(timer));
+    store.disarm(entry.id, timer);
     Ok(Reply::Done)
 }
 
