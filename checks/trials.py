@@ -16,7 +16,7 @@ PROGRAM = pathlib.Path(os.environ.get("OBMAN", ROOT / "crates" / "obman" / "out"
 LIBRARY = ROOT / "build" / "libobman.a"
 INCLUDE = ["-I", ROOT / "include"]
 # What stands between a host and the library, which has a manager recorded, or begun with pins.
-WRAPPED = ["-Wl,--wrap=om_new", "-Wl,--wrap=om_new_reusing", "-Wl,--wrap=om_free", ROOT / "checks" / "wrapped.c"]
+WRAPPED = ["-Wl,--wrap=om_new", "-Wl,--wrap=om_new_with", "-Wl,--wrap=om_free", ROOT / "checks" / "wrapped.c"]
 # The worked rows, the examples, and what plays scripts by the calls of Windows, with scripts that show departures from it.
 ROWS, EXAMPLES, WINDOWS = ROOT / "crates" / "obman" / "rows", ROOT / "examples", ROOT / "tools" / "windows"
 # The options for limits, in the order of om_limits.

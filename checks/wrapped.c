@@ -1,4 +1,4 @@
-/* Stands between the host that it is linked with, by --wrap of om_new, om_new_reusing and om_free, and the library. Where RECORD names a file, all calls
+/* Stands between the host that it is linked with, by --wrap of om_new, om_new_with and om_free, and the library. Where RECORD names a file, all calls
  * of a manager are recorded to it. Else a manager begins with objects that have ended and that readers pin, to the host's end: more of
  * them than a short list has places. */
 #include <err.h>
@@ -9,7 +9,7 @@
 enum { READERS = 3, PINS = 16 };
 
 uint32_t __real_om_new(const om_limits *limits, om_manager *m);
-uint32_t __real_om_new_reusing(const om_limits *limits, om_manager *m);
+uint32_t __real_om_new_with(const om_limits *limits, bool reuse, bool repeats, om_manager *m);
 void __real_om_free(om_manager m);
 
 static om_reader readers[READERS];
@@ -66,8 +66,8 @@ uint32_t __wrap_om_new(const om_limits *limits, om_manager *m) {
     return begun(__real_om_new(limits, m), m);
 }
 
-uint32_t __wrap_om_new_reusing(const om_limits *limits, om_manager *m) {
-    return begun(__real_om_new_reusing(limits, m), m);
+uint32_t __wrap_om_new_with(const om_limits *limits, bool reuse, bool repeats, om_manager *m) {
+    return begun(__real_om_new_with(limits, reuse, repeats, m), m);
 }
 
 void __wrap_om_free(om_manager m) {
