@@ -325,24 +325,19 @@ public:
     }
     ~manager() { om_free(m_); }
     // One whose numbers come back: a new process or thread has the least number that no live one has, and a wait is called by its thread.
-    static manager reusing(const om_limits &limits = default_limits) { return new_with(true, false, limits); }
+    static manager reusing(const om_limits &limits = default_limits) {
+        om_manager m{nullptr};
+        return made(om_new_reusing(&limits, &m), m);
+    }
     // One whose numbers come back or not, and which takes a handle twice in a wait for any or not.
     static manager new_with(bool reuse, bool repeats, const om_limits &limits = default_limits) {
         om_manager m{nullptr};
-        std::uint32_t status = om_new_with(&limits, reuse, repeats, &m);
-        if (status != OM_SUCCESS) {
-            fail(status);
-        }
-        return manager(m);
+        return made(om_new_with(&limits, reuse, repeats, &m), m);
     }
     // The manager of a savestate. Bytes that are none give the error OM_ERROR_INVALID_DATA.
     static manager load(span<const unsigned char> bytes) {
         om_manager m{nullptr};
-        std::uint32_t status = om_load(bytes.data(), bytes.size(), &m);
-        if (status != OM_SUCCESS) {
-            fail(status);
-        }
-        return manager(m);
+        return made(om_load(bytes.data(), bytes.size(), &m), m);
     }
     om_manager *get() const noexcept { return &m_; }
 
@@ -560,6 +555,12 @@ public:
     }
 
 private:
+    static manager made(std::uint32_t status, const om_manager &m) {
+        if (status != OM_SUCCESS) {
+            fail(status);
+        }
+        return manager(m);
+    }
     // A call whose last parameter is where its value goes.
     template <class T, class Call, class... Words> result<T> with(Call call, Words... words) const noexcept {
         T value{};
