@@ -20,12 +20,9 @@ full f first (suc n) at k is low eq = by (λ m len less same. full f (suc first)
         → slice_get (rows_between f (suc first) n) m ≡ f k)
         → (o : Option Row) → f first ≡ o → (m : ℕ) → m < suc n → k ≡ first + m
         → slice_get (rows_between f first (suc n)) m ≡ f k
-    by later None none m less same =
-        search (arith, few_rows)
-    by later (Some row) some zero less same =
-        search arith
-    by later (Some row) some (suc m) less same =
-        search arith
+    by later None none m less same = search (arith, few_rows)
+    by later (Some row) some zero less same = search arith
+    by later (Some row) some (suc m) less same = search arith
 
 pub direct : (entries : List Named) (order : List ℕ) (at : ℕ) → length (rows_of entries order) ≡ length order
     → row_on entries order at ≡ slice_get (rows_of entries order) at

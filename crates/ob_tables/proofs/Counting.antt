@@ -1,8 +1,7 @@
 -- How the number of entries, and of those that name an object, changes with each change of the tables.
 use Rattle.ob_codec.proofs.AtPlace.{at_place}
 use Rattle.std.proofs.lemmas.Grind.{common_steps}
-use Rattle.std.proofs.Common.{◌≡◌, ℕ, zero, suc, ◌+◌, ◌<◌, ◌≤◌, List, [], ◌∷◌, length, Option, Some, None, refl, arith, get_or, set, map, Bool, true, false, cond, ltb, inl, inr}
-use Rattle.std.proofs.lemmas.Bool.{cases_lt}
+use Rattle.std.proofs.Common.{◌≡◌, ℕ, zero, suc, ◌+◌, ◌<◌, ◌≤◌, List, [], ◌∷◌, length, Option, Some, None, refl, arith, get_or, set, map, Bool, true, false, cond, ltb}
 use Rattle.std.specs.Prelude.{count_by, sum_by}
 use Rattle.std.proofs.lemmas.Option.{none-some}
 use Rattle.std.proofs.lemmas.List.Sums.{sum_by-cons, sum_by-append, sum_by-set, get_or-le-sum_by}
@@ -22,9 +21,6 @@ one_of id e = cond (same_id e.id id) 1 0
 
 pub one_id : (a b : Id) → same_id a b ≡ true → a ≡ b
 one_id a b h = search arith
-
-pub one_of-same : (e : Entry) → one_of e.id e ≡ 1
-one_of-same e = search arith
 
 -- what is not None stands within the list
 pub some_within : {A : Type 0} (t : List (Option A)) (k : ℕ) (e : A) → get_or t k None ≡ Some e → k < length t
@@ -89,18 +85,14 @@ module _ (p : Option Entry → Bool) (none : p None ≡ false) where
   -- a table comes where none had an entry
   pub counted-with_table : (ts : List (List (Option Entry))) (k : ℕ) (from : Option ℕ) → table_of ts k ≡ []
       → counted p (with_table ts k from) ≡ counted p ts + count_by p (new_table ts from)
-  counted-with_table ts k from none = elim (cases_lt k (length ts)) [
-    | inl lt ↦ search (arith, sum_by-set)
-    | inr le ↦ search (arith, sum_by-append)
-  ]
+  counted-with_table ts k from none = search (arith, sum_by-append, sum_by-set)
 
   pub counted-without_entries : (ts : List (List (Option Entry))) (k : ℕ) → k < length ts
       → counted p (without_entries ts k) + count_by p (table_of ts k) ≡ counted p ts
   counted-without_entries ts k h = search (arith, sum_by-set)
 
   -- what a child inherits is among what its parent has
-  count_by-before : (x : Option Entry) (t : List (Option Entry))
-      → count_by p (before x t) ≡ weight p x + count_by p t
+  count_by-before : (x : Option Entry) (t : List (Option Entry)) → count_by p (before x t) ≡ weight p x + count_by p t
   count_by-before a0 a1 = grind (arith, common_steps)
 
   count_by-trimmed : (t : List (Option Entry)) → count_by p (trimmed t) ≡ count_by p t

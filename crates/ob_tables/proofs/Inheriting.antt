@@ -20,7 +20,7 @@ trimmed_none (x ∷ t) = ap (before x) (trimmed_none t)
 
 pub trimmed_some : (t : List (Option Entry)) (e : Entry) → trimmed (t ++ Some e ∷ []) ≡ t ++ Some e ∷ []
 trimmed_some [] e = refl
-trimmed_some (x ∷ t) e = ap (before x) (trimmed_some t e) ∙ before_some x t e
+trimmed_some (x ∷ t) e = search (arith, before_some, trimmed_some t e)
 
 -- what is left is the beginning of the table
 pub trimmed_take : (t : List (Option Entry)) → trimmed t ≡ take (length (trimmed t)) t

@@ -12,9 +12,6 @@ use Rattle.ob_tables.proofs.Places.{with_entry_at, with_entry_end}
 pub entries_in-some : (x : Entry) (t : List (Option Entry)) → entries_in (Some x ∷ t) ≡ suc (entries_in t)
 entries_in-some x t = search (arith, sum_by-cons)
 
-pub entries_in-none : (t : List (Option Entry)) → entries_in (None ∷ t) ≡ entries_in t
-entries_in-none t = search arith
-
 -- there are as many entries as places, or fewer
 pub entries_in-le : (t : List (Option Entry)) → entries_in t ≤ length t
 entries_in-le = count_by-le-length is_some
@@ -28,7 +25,7 @@ full_entries (Some x ∷ t) h = omega (arith, entries_in-some x t, full_entries 
 -- and one with a free place has fewer
 pub short_entries : (t : List (Option Entry)) → free_place t < length t → entries_in t < length t
 short_entries [] h = absurd (omega arith)
-short_entries (None ∷ t) h = omega (arith, entries_in-none t, entries_in-le t)
+short_entries (None ∷ t) h = omega (arith, entries_in-le t)
 short_entries (Some x ∷ t) h = omega (arith, entries_in-some x t, short_entries t (omega arith))
 
 pub free_place-le : (t : List (Option Entry)) → free_place t ≤ length t
@@ -71,14 +68,7 @@ room_at ts p m t n short lt read is below = search (arith, has_room, get_or_read
 -- an entry below the limit keeps a table within it
 pub length-with_entry : (t : List (Option Entry)) (e : Entry) (m : ℕ) → length t ≤ m → free_place t < m
     → length (with_entry t e) ≤ m
-length-with_entry t e m short below = search (
-  arith,
-  free_place-le,
-  length-append,
-  length-set,
-  with_entry_at,
-  with_entry_end,
-)
+length-with_entry t e m short below = search (arith, free_place-le, length-append, length-set, with_entry_at, with_entry_end)
 
 -- a table comes, or changes
 pub short_pushed : (ts : List (List (Option Entry))) (t : List (Option Entry)) (m : ℕ)

@@ -39,7 +39,7 @@ least_place taken t kept = search (arith, least_free_places)
 -- as many numbers are taken as there are entries
 pub entries_taken : (taken : List Bool) (t : List (Option Entry)) → TableInvariant taken t
     → taken_count taken ≡ entries_in t
-entries_taken taken t kept = ap taken_count kept.same ∙ counted_map is_some t
+entries_taken taken t kept = search (arith, counted_map)
 
 pub place_is_free : (taken : List Bool) (t : List (Option Entry)) (k : ℕ) → TableInvariant taken t
     → k ≡ least_free taken

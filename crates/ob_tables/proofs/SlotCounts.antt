@@ -1,7 +1,6 @@
 -- How the handles of the object in a slot change with each change of the tables.
 use Rattle.std.proofs.lemmas.Grind.{common_steps}
-use Rattle.std.proofs.Common.{◌≡◌, ◌≢◌, ℕ, ◌+◌, ◌*◌, ◌<◌, ◌≤◌, List, [], ◌∷◌, length, Option, Some, None, refl, ap, ◌∙◌, arith, zero, suc, Bool, true, false, cond, eqb}
-use Rattle.std.proofs.lemmas.Bool.Decides.{nat_tests}
+use Rattle.std.proofs.Common.{◌≡◌, ◌≢◌, ℕ, ◌+◌, ◌*◌, ◌<◌, ◌≤◌, List, [], ◌∷◌, length, Option, Some, None, refl, arith, zero, suc, Bool, true, false, cond, eqb}
 use Rattle.std.proofs.lemmas.List.Sums.{sum_by-le, sum_by-cons, sum_by-le-sum_by, count_by-le-length}
 use Rattle.std.proofs.lemmas.List.Elements.{All-from_get_or}
 use Rattle.pin_core.specs.Holds.{same_id}
@@ -9,10 +8,9 @@ use Rattle.pin_core.specs.declared.id.Id.{Id}
 use Rattle.ob_rights.specs.declared.handle_flags.HandleFlags.{HandleFlags}
 use Rattle.ob_tables.specs.declared.entry.Entry.{Entry}
 use Rattle.ob_tables.specs.Table.{at, entry_at}
-use Rattle.ob_tables.specs.Inheritance.{inherited}
 use Rattle.ob_tables.specs.Counts.{names, names_slot, handles_in, handles_among, slot_handles_in, slot_handles}
 use Rattle.ob_tables.specs.Tables.{new_table, table_of, with_table, with_entry_of, without_entry_of, with_flags_of, without_entries, IsBounded}
-use Rattle.ob_tables.proofs.Counting.{counted-with_entry, counted-with_flags, counted-with_table, counted-without_entries, same_id-same}
+use Rattle.ob_tables.proofs.Counting.{counted-with_entry, counted-with_flags, counted-with_table, counted-without_entries}
 
 -- 1 for an entry of the object in the slot, and else 0
 abbrev pub one_in : ℕ → Entry → ℕ
@@ -52,9 +50,8 @@ pub slot_handles-few : (slot processes handles : ℕ) (ts : List (List (Option E
     → slot_handles slot ts ≤ 65537 * 16384
 slot_handles-few slot processes handles ts b =
     let each : slot_handles slot ts ≤ length ts * 16384 = sum_by-le (slot_handles_in slot) 16384 ts
-    (All-from_get_or (λ (t : List (Option Entry)). slot_handles_in slot t ≤ 16384) ts [] (λ i lt. let s = b.short i in
-    let f = b.few_handles in omega (arith, s, f, count_by-le-length (names_slot slot) (table_of ts i)))) in
-    let w = b.within in let f = b.few_processes in omega (arith, each, w, f)
+    (All-from_get_or (λ (t : List (Option Entry)). slot_handles_in slot t ≤ 16384) ts [] (λ i lt. omega (arith, count_by-le-length (names_slot slot) (table_of ts i)))) in
+    omega arith
 
 pub slot_handles-le : (id : Id) (ts : List (List (Option Entry))) → handles_among id ts ≤ slot_handles id.slot ts
 slot_handles-le id ts = search (arith, sum_by-le-sum_by)
@@ -69,22 +66,13 @@ slot_handles_in-one : (id : Id) (t : List (Option Entry))
     → slot_handles_in id.slot t ≡ handles_in id t
 slot_handles_in-one id [] one = refl
 slot_handles_in-one id (x ∷ t) one =
-    omega (
-      arith,
-      sum_by-cons (λ y. cond (names_slot id.slot y) 1 0) x t,
-      sum_by-cons (λ y. cond (names id y) 1 0) x t,
-      here x (λ e is. one zero e is),
-      slot_handles_in-one id t (λ i. one (suc i)),
-    )
+    omega (arith, sum_by-cons (λ y. cond (names_slot id.slot y) 1 0) x t, sum_by-cons (λ y. cond (names id y) 1 0) x t, here x (λ e is. one zero e is), slot_handles_in-one id t (λ i. one (suc i)))
   where
     by : (e : Entry) (a b : Bool) → (e.id.slot ≡ id.slot → e.id ≡ id) → same_id e.id id ≡ a → eqb e.id.slot id.slot ≡ b
         → cond {A = ℕ} b 1 0 ≡ cond {A = ℕ} a 1 0
     by e true true own p q = refl
-    by e true false own p q = absurd (grind (arith, nat_tests, p, q))
-    by e false true own p q =
-        let same : e.id ≡ id = own (grind (arith, nat_tests, q)) in
-        let again : same_id e.id id ≡ true = ap (λ (j : Id). same_id j id) same ∙ same_id-same id in
-        absurd (cc (p, again))
+    by e true false own p q = absurd (grind arith)
+    by e false true own p q = search arith
     by e false false own p q = refl
 
     here : (y : Option Entry) → ((e : Entry) → y ≡ Some e → e.id.slot ≡ id.slot → e.id ≡ id)
@@ -96,10 +84,4 @@ pub slot_handles-one : (id : Id) (ts : List (List (Option Entry))) → AreOne id
     → slot_handles id.slot ts ≡ handles_among id ts
 slot_handles-one id [] one = refl
 slot_handles-one id (t ∷ ts) one =
-    omega (
-      arith,
-      sum_by-cons (slot_handles_in id.slot) t ts,
-      sum_by-cons (handles_in id) t ts,
-      slot_handles_in-one id t (one zero),
-      slot_handles-one id ts (λ p. one (suc p)),
-    )
+    omega (arith, sum_by-cons (slot_handles_in id.slot) t ts, sum_by-cons (handles_in id) t ts, slot_handles_in-one id t (one zero), slot_handles-one id ts (λ p. one (suc p)))

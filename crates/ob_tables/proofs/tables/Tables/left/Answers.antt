@@ -6,5 +6,4 @@ pub overflow_sub-result : goal.overflow_sub-result
 overflow_sub-result c =
     let i = c.self.inside in
     let lt : c.args.process < length i.tables.items = search arith in
-    rw c.count.ensures (few_at i.tables.items c.args.process i.handles c.index.result.now
-    (record { each = c.self.invariant.short }) lt c.index.ensures)
+    rw c.count.ensures (search (arith, few_at))

@@ -1,7 +1,6 @@
 use Rattle.ob_codec.proofs.AtPlace.{at_place}
 use Rattle.std.proofs.Common.{arith, ◌≡◌, ◌≤◌, ◌<◌, ap, subst, length, Err, inl, inr}
 use Rattle.std.proofs.lemmas.List.{get_or_read}
-use Rattle.ob_rights.specs.declared.fault.Fault.TheVariants.{Memory}
 use Rattle.ob_tables.specs.Counts.{entries_in}
 use Rattle.ob_tables.specs.Tables.{table_of, HandleTables}
 use Rattle.ob_tables.proofs.Limits.{full_at, room_at, length-with_entry}
@@ -11,11 +10,8 @@ pub invariant_of-self : goal.invariant_of-self
 invariant_of-self c =
     let i = c.self.inside in
     let t = c.index_mut.result.now in
-    let lt : c.args.process < length i.tables.items =
-    search arith in
     let here : t ≡ table_of i.tables.items c.args.process =
     search (arith, get_or_read) in
-    let was : length t ≤ i.handles = search arith in
     let short : length c.place.new.self ≤ i.handles =
     search (arith, length-with_entry)
     in
@@ -24,7 +20,6 @@ invariant_of-self c =
 pub returns-in-Ok-clause-room : goal.returns-in-Ok-clause-room
 returns-in-Ok-clause-room c =
     let i = c.self.inside in
-    let t = c.index_mut.result.now in
     let lt : c.args.process < length i.tables.items =
     search arith in
     rw (← c.self.view_is) (search (arith, room_at, c.in-Ok.ensures.room))
@@ -35,7 +30,6 @@ returns-in-Ok-clause-limit c = search (arith, returns-in-Ok-clause-room)
 pub returns-in-Err-clause-limit : goal.returns-in-Err-clause-limit
 returns-in-Err-clause-limit c =
     let i = c.self.inside in
-    let t = c.index_mut.result.now in
     let lt : c.args.process < length i.tables.items =
     search arith in
     elim c.in-Err.ensures.refusal [
@@ -51,6 +45,5 @@ returns-in-Err-clause-limit c =
           search (arith, room_at) in
           let room = subst (λ (s : HandleTables). entries_in (table_of s.tables c.args.process)
           < s.handle_limit) c.self.view_is below in
-          let is_memory : c.in-Err.fault ≡ Memory = memory.0 in
           (λ same. cc, λ full. absurd (omega arith))
     ]
