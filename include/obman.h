@@ -446,9 +446,9 @@ uint32_t om_new(const om_limits *limits, om_manager *m);
  * OM_ERROR_INVALID_PARAMETER for a limit out of its range; OM_ERROR_NOT_ENOUGH_MEMORY. */
 uint32_t om_new_reusing(const om_limits *limits, om_manager *m);
 
-/* The same, with both that a manager does for its whole life, in its savestates too: `reuse` is whether its numbers come back, and
+/* The same, with two ways that a manager has for its whole life, in its savestates too: `reuse` is whether its numbers come back, and
  * `repeats` whether a handle may stand twice in a wait for any, as NT takes it and thread pools do it: then the least place that is
- * signaled is told. In a wait for all it may never, and otherwise in none.
+ * signaled is told. Without it such a wait is refused with OM_ERROR_INVALID_PARAMETER, as a wait for all with a handle twice always is.
  * OM_ERROR_INVALID_PARAMETER for a limit out of its range; OM_ERROR_NOT_ENOUGH_MEMORY. */
 uint32_t om_new_with(const om_limits *limits, bool reuse, bool repeats, om_manager *m);
 

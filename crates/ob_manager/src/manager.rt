@@ -510,10 +510,10 @@ impl<K: PinKeeper> Manager<K> {
     /// call until [`wait_result`](Manager::wait_result) took the answer (*profile*).
     ///
     /// Refused with 87 where the thread isn't live, 170 where it waits, 87 for no handle, more than 64, or one that
-    /// stands twice, whose two lowest bits don't count (*profile*); 6 where there is no such handle; 5 without the
-    /// right SYNCHRONIZE; 87 where a wait for all is for one object twice (*profile*); 1450 for a mutex that the thread
-    /// owns as often as the limit lets, and where the wait would become pending and each wait number was given; and
-    /// there with 8 for want of memory.
+    /// stands twice, whose two lowest bits don't count (*profile*), unless it waits for any and the limits have
+    /// `repeats`; 6 where there is no such handle; 5 without the right SYNCHRONIZE; 87 where a wait for all is for one
+    /// object twice (*profile*); 1450 for a mutex that the thread owns as often as the limit lets, and where the wait
+    /// would become pending and each wait number was given; and there with 8 for want of memory.
     ///
     /// [WaitForMultipleObjects]:
     /// https://learn.microsoft.com/windows/win32/api/synchapi/nf-synchapi-waitformultipleobjects
