@@ -249,8 +249,7 @@ void queue_apc(thread *t, uint64_t timer, uint64_t routine, uint64_t a, uint64_t
     }
     *end = made;
     if (t->waits != RUNS && t->alertable) {
-        t->alertable = false;
-        must(om_alert(&om, t->number), "an APC");
+        wake(t, STATUS_USER_APC);
     }
 }
 

@@ -103,7 +103,7 @@ static void over(const om_opening *own, uint32_t code, int32_t priority) {
     k->has_ended = true;
     k->code = code;
     k->priority = priority;
-    must(om_signal_host(&om, own->object.slot, own->object.generation, true), "an end");
+    set_signal(k, true);
     must(om_close(&om, host.thread, own->handle), "an end");
 }
 
@@ -127,6 +127,7 @@ static void drop(thread *t, uint32_t code) {
         in->loaded = NULL;
     }
     drop_routines(t->number);
+    end_ios(in->member.process, t->number);
     om_opening own = t->own;
     int32_t priority = t->priority;
     memset(t, 0, sizeof *t);
@@ -152,16 +153,21 @@ void end_thread(thread *t, uint32_t code) {
         return;
     }
     must(om_end_thread(&om, t->number), "the end of a thread");
+    t->waits = RUNS;
     drop(t, code);
 }
 
 void end_process(process *p, uint32_t code) {
     must(om_exit(&om, p->member.process), "the end of a process");
     for (thread *t = threads; t < threads + threads_end; t++) {
+        t->waits = t->of == p ? RUNS : t->waits; /* no wait of theirs is left */
+    }
+    for (thread *t = threads; t < threads + threads_end; t++) {
         if (t->number != 0 && t->of == p) {
             drop(t, code);
         }
     }
+    end_ios(p->member.process, 0);
     over(&p->own, code, 0);
     end_memory(p);
     if (p == processes && !has_first_ended) {

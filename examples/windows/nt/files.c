@@ -15,9 +15,8 @@
 
 enum {
     ONE_MOST = 256, /* bytes of a name in a path */
-    READ_DATA = 0x1, WRITE_DATA = 0x2, APPEND_DATA = 0x4, /* rights */
     SUPERSEDE = 0, OPEN, CREATE, OPEN_OR_CREATE, OVERWRITE, OVERWRITE_OR_CREATE, /* dispositions */
-    DIRECTORY_FILE = 0x1, NON_DIRECTORY_FILE = 0x40, DELETE_ON_CLOSE = 0x1000, /* options */
+    DIRECTORY_FILE = 0x1, SYNCHRONOUS = 0x30, NON_DIRECTORY_FILE = 0x40, DELETE_ON_CLOSE = 0x1000, /* options */
     ATTRIBUTE_DIRECTORY = 0x10, ATTRIBUTE_NORMAL = 0x80
 };
 
@@ -162,7 +161,7 @@ static uint32_t place_of(const char *nt, place *to) {
 }
 
 /* The whole path that attributes name: one may begin at an open folder. */
-static uint32_t path_of(uint64_t attributes, char *path, size_t capacity) {
+uint32_t path_of(uint64_t attributes, char *path, size_t capacity) {
     kept *root = NULL;
     char text[NT_NAME_MOST];
     uint64_t handle = get(attributes + ATTRIBUTES_ROOT, 8);
@@ -215,7 +214,7 @@ uint32_t standard_file(int file) {
 
 /* ---- Opening ---- */
 
-static void done(uint64_t io, uint32_t status, uint64_t information) {
+void done(uint64_t io, uint32_t status, uint64_t information) {
     put(io, status, 8);
     put(io + 8, information, 8);
 }
@@ -236,8 +235,12 @@ static int open_place(const place *at, bool is_there, uint32_t access, uint32_t 
     return openat(at->folder, at->last, flags | (writes ? O_RDWR : O_RDONLY) | (is_there ? 0 : O_CREAT | O_EXCL), 0666);
 }
 
+bool is_overlapped(uint32_t options) {
+    return (options & SYNCHRONOUS) == 0;
+}
+
 /* What was opened as a file of the guests'. */
-static uint32_t open_handle(int file, const char *path, const struct stat *is, uint32_t access, uint64_t handle, uint64_t attributes) {
+static uint32_t open_handle(int file, const char *path, const struct stat *is, uint32_t access, uint64_t handle, uint64_t attributes, uint32_t options) {
     kept *k;
     if (!S_ISREG(is->st_mode) && !S_ISDIR(is->st_mode)) {
         close(file);
@@ -250,6 +253,7 @@ static uint32_t open_handle(int file, const char *path, const struct stat *is, u
     }
     k->file = file;
     k->is_directory = S_ISDIR(is->st_mode);
+    k->is_overlapped = is_overlapped(options);
     put(handle, made, 8);
     return STATUS_SUCCESS;
 }
@@ -260,6 +264,11 @@ static uint32_t open_file(uint64_t handle, uint32_t asked, uint64_t attributes, 
     struct stat is;
     uint32_t access = rights_of(OM_HOST(A_FILE), asked), status = path_of(attributes, path, sizeof path);
     bytes_at(handle, 8), bytes_at(io, 16);
+    if (status == STATUS_SUCCESS && behind(path, "\\??\\pipe") != NULL) {
+        status = open_pipe(path, handle, access, attributes, options);
+        done(io, status, 1);
+        return status;
+    }
     status = status == STATUS_SUCCESS ? place_of(path, &at) : status;
     if (status != STATUS_SUCCESS) {
         return status;
@@ -280,7 +289,7 @@ static uint32_t open_file(uint64_t handle, uint32_t asked, uint64_t attributes, 
         status = status_now();
     }
     if (status == STATUS_SUCCESS) {
-        status = open_handle(file, path, &is, access, handle, attributes);
+        status = open_handle(file, path, &is, access, handle, attributes, options);
     }
     if (status == STATUS_SUCCESS && options & DELETE_ON_CLOSE) {
         status = unlinkat(at.folder, at.last, is_folder ? AT_REMOVEDIR : 0) == 0 ? STATUS_SUCCESS : status_now(); /* its name goes at once */
@@ -382,8 +391,9 @@ uint32_t NtQueryVolumeInformationFile(void) {
     if (status != STATUS_SUCCESS || (uint32_t)arg(4) != DEVICE) {
         return status != STATUS_SUCCESS ? status : STATUS_NOT_IMPLEMENTED;
     }
-    put(arg(2), k->is_standard ? IS_PIPE : IS_DISK, 4);
-    put(arg(2) + 4, k->is_standard ? 0 : IS_MOUNTED, 4);
+    bool is_pipe = k->is_standard || k->pipe != NO_PIPE;
+    put(arg(2), is_pipe ? IS_PIPE : IS_DISK, 4);
+    put(arg(2) + 4, is_pipe ? 0 : IS_MOUNTED, 4);
     done(arg(1), STATUS_SUCCESS, 8);
     return STATUS_SUCCESS;
 }
@@ -464,7 +474,7 @@ static uint32_t rename_file(const kept *k, uint64_t from) {
 
 /* NtSetInformationFile (HANDLE, &IO, FROM, SIZE, CLASS) */
 uint32_t NtSetInformationFile(void) {
-    enum { RENAME = 10, DISPOSITION = 13, POSITION = 14, END = 20 };
+    enum { RENAME = 10, DISPOSITION = 13, POSITION = 14, END = 20, PORT = 30 };
     kept *k;
     uint32_t class = (uint32_t)arg(4), right = class == END ? WRITE_DATA : class == RENAME || class == DISPOSITION ? OM_DELETE : 0;
     uint32_t status = named(arg(0), A_FILE, right, &k);
@@ -479,6 +489,8 @@ uint32_t NtSetInformationFile(void) {
         status = get(arg(2), 1) == 0 ? STATUS_SUCCESS : remove_path(k->name, k->is_directory);
     } else if (class == RENAME) {
         status = rename_file(k, arg(2));
+    } else if (class == PORT) {
+        status = set_port(k, arg(2));
     } else {
         return STATUS_NOT_IMPLEMENTED;
     }
@@ -490,9 +502,12 @@ uint32_t NtSetInformationFile(void) {
 
 /* ---- Reading and writing: (HANDLE, EVENT, ROUTINE, WITH, &IO, BYTES, SIZE, &AT, ..) ---- */
 
-/* An I/O has ended as soon as it began: its event is set, its routine is queued. */
-static uint32_t moved(uint32_t status, uint64_t count) {
+/* An I/O has ended as soon as it began: its event is set, its routine is queued, or the file's port is told. */
+static uint32_t moved(const kept *k, uint32_t status, uint64_t count) {
     done(arg(4), status, count);
+    if (status == STATUS_SUCCESS) {
+        post(k, arg(2), arg(3), status, count);
+    }
     if (arg(1) != 0) {
         om_set_event(&om, current->number, handle_of(arg(1)));
     }
@@ -519,6 +534,9 @@ uint32_t NtReadFile(void) {
     if (status != STATUS_SUCCESS || k->is_directory) {
         return status != STATUS_SUCCESS ? status : STATUS_FILE_IS_A_DIRECTORY;
     }
+    if (k->pipe != NO_PIPE || (k->port.handle != 0 && queued >= QUEUED_MOST)) {
+        return k->pipe != NO_PIPE ? move_in_pipe(k, READS) : STATUS_INSUFFICIENT_RESOURCES;
+    }
     uint64_t at = place_to_move(k, false);
     void *to = size == 0 ? &size : bytes_at(arg(5), size);
     ssize_t count = k->is_standard ? read(k->file, to, size) : pread(k->file, to, size, (off_t)at);
@@ -526,7 +544,7 @@ uint32_t NtReadFile(void) {
         return STATUS_ACCESS_DENIED;
     }
     k->at = at + (uint64_t)count;
-    return moved(count == 0 && size > 0 ? STATUS_END_OF_FILE : STATUS_SUCCESS, (uint64_t)count);
+    return moved(k, count == 0 && size > 0 ? STATUS_END_OF_FILE : STATUS_SUCCESS, (uint64_t)count);
 }
 
 /* All of it, as far as it goes. */
@@ -553,13 +571,16 @@ uint32_t NtWriteFile(void) {
     if (k->is_directory || !(info.access & (WRITE_DATA | APPEND_DATA))) {
         return k->is_directory ? STATUS_FILE_IS_A_DIRECTORY : STATUS_ACCESS_DENIED;
     }
+    if (k->pipe != NO_PIPE || (k->port.handle != 0 && queued >= QUEUED_MOST)) {
+        return k->pipe != NO_PIPE ? move_in_pipe(k, WRITES) : STATUS_INSUFFICIENT_RESOURCES;
+    }
     uint64_t at = place_to_move(k, !k->is_standard && !(info.access & WRITE_DATA));
     uint64_t count = size == 0 ? 0 : write_all(k, bytes_at(arg(5), size), size, at);
     if (count < size) {
         return 0xC000007Fu; /* STATUS_DISK_FULL */
     }
     k->at = at + count;
-    return moved(STATUS_SUCCESS, count);
+    return moved(k, STATUS_SUCCESS, count);
 }
 
 /* What was written was given to Linux at once. */
@@ -571,8 +592,11 @@ uint32_t NtFlushBuffersFile(void) {
     return status;
 }
 
+/* NtFsControlFile (HANDLE, EVENT, ROUTINE, WITH, &IO, WHAT, FROM, SIZE, TO, SIZE) */
 uint32_t NtFsControlFile(void) {
-    return STATUS_NOT_SUPPORTED;
+    kept *k;
+    uint32_t status = named(arg(0), A_FILE, 0, &k);
+    return status != STATUS_SUCCESS ? status : k->pipe != NO_PIPE ? control_pipe(k, (uint32_t)arg(5)) : STATUS_NOT_SUPPORTED;
 }
 
 uint32_t NtDeviceIoControlFile(void) {

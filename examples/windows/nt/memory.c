@@ -69,6 +69,14 @@ void fill(uint64_t address, const void *bytes, uint64_t size) {
     memcpy(bytes_at(address, size), bytes, size);
 }
 
+/* 8 bytes, for a call that has been before, where that memory is still there. */
+void put_if(uint64_t address, uint64_t value) {
+    void *bytes = bytes_if(address, sizeof value);
+    if (bytes != NULL) {
+        memcpy(bytes, &value, sizeof value);
+    }
+}
+
 /* ---- Regions ---- */
 
 static uint8_t *mapped(uint64_t size) {

@@ -8,8 +8,9 @@
  * image.c    programs and DLLs in it               context.c   registers told, exceptions, APCs
  * threads.c  turns, the clock, the processor       files.c     the guests' drive, and files on it
  * fault.c    which instruction of a block failed   sections.c  files as memory, and shared memory
- * stuck.c    who waits for whom                    info.c      what is asked of the system, processes and threads
- * fast.c     Unicorn's stores, less slow           save.c      all of it in a file
+ * stuck.c    who waits for whom                    ports.c     completion ports, and how an I/O ends
+ * fast.c     Unicorn's stores, less slow           pipes.c     named pipes
+ * save.c     all of it in a file                   info.c      what is asked of the system, processes and threads
  * layout.h   what of Windows' own structures lies where */
 #ifndef NT_H
 #define NT_H
@@ -26,6 +27,8 @@ enum {
     PAGE = 0x1000,
     GRANULE = 0x10000, /* where memory begins that is asked for anywhere */
     NT_NAME_MOST = 1024,
+    QUEUED_MOST = 65536, /* packets at completion ports, and I/O that is pending, together */
+    BORROWED_MOST = 8192, /* handles of the host's for I/O, so that it has some for threads */
     NO_END = 124, /* statuses of the host's own */
     HOST_FAILED = 125,
     SEEDS_MOST = 10000,
@@ -46,6 +49,7 @@ enum {
 
 /* Status codes, by their names in ntstatus.h. */
 #define STATUS_SUCCESS 0x00000000u
+#define STATUS_ABANDONED 0x00000080u
 #define STATUS_USER_APC 0x000000C0u
 #define STATUS_ALERTED 0x00000101u
 #define STATUS_TIMEOUT 0x00000102u
@@ -82,13 +86,23 @@ enum {
 #define STATUS_INTEGER_DIVIDE_BY_ZERO 0xC0000094u
 #define STATUS_PRIVILEGED_INSTRUCTION 0xC0000096u
 #define STATUS_INSUFFICIENT_RESOURCES 0xC000009Au
+#define STATUS_INSTANCE_NOT_AVAILABLE 0xC00000ABu
+#define STATUS_PIPE_NOT_AVAILABLE 0xC00000ACu
+#define STATUS_INVALID_PIPE_STATE 0xC00000ADu
+#define STATUS_PIPE_DISCONNECTED 0xC00000B0u
+#define STATUS_PIPE_CLOSING 0xC00000B1u
+#define STATUS_PIPE_CONNECTED 0xC00000B2u
+#define STATUS_PIPE_LISTENING 0xC00000B3u
 #define STATUS_FILE_IS_A_DIRECTORY 0xC00000BAu
 #define STATUS_NOT_SUPPORTED 0xC00000BBu
 #define STATUS_INVALID_PARAMETER_1 0xC00000EFu
 #define STATUS_STACK_OVERFLOW 0xC00000FDu
 #define STATUS_NOT_A_DIRECTORY 0xC0000103u
 #define STATUS_PROCESS_IS_TERMINATING 0xC000010Au
+#define STATUS_CANCELLED 0xC0000120u
 #define STATUS_DLL_NOT_FOUND 0xC0000135u
+#define STATUS_PIPE_BROKEN 0xC000014Bu
+#define STATUS_NOT_FOUND 0xC0000225u
 #define STATUS_HANDLE_NOT_CLOSABLE 0xC0000235u
 
 /* Memory, by the names in winnt.h: what is asked for, what its pages are, what a region is. */
@@ -118,6 +132,9 @@ enum {
 #define UNIX_CALL (SYSTEM_CALL + 0x10u)
 #define SHARED_SIZE (3 * PAGE)
 
+/* Rights to a file. */
+enum { READ_DATA = 0x1, WRITE_DATA = 0x2, APPEND_DATA = 0x4 };
+
 #define THIS_PROCESS UINT64_MAX
 #define THIS_THREAD (UINT64_MAX - 1)
 
@@ -135,16 +152,37 @@ typedef struct registers {
 
 typedef struct process process;
 
-/* A call that a thread makes as soon as it may: of a routine with three arguments. */
+/* A call that a thread makes as soon as it may: of a routine with three arguments. (Each list's items begin with the next one.) */
 typedef struct apc {
+    struct apc *next;
     uint64_t routine, arguments[3];
     uint64_t timer; /* the data of the timer that made it, or 0 */
-    struct apc *next;
 } apc;
 
-/* For what a thread waits in the library: an object; a moment alone; or, until a moment, an alert by NtAlertThreadByThreadId or the other side of a keyed
- * event. */
-typedef enum waiting { RUNS, FOR_OBJECTS, FOR_TIME, FOR_ALERT, FOR_RELEASE, FOR_WAITER } waiting;
+/* What NtSetIoCompletion, or an I/O that ends, leaves at a completion port. */
+typedef struct packet {
+    struct packet *next;
+    uint64_t key, value, status, count;
+} packet;
+
+/* An I/O of a pipe, as its call has it. */
+typedef enum doing { READS, WRITES, LISTENS } doing;
+typedef struct io {
+    struct io *next;
+    doing does;
+    uint32_t process, thread; /* whose it is */
+    uint32_t event;           /* the host's handle, or 0 */
+    uint32_t status;          /* with which it has ended in its call */
+    bool is_pending : 1;      /* its call has answered, or waits */
+    bool has_ended : 1;
+    uint64_t routine, with, told_at; /* as ReadFileEx and OVERLAPPED have them: a routine, or a value for a port; where the status is written */
+    uint64_t bytes, size, count;
+} io;
+
+/* For what a thread waits in the library: an object; a moment alone; or, until a moment, an alert by NtAlertThreadByThreadId, the other side of a keyed event,
+ * a packet of a completion port, as NtRemoveIoCompletion or NtRemoveIoCompletionEx takes it, or the end of an I/O. The host has ended the wait of one that
+ * wakes. */
+typedef enum waiting { RUNS, WAKES, FOR_OBJECTS, FOR_TIME, FOR_ALERT, FOR_RELEASE, FOR_WAITER, FOR_PACKET, FOR_PACKETS, FOR_IO } waiting;
 
 /* (A bool here is one bit, so that whatever byte a savestate has is one.) */
 typedef struct thread {
@@ -154,35 +192,51 @@ typedef struct thread {
     bool alertable : 1; /* its wait ends for an APC */
     bool alerted : 1;   /* its next wait for an alert ends at once */
     bool has_apc : 1;   /* it runs the first of its APCs when its call returns */
+    uint32_t outcome;   /* the status of its wait, where the host ends it */
     uint32_t suspended;
     int32_t priority;
     uint64_t block, stack, stack_size;
     uint64_t entry;
-    uint64_t key;         /* of a keyed event, or the address of a wait for an alert */
+    uint64_t key;         /* of a keyed event, or the address of a wait for an alert, or the data of a completion port */
+    uint64_t began;       /* behind so many calls, to wait there */
     om_opening own;       /* the object that stands for it, by the host's handle */
     process *of;          /* (what is before this is in a savestate as it stands) */
     apc *apcs;
 } thread;
 
 /* The types of objects of the host's own. */
-typedef enum type { A_THREAD = 1, A_PROCESS, A_FILE, A_SECTION, A_KEYED_EVENT, AN_OBJECT_DIRECTORY } type;
+typedef enum type { A_THREAD = 1, A_PROCESS, A_FILE, A_SECTION, A_KEYED_EVENT, AN_OBJECT_DIRECTORY, A_PORT } type;
+
+/* What a file is of a pipe: none; an end that was cut off; a server's for which no client has come; one with another end, or whose other end was closed. (These
+ * are the numbers of FILE_PIPE_LOCAL_INFORMATION.) */
+typedef enum pipe_end { NO_PIPE, DISCONNECTED, LISTENING, CONNECTED, CLOSING } pipe_end;
 
 /* What the host keeps at an object of its own. */
 typedef struct kept {
+    om_object object;
     uint32_t number; /* of a thread or process; of a timer with a routine its thread */
     uint32_t code;   /* with which it has ended */
     bool has_ended : 1;
-    bool is_directory : 1, is_standard : 1; /* a file */
+    bool is_directory : 1, is_standard : 1, is_overlapped : 1; /* a file */
+    bool is_server : 1;                     /* an end of a pipe */
+    pipe_end pipe;
+    uint32_t other;                         /* the data of the other end, or 0 */
+    uint32_t sharing, instances_most;       /* what a server's client may do, as of files, and how many there are of that name */
+    uint32_t quota;                         /* how many bytes wait for its reader at most */
+    om_opening port;                        /* a file's completion port, by the host's handle, or 0 */
+    uint64_t key;                           /* and the key that it is told */
     bool is_image : 1, is_copied : 1;       /* a section: of a program, or of a file's bytes */
     int32_t priority;
     uint64_t at;    /* where it is read next */
     uint64_t size;  /* of a section */
     uint64_t routine, with, due; /* of a timer: what its thread runs at that moment, or 0 */
     uint32_t period;             /* and each so many milliseconds, or 0 */
-    uint64_t entries_size, next_entry; /* of a directory that was asked for its entries */
+    uint64_t entries_size, next_entry; /* of a directory that was asked for its entries, or of what there is to read in a pipe */
     char form[256]; /* of which form those are */
     int file;       /* of a file or a section: the descriptor, or -1 (what is before this is in a savestate as it stands) */
-    char *entries;  /* their names, each with a 0 behind it */
+    char *entries;  /* their names, each with a 0 behind it; or a pipe's bytes; or what a thread's description is, in UTF-16 */
+    packet *packets, *last_packet; /* of a port */
+    io *ios;        /* of a pipe's end, by their age */
     char name[];    /* of a file, as the guests see it; of a section, its file's */
 } kept;
 
@@ -265,6 +319,7 @@ void *bytes_if(uint64_t address, uint64_t size);  /* or NULL */
 uint64_t get(uint64_t address, int size);
 void put(uint64_t address, uint64_t value, int size); /* nowhere, where that is 0 */
 void fill(uint64_t address, const void *bytes, uint64_t size);
+void put_if(uint64_t address, uint64_t value);
 region *region_at(uint64_t address);
 void *map_at(uint64_t address, uint64_t size, uint32_t protect, uint32_t type);
 bool share_at(uint64_t address, int file, uint64_t offset);
@@ -336,6 +391,10 @@ extern uint64_t next_routine;
 
 /* waits.c */
 void answered(thread *t, uint32_t code);
+bool wake(thread *t, uint32_t status);
+int64_t until(uint64_t pointer);
+bool has_apc(bool alertable);
+uint32_t sleep_for(waiting waits, int64_t due, bool alertable);
 
 /* control.c */
 uint32_t thread_by(uint64_t handle, uint32_t right, kept **k, thread **t);
@@ -355,7 +414,28 @@ void first_context(uint8_t *context, uint64_t stack, uint64_t start, uint64_t en
 void set_drive(const char *folder);
 int open_program(const char *name);
 bool is_named(const kept *k);
+uint32_t path_of(uint64_t attributes, char *path, size_t capacity);
+bool is_overlapped(uint32_t options);
+void done(uint64_t to, uint32_t status, uint64_t information);
 int open_path(const char *name, int how);
 uint32_t standard_file(int file);
+
+/* ports.c */
+extern uint64_t queued;
+void set_signal(const kept *k, bool signaled);
+void end_port(kept *k);
+uint32_t set_port(kept *k, uint64_t from);
+uint32_t borrow(uint64_t handle, om_opening *made);
+void give_back(uint32_t handle);
+extern uint32_t borrowed;
+void post(const kept *k, uint64_t routine, uint64_t with, uint32_t status, uint64_t count);
+
+/* pipes.c */
+extern uint64_t held;
+uint32_t open_pipe(const char *path, uint64_t to, uint32_t access, uint64_t attributes, uint32_t options);
+uint32_t move_in_pipe(kept *k, doing does);
+uint32_t control_pipe(kept *k, uint32_t what);
+void end_ios(uint32_t process, uint32_t thread);
+void end_pipe(kept *k);
 
 #endif

@@ -69,6 +69,7 @@ uint32_t rights_of(uint32_t kind, uint32_t access) {
     } own[] = {
         [A_THREAD] = {0x48, 0x37, 0x800}, [A_PROCESS] = {0x410, 0x2AEB, 0x1000}, [A_FILE] = {0x89, 0x116, 0xA0},
         [A_SECTION] = {0x5, 0x2, 0x8},    [A_KEYED_EVENT] = {0x1, 0x2, 0},       [AN_OBJECT_DIRECTORY] = {0x3, 0xC, 0},
+        [A_PORT] = {0x1, 0x2, 0},
     };
     uint32_t mapped = om_map_access(kind, access & MAXIMUM_ALLOWED ? access | OM_GENERIC_ALL : access) & ~MAXIMUM_ALLOWED;
     if (kind >= OM_HOST(A_THREAD)) {
@@ -396,7 +397,9 @@ kept *new_kept(uint32_t place, const char *name) {
 /* What the host keeps at an object from now on, at the place of the object's slot. */
 kept *keep(om_object object, const char *name) {
     must(om_set_object_data(&om, object.slot, object.generation, object.slot + (uint64_t)1), "what is kept");
-    return new_kept(object.slot, name);
+    kept *k = new_kept(object.slot, name);
+    k->object = object;
+    return k;
 }
 
 /* An object has ended with these data. */
@@ -406,6 +409,8 @@ void forget(uint64_t data) {
         if (k->file >= 0 && !k->is_standard) {
             close(k->file);
         }
+        end_pipe(k);
+        end_port(k);
         free(k->entries);
         free(k);
         all_kept[data - 1] = NULL;
@@ -585,7 +590,7 @@ static uint32_t tell_name(const om_handle_info *info, uint64_t to, uint32_t room
 
 static uint32_t tell_type(uint32_t kind, uint64_t to, uint32_t room) {
     static const char *const kinds[] = {"Event", "Mutant", "Semaphore", "Timer"};
-    static const char *const own[] = {"", "Thread", "Process", "File", "Section", "KeyedEvent", "Directory"};
+    static const char *const own[] = {"", "Thread", "Process", "File", "Section", "KeyedEvent", "Directory", "IoCompletion"};
     return tell_text(to, 0x68, kind < OM_ENDED ? kinds[kind] : own[kind - OM_HOST(0)], false, room);
 }
 

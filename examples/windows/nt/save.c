@@ -258,17 +258,26 @@ static void all_processes(void) {
     }
 }
 
-static void apcs_of(thread *t) {
+static void *next_item(const void *item) {
+    void *next;
+    memcpy(&next, item, sizeof next);
+    return next;
+}
+
+/* A list from where its first item is told; each item begins with the next one. */
+static void items(void *at, size_t size) {
     uint64_t count = 0;
-    for (const apc *a = t->apcs; a != NULL; a = a->next) {
+    for (const void *one = next_item(at); one != NULL; one = next_item(one)) {
         count++;
     }
-    count = number(count);
-    for (apc **a = &t->apcs; count > 0 && file.is_good; a = &(*a)->next, count--) {
-        if (!file.is_written && (*a = calloc(1, sizeof **a)) == NULL) {
+    for (count = number(count); count > 0 && file.is_good; count--) {
+        void *one = file.is_written ? next_item(at) : calloc(1, size);
+        if (one == NULL) {
             stop("no memory");
         }
-        part(*a, offsetof(apc, next));
+        memcpy(at, &one, sizeof one);
+        part((uint8_t *)one + sizeof one, size - sizeof one);
+        at = one;
     }
 }
 
@@ -281,7 +290,7 @@ static void all_threads(void) {
         uint64_t place = number((uint64_t)(t->of - processes));
         file.is_good = file.is_good && place < PROCESSES;
         t->of = file.is_good ? &processes[place] : processes;
-        apcs_of(t);
+        items(&t->apcs, sizeof *t->apcs);
     }
 }
 
@@ -348,6 +357,20 @@ static void file_of(kept *k) {
     }
 }
 
+/* What of I/O there is of all, once more. */
+static void count_again(kept *k) {
+    for (packet *one = k->packets; one != NULL; one = one->next) {
+        k->last_packet = one;
+        queued++;
+    }
+    for (const io *i = k->ios; i != NULL; i = i->next) {
+        queued++;
+        borrowed += i->event != 0;
+    }
+    borrowed += k->port.handle != 0;
+    held += k->pipe != NO_PIPE ? k->entries_size - k->next_entry : 0;
+}
+
 static uint64_t next_place(uint64_t from) {
     while (from < SLOTS && all_kept[from] == NULL) {
         from++;
@@ -369,6 +392,11 @@ static void all_that_is_kept(void) {
         file.is_good = file.is_good && is_whole && strlen(k->name) == name_length;
         file_of(k);
         struct stat is;
+        items(&k->packets, sizeof *k->packets);
+        items(&k->ios, sizeof *k->ios);
+        if (!file.is_written) {
+            count_again(k);
+        }
         bool is_copied = k->is_image || k->is_copied || k->size == 0; /* else views are of the file itself */
         file.is_good = file.is_good && (is_copied || (k->name[0] == 0 && fstat(k->file, &is) == 0 && k->size <= whole_pages((uint64_t)is.st_size)));
     }
@@ -383,6 +411,16 @@ static bool is_own(const om_opening *own, type is) {
            info.object.generation == own->object.generation;
 }
 
+/* Whether the ends of a pipe are of each other, and its I/O, and a file's port, is of what there is. */
+static bool is_io_good(const kept *k) {
+    const kept *other = kept_at(k->other);
+    bool is_good = k->pipe == CONNECTED ? other != NULL && kept_at(other->other) == k : k->other == 0 && k->pipe <= CLOSING;
+    for (const io *i = k->ios; i != NULL; i = i->next) {
+        is_good = is_good && k->pipe != NO_PIPE && i->does <= LISTENS && process_numbered(i->process) != NULL;
+    }
+    return is_good && (k->port.handle == 0 || is_own(&k->port, A_PORT));
+}
+
 static bool is_one_run(void) {
     bool is_good = true;
     om_object object;
@@ -390,13 +428,14 @@ static bool is_one_run(void) {
     for (uint32_t from = 0; om_next_object(&om, from, &object) == OM_SUCCESS; from = object.slot + 1) {
         uint64_t data = om_object_data(&om, object.slot, object.generation);
         is_good = is_good && om_state(&om, object.slot, object.generation, &state) == OM_SUCCESS && (data == 0 || data == object.slot + (uint64_t)1);
-        is_good = is_good && (state.kind < OM_HOST(0) || kept_at(data) != NULL);
+        const kept *k = kept_at(data);
+        is_good = is_good && (state.kind < OM_HOST(0) || k != NULL) && (k == NULL || (k->object.slot == object.slot && is_io_good(k)));
     }
     for (const process *p = processes; p < processes + PROCESSES && is_good; p++) {
         is_good = p->engine == NULL || (process_numbered(p->member.process) == p && is_own(&p->own, A_PROCESS));
     }
     for (const thread *t = threads; t < threads + threads_end && is_good; t++) {
-        is_good = t->of == NULL || (thread_numbered(t->number) == t && t->of->engine != NULL && t->waits <= FOR_WAITER && is_own(&t->own, A_THREAD));
+        is_good = t->of == NULL || (thread_numbered(t->number) == t && t->of->engine != NULL && t->waits <= FOR_IO && is_own(&t->own, A_THREAD));
     }
     return is_good;
 }

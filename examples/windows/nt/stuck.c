@@ -44,6 +44,10 @@ static void tell_wait(const thread *t) {
         }
     } else if (t->waits == FOR_TIME) {
         fputs(" sleeps", stderr);
+    } else if (t->waits == FOR_PACKET || t->waits == FOR_PACKETS) {
+        fputs(" waits for a packet of a completion port", stderr);
+    } else if (t->waits == FOR_IO) {
+        fputs(" waits for the other end of a pipe", stderr);
     } else {
         /* what is below a critical section, a slim lock or a condition variable, by their address */
         fprintf(stderr, " waits to be woken at %llx", (unsigned long long)t->key);

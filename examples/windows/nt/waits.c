@@ -6,12 +6,12 @@
 /* ---- How they begin and end ---- */
 
 /* Until when a call waits that is passed a pointer to a moment: since 1601, or below 0 from now; for good without one. */
-static int64_t until(uint64_t pointer) {
+int64_t until(uint64_t pointer) {
     return pointer == 0 ? OM_FOREVER : (int64_t)get(pointer, 8);
 }
 
 /* Whether an alertable wait isn't begun, since an APC is there: that runs first. */
-static bool has_apc(bool alertable) {
+bool has_apc(bool alertable) {
     current->has_apc = alertable && current->apcs != NULL;
     return current->has_apc;
 }
@@ -28,27 +28,30 @@ static uint32_t begun(uint32_t error, uint32_t code, waiting waits, bool alertab
 }
 
 /* A wait of the library's for nothing, which the host or its moment ends. */
-static uint32_t sleep_for(waiting waits, int64_t due, bool alertable) {
+uint32_t sleep_for(waiting waits, int64_t due, bool alertable) {
     uint32_t code;
     tell_time();
     uint32_t error = om_sleep(&om, current->number, due, &code);
     return begun(error, code, waits, alertable);
 }
 
+/* The host ends a thread's wait, unless that has just ended otherwise. */
+bool wake(thread *t, uint32_t status) {
+    bool is_pending = om_alert(&om, t->number) == OM_SUCCESS;
+    if (is_pending) {
+        t->waits = WAKES;
+        t->outcome = status;
+    }
+    return is_pending;
+}
+
 /* A thread's wait has ended. */
 void answered(thread *t, uint32_t code) {
-    static const struct {
-        uint32_t alerted, timed_out;
-    } says[] = {
-        [FOR_OBJECTS] = {STATUS_USER_APC, STATUS_TIMEOUT},  [FOR_TIME] = {STATUS_USER_APC, STATUS_SUCCESS},
-        [FOR_ALERT] = {STATUS_ALERTED, STATUS_TIMEOUT},     [FOR_RELEASE] = {STATUS_SUCCESS, STATUS_TIMEOUT},
-        [FOR_WAITER] = {STATUS_SUCCESS, STATUS_TIMEOUT},
-    };
     if (t == NULL) {
         stop("an answer for no thread");
     }
-    waiting was = t->waits;
-    uint32_t status = code == OM_WAIT_IO_COMPLETION ? says[was].alerted : code == OM_WAIT_TIMEOUT ? says[was].timed_out : code;
+    bool is_over = code == OM_WAIT_TIMEOUT && t->waits == FOR_TIME;
+    uint32_t status = code == OM_WAIT_IO_COMPLETION ? t->outcome : is_over ? STATUS_SUCCESS : code;
     t->waits = RUNS;
     t->alertable = false;
     t->now.whole[RAX] = status;
@@ -167,9 +170,7 @@ uint32_t NtAlertThreadByThreadId(void) {
     if (t == NULL || t->of != in) {
         return STATUS_INVALID_CID;
     }
-    if (t->waits == FOR_ALERT) {
-        must(om_alert(&om, t->number), "an alert");
-    } else {
+    if (t->waits != FOR_ALERT || !wake(t, STATUS_ALERTED)) {
         t->alerted = true;
     }
     return STATUS_SUCCESS;
@@ -192,8 +193,7 @@ static uint32_t meet(waiting mine, waiting other) {
         return status;
     }
     for (thread *t = threads; t < threads + threads_end; t++) {
-        if (t->number != 0 && t->waits == other && t->of == in && t->key == arg(1)) {
-            must(om_alert(&om, t->number), "a keyed event");
+        if (t->number != 0 && t->waits == other && t->of == in && t->key == arg(1) && wake(t, STATUS_SUCCESS)) {
             return STATUS_SUCCESS;
         }
     }
