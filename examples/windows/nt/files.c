@@ -400,12 +400,12 @@ uint32_t NtQueryVolumeInformationFile(void) {
 
 /* NtQueryInformationFile (HANDLE, &IO, TO, SIZE, CLASS) */
 uint32_t NtQueryInformationFile(void) {
-    enum { BASICS = 4, STANDARD = 5, POSITION = 14 };
+    enum { BASICS = 4, STANDARD = 5, POSITION = 14, END = 20 };
     kept *k;
     struct stat is = {0};
     uint64_t to = arg(2), io = arg(1);
     uint32_t status = named(arg(0), A_FILE, 0, &k), class = (uint32_t)arg(4), need = class == BASICS ? 0x28 : class == STANDARD ? 0x18 : 8;
-    if (status != STATUS_SUCCESS || (class != BASICS && class != STANDARD && class != POSITION)) {
+    if (status != STATUS_SUCCESS || (class != BASICS && class != STANDARD && class != POSITION && class != END)) {
         return status != STATUS_SUCCESS ? status : STATUS_NOT_IMPLEMENTED;
     }
     if ((uint32_t)arg(3) < need || (!k->is_standard && fstat(k->file, &is) != 0)) {
@@ -420,7 +420,7 @@ uint32_t NtQueryInformationFile(void) {
         put(to + 0x10, 1, 4);
         put(to + 0x14, k->is_directory ? 0x100 : 0, 4); /* whether it is to be deleted, whether a directory */
     } else {
-        put(to, k->at, 8);
+        put(to, class == END ? (uint64_t)is.st_size : k->at, 8);
     }
     done(io, STATUS_SUCCESS, need);
     return STATUS_SUCCESS;

@@ -2,6 +2,7 @@
 #include "nt.h"
 
 #include <stdio.h>
+#include <stdlib.h>
 #include <string.h>
 
 /* ---- The system ---- */
@@ -193,49 +194,92 @@ static void tell_thread(const kept *k, const thread *t, uint64_t to) {
     put(to + 0x2C, (uint32_t)priority, 4);
 }
 
+/* What of a thread is asked and set, by the numbers of THREADINFOCLASS. */
+enum {
+    BASICS = 0,
+    TIMES = 1,
+    PRIORITY = 3,
+    AFFINITY = 4,
+    ENTRY = 9,
+    ZERO_TLS = 10,
+    IS_LAST = 12,
+    IDEAL_PROCESSOR = 13,
+    BOOST = 14,
+    HIDES = 17,
+    HAS_ENDED = 20,
+    GROUP = 30,
+    SUSPENDED = 35,
+    DESCRIPTION = 38,
+    GROUP_SIZE = 16 /* GROUP_AFFINITY: processors, their group, and nothing */
+};
+
+/* Whether a number is what a class asks of a thread, NULL of one that has ended, and that then. */
+static bool number_of_thread(const thread *t, uint32_t class, uint64_t *value) {
+    switch (class) {
+    case AFFINITY:
+        *value = 1;
+        return true;
+    case ENTRY:
+        *value = t == NULL ? 0 : t->entry;
+        return true;
+    case IS_LAST:
+        *value = t != NULL && is_last(t);
+        return true;
+    case BOOST:
+        *value = t != NULL && t->has_no_boost;
+        return true;
+    case HAS_ENDED:
+        *value = t == NULL;
+        return true;
+    case SUSPENDED:
+        *value = t == NULL ? 0 : t->suspended;
+        return true;
+    default:
+        return false;
+    }
+}
+
+/* A UNICODE_STRING, and the text of a thread's description behind it (GetThreadDescription). */
+static uint32_t tell_description(const kept *k, uint64_t to, uint64_t size) {
+    uint64_t need = 16 + k->entries_size;
+    put(arg(4), need, 4);
+    if (size < need) {
+        return STATUS_BUFFER_TOO_SMALL;
+    }
+    bytes_at(to, need);
+    put(to, k->entries_size, 2);
+    put(to + 2, k->entries_size, 2);
+    put(to + 8, to + 16, 8);
+    if (k->entries_size > 0) {
+        fill(to + 16, k->entries, k->entries_size);
+    }
+    return STATUS_SUCCESS;
+}
+
 /* NtQueryInformationThread (THREAD, CLASS, TO, SIZE, &COUNT) */
 uint32_t NtQueryInformationThread(void) {
-    enum { BASICS = 0, TIMES = 1, AFFINITY = 4, ENTRY = 9, IS_LAST = 12, HAS_ENDED = 20, SUSPENDED = 35 };
     kept *k;
     thread *t;
     uint64_t to = arg(2), value = 0;
     uint32_t class = (uint32_t)arg(1), need = class == BASICS ? 0x30 : class == TIMES ? 0x20 : class == AFFINITY || class == ENTRY ? 8 : 4;
-    uint32_t status = thread_by(arg(0), class == BASICS ? 0x800 : 0x40, &k, &t); /* THREAD_QUERY_LIMITED_INFORMATION, THREAD_QUERY_INFORMATION */
-    if (status != STATUS_SUCCESS) {
-        return status;
+    bool is_limited = class == BASICS || class == TIMES || class == IS_LAST || class == BOOST || class == DESCRIPTION;
+    uint32_t status = thread_by(arg(0), is_limited ? THREAD_QUERY_LIMITED : THREAD_QUERY, &k, &t);
+    if (status != STATUS_SUCCESS || class == DESCRIPTION) {
+        return status != STATUS_SUCCESS ? status : tell_description(k, to, (uint32_t)arg(3));
     }
-    switch (class) {
-    case BASICS:
-    case TIMES:
-        break;
-    case AFFINITY:
-        value = 1;
-        break;
-    case ENTRY:
-        value = t == NULL ? 0 : t->entry;
-        break;
-    case IS_LAST:
-        value = t != NULL && is_last(t);
-        break;
-    case HAS_ENDED:
-        value = t == NULL;
-        break;
-    case SUSPENDED:
-        value = t == NULL ? 0 : t->suspended;
-        break;
-    default:
-        return STATUS_INVALID_INFO_CLASS;
-    }
-    if ((uint32_t)arg(3) < need) {
-        return STATUS_INFO_LENGTH_MISMATCH;
+    bool is_number = number_of_thread(t, class, &value);
+    need = class == GROUP ? GROUP_SIZE : need;
+    bool is_known = is_number || class == BASICS || class == TIMES || class == GROUP;
+    if (!is_known || (uint32_t)arg(3) < need) {
+        return is_known ? STATUS_INFO_LENGTH_MISMATCH : STATUS_INVALID_INFO_CLASS;
     }
     if (class == BASICS) {
         tell_thread(k, t, to);
-    } else if (class == TIMES) {
-        memset(bytes_at(to, need), 0, need);
-        put(to, BEGAN, 8);
-    } else {
+    } else if (is_number) {
         put(to, value, (int)need);
+    } else {
+        memset(bytes_at(to, need), 0, need);
+        put(to, class == GROUP ? 1 : BEGAN, 8); /* its processor, or when it began */
     }
     put(arg(4), need, 4);
     return STATUS_SUCCESS;
@@ -258,36 +302,66 @@ static void empty_tls(uint64_t place) {
 
 /* A priority below its process's, or above: from -2 to 2, or -15 and 15 for the least and the greatest. Turns don't go by it. */
 static uint32_t set_priority(thread *t, int32_t priority) {
-    if (priority < -15 || priority > 15) {
+    if ((priority < -2 || priority > 2) && priority != -15 && priority != 15) {
         return STATUS_INVALID_PARAMETER;
     }
-    bool is_end = priority == -15 || priority == 15;
-    t->priority = is_end ? priority : priority < -2 ? -2 : priority > 2 ? 2 : priority;
+    t->priority = priority;
     return STATUS_SUCCESS;
+}
+
+/* A UNICODE_STRING, whose text is a thread's description from now on (SetThreadDescription). */
+static uint32_t set_description(kept *k, uint64_t from) {
+    uint64_t length = get(from, 2), text = get(from + 8, 8);
+    const void *bytes = length == 0 ? NULL : bytes_at(text, length);
+    char *made = length == 0 ? NULL : malloc(length);
+    if (length > 0 && made == NULL) {
+        stop("no memory");
+    }
+    if (length > 0) {
+        memcpy(made, bytes, length);
+    }
+    free(k->entries);
+    k->entries = made;
+    k->entries_size = length;
+    return STATUS_SUCCESS;
+}
+
+/* Processors on which a thread may run: there is the first one alone, and all that fit into 32 bits are that one. */
+static uint32_t set_affinity(uint64_t processors) {
+    return processors == 1 || (uint32_t)processors == UINT32_MAX ? STATUS_SUCCESS : STATUS_INVALID_PARAMETER;
 }
 
 /* NtSetInformationThread (THREAD, CLASS, FROM, SIZE) */
 uint32_t NtSetInformationThread(void) {
-    enum { PRIORITY = 3, AFFINITY = 4, ZERO_TLS = 10, IDEAL_PROCESSOR = 13, BOOST = 14, HIDES = 17, NAME = 38 };
+    enum { PROCESSORS_MOST = 64 };
+    kept *k;
     thread *t;
-    uint32_t class = (uint32_t)arg(1), status = thread_by(arg(0), 0x20, NULL, &t); /* THREAD_SET_INFORMATION */
+    uint64_t from = arg(2);
+    uint32_t class = (uint32_t)arg(1), size = (uint32_t)arg(3);
+    bool is_limited = class == PRIORITY || class == BOOST || class == DESCRIPTION;
+    uint32_t status = thread_by(arg(0), is_limited ? THREAD_SET_LIMITED : THREAD_SET, &k, &t);
     if (status != STATUS_SUCCESS || t == NULL) {
         return status;
     }
-    if (class == PRIORITY) {
-        return set_priority(t, (int32_t)get(arg(2), 4));
-    }
     switch (class) {
+    case PRIORITY:
+        return set_priority(t, (int32_t)get(from, 4));
     case ZERO_TLS:
-        empty_tls(get(arg(2), 4));
+        empty_tls(get(from, 4));
         return STATUS_SUCCESS;
     case AFFINITY:
-        return get(arg(2), 8) == 1 ? STATUS_SUCCESS : STATUS_INVALID_PARAMETER; /* there is one processor */
+        return set_affinity(get(from, 8));
+    case GROUP:
+        return size == GROUP_SIZE && get(from, 8) == 1 && get(from + 8, 8) == 0 ? STATUS_SUCCESS : STATUS_INVALID_PARAMETER;
     case IDEAL_PROCESSOR:
+        return get(from, 4) <= PROCESSORS_MOST ? STATUS_SUCCESS : STATUS_INVALID_PARAMETER;
     case BOOST:
+        t->has_no_boost = get(from, 4) != 0;
+        return STATUS_SUCCESS;
+    case DESCRIPTION:
+        return size == 16 ? set_description(k, from) : STATUS_INFO_LENGTH_MISMATCH;
     case HIDES:
-    case NAME:
-        return STATUS_SUCCESS; /* they change nothing that a guest of one processor and without a debugger sees */
+        return STATUS_SUCCESS; /* there is no debugger */
     default:
         return STATUS_INVALID_INFO_CLASS;
     }

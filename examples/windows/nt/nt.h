@@ -74,6 +74,7 @@ enum {
 #define STATUS_NOT_MAPPED_VIEW 0xC0000019u
 #define STATUS_ILLEGAL_INSTRUCTION 0xC000001Du
 #define STATUS_ACCESS_DENIED 0xC0000022u
+#define STATUS_BUFFER_TOO_SMALL 0xC0000023u
 #define STATUS_OBJECT_TYPE_MISMATCH 0xC0000024u
 #define STATUS_OBJECT_NAME_INVALID 0xC0000033u
 #define STATUS_OBJECT_NAME_NOT_FOUND 0xC0000034u
@@ -132,8 +133,9 @@ enum {
 #define UNIX_CALL (SYSTEM_CALL + 0x10u)
 #define SHARED_SIZE (3 * PAGE)
 
-/* Rights to a file. */
+/* Rights to a file; and to a thread or process those for which others stand (Learn: "Thread Security and Access Rights"). */
 enum { READ_DATA = 0x1, WRITE_DATA = 0x2, APPEND_DATA = 0x4 };
+enum { THREAD_SET = 0x20, THREAD_QUERY = 0x40, THREAD_SET_LIMITED = 0x400, THREAD_QUERY_LIMITED = 0x800, PROCESS_QUERY = 0x400, PROCESS_QUERY_LIMITED = 0x1000 };
 
 #define THIS_PROCESS UINT64_MAX
 #define THIS_THREAD (UINT64_MAX - 1)
@@ -192,6 +194,7 @@ typedef struct thread {
     bool alertable : 1; /* its wait ends for an APC */
     bool alerted : 1;   /* its next wait for an alert ends at once */
     bool has_apc : 1;   /* it runs the first of its APCs when its call returns */
+    bool has_no_boost : 1; /* as SetThreadPriorityBoost has it; turns don't go by it */
     uint32_t outcome;   /* the status of its wait, where the host ends it */
     uint32_t suspended;
     int32_t priority;

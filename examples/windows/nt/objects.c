@@ -76,6 +76,10 @@ uint32_t rights_of(uint32_t kind, uint32_t access) {
         mapped |= access & OM_GENERIC_READ ? own[kind - OM_HOST(0)].reads : 0;
         mapped |= access & OM_GENERIC_WRITE ? own[kind - OM_HOST(0)].writes : 0;
         mapped |= access & OM_GENERIC_EXECUTE ? own[kind - OM_HOST(0)].runs : 0;
+        /* who may query or set all of a thread, or query all of a process, may do the less of it that has a right of its own */
+        mapped |= kind == OM_HOST(A_THREAD) && mapped & THREAD_QUERY ? THREAD_QUERY_LIMITED : 0;
+        mapped |= kind == OM_HOST(A_THREAD) && mapped & THREAD_SET ? THREAD_SET_LIMITED : 0;
+        mapped |= kind == OM_HOST(A_PROCESS) && mapped & PROCESS_QUERY ? PROCESS_QUERY_LIMITED : 0;
     }
     return mapped;
 }
