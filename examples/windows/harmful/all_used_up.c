@@ -2,11 +2,14 @@
  * all of it again. */
 #include "child.h"
 
-enum { WAYS = 6, GRANDCHILD = WAYS };
+enum { WAYS = 9, GRANDCHILD = WAYS };
 
 static const char *const ways[WAYS] = {
-    "handles", "events", "handles to threads that ended", "threads with large stacks", "timers that come again", "processes",
+    "handles", "events", "handles to threads that ended", "threads with large stacks", "timers that come again",
+    "packets", "reads", "reads with events", "processes",
 };
+
+static HANDLE port, server, client, event;
 
 static DWORD WINAPI sleeper(void *milliseconds) {
     Sleep((DWORD)(ULONG_PTR)milliseconds);
@@ -26,6 +29,14 @@ static BOOL periodic(void) {
     return made != NULL && SetWaitableTimer(made, &due, 100, NULL, NULL, FALSE);
 }
 
+/* A read of a pipe that nobody writes to. */
+static BOOL pending_read(HANDLE with) {
+    static OVERLAPPED all;
+    static char byte;
+    all.hEvent = with;
+    return ReadFile(server, &byte, 1, NULL, &all) || GetLastError() == ERROR_IO_PENDING;
+}
+
 /* One more of them: whether there is. */
 static BOOL one_more(unsigned way) {
     HANDLE made = NULL;
@@ -35,6 +46,9 @@ static BOOL one_more(unsigned way) {
     case 2: made = CreateThread(NULL, 0, sleeper, (void *)0, 0, NULL); return made != NULL && WaitForSingleObject(made, INFINITE) == WAIT_OBJECT_0;
     case 3: return CreateThread(NULL, 16 << 20, sleeper, (void *)1000, STACK_SIZE_PARAM_IS_A_RESERVATION, NULL) != NULL;
     case 4: return periodic();
+    case 5: return PostQueuedCompletionStatus(port, 1, 2, NULL);
+    case 6: return pending_read(NULL);
+    case 7: return pending_read(event);
     default: return process();
     }
 }
@@ -49,6 +63,10 @@ void start(void) {
     } else if (way == GRANDCHILD) {
         Sleep(1000);
     } else {
+        port = CreateIoCompletionPort(INVALID_HANDLE_VALUE, NULL, 0, 0);
+        event = CreateEventA(NULL, TRUE, FALSE, NULL);
+        server = CreateNamedPipeA("\\\\.\\pipe\\all", PIPE_ACCESS_DUPLEX | FILE_FLAG_OVERLAPPED, 0, 1, 0, 0, 0, NULL);
+        client = CreateFileA("\\\\.\\pipe\\all", GENERIC_READ | GENERIC_WRITE, 0, NULL, OPEN_EXISTING, 0, NULL);
         while (one_more((unsigned)way)) {
         }
         say("%s: error %u", ways[way], (unsigned)GetLastError());

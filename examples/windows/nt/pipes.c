@@ -6,7 +6,7 @@
 #include <string.h>
 #include <strings.h>
 
-enum { QUOTA_LEAST = 0x1000, QUOTA_MOST = 0x10000 };
+enum { QUOTA_LEAST = 0x1000, QUOTA_MOST = 0x10000, IOS_MOST = 1024 /* at one end */ };
 
 /* How many bytes there may be in all pipes. */
 #define HELD_MOST (64u << 20)
@@ -25,16 +25,18 @@ static uint64_t least(uint64_t a, uint64_t b) {
 
 /* What the call begins, behind what its end of the pipe has; NULL where there is too much. */
 static io *begin_io(kept *k, doing does, uint64_t bytes, uint64_t size) {
-    io **end = &k->ios, *made = queued < QUEUED_MOST ? calloc(1, sizeof *made) : NULL;
+    io **end = &k->ios;
+    uint32_t count = 0;
+    for (; *end != NULL; end = &(*end)->next) {
+        count++;
+    }
+    io *made = queued < QUEUED_MOST && count < IOS_MOST ? calloc(1, sizeof *made) : NULL;
     if (made == NULL) {
         return NULL;
     }
     *made = (io){.does = does, .process = in->member.process, .thread = current->number, .routine = arg(2), .with = arg(3), .told_at = arg(4)};
     made->bytes = bytes;
     made->size = size;
-    while (*end != NULL) {
-        end = &(*end)->next;
-    }
     queued++;
     return *end = made;
 }

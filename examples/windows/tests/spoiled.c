@@ -49,7 +49,7 @@ static const struct {
     {"a region at the end of all", BEGINNING, REGION, 8, UINT64_MAX - PAGE + 1},
     {"a view of no file", BEGINNING, REGION + 48, 8, 1},
     {"another thread", LIBRARY, THREAD + (int)offsetof(thread, number), 4, 77},
-    {"a thread that waits for what there isn't", LIBRARY, THREAD + (int)offsetof(thread, waits), 4, FOR_WAITER + 1},
+    {"a thread that waits for what there isn't", LIBRARY, THREAD + (int)offsetof(thread, waits), 4, FOR_IO + 1},
     {"a thread that nothing stands for", LIBRARY, THREAD + (int)offsetof(thread, own), 4, 0x1000},
     {"a thread of a process behind all", LIBRARY, -16, 8, PROCESSES},
     {"a thread of no process", LIBRARY, -16, 8, PROCESSES - 1},
@@ -63,8 +63,15 @@ static const struct {
     {"far more entries", BEHIND_LIBRARY, 16, 8, UINT64_MAX},
     {"entries that aren't there", BEHIND_LIBRARY, 24 + (int)offsetof(kept, entries_size), 8, 1000},
     {"a form without an end", BEHIND_LIBRARY, 24 + (int)offsetof(kept, form), sizeof ((kept *)0)->form, 'x'},
-    {"a file of no kind", BEHIND_LIBRARY, 24 + (int)offsetof(kept, file), 8, 4},
-    {"a standard file that there isn't", BEHIND_LIBRARY, 32 + (int)offsetof(kept, file), 8, 3},
+    {"what is kept of another object", BEHIND_LIBRARY, 24 + (int)offsetof(kept, object), 4, 77},
+    {"a pipe without its other end", BEHIND_LIBRARY, 24 + (int)offsetof(kept, pipe), 4, CONNECTED},
+    {"an end of no kind", BEHIND_LIBRARY, 24 + (int)offsetof(kept, pipe), 4, CLOSING + 1},
+    {"another end that there isn't", BEHIND_LIBRARY, 24 + (int)offsetof(kept, other), 4, 1},
+    {"a port that nothing stands for", BEHIND_LIBRARY, 24 + (int)offsetof(kept, port), 4, 0x1000},
+    {"far more packets", BEHIND_LIBRARY, 24 + (int)offsetof(kept, file), 8, UINT64_MAX},
+    {"far more I/O", BEHIND_LIBRARY, 32 + (int)offsetof(kept, file), 8, UINT64_MAX},
+    {"a file of no kind", BEHIND_LIBRARY, 40 + (int)offsetof(kept, file), 8, 4},
+    {"a standard file that there isn't", BEHIND_LIBRARY, 48 + (int)offsetof(kept, file), 8, 3},
 };
 
 int main(int count, char **words) {
