@@ -387,7 +387,7 @@ uint32_t answer_handle(uint64_t to, uint64_t handle);
 bool inherits(uint64_t attributes);
 void text_of(uint64_t unicode, char *out, size_t capacity);
 void name_of(uint64_t attributes, char *out, size_t capacity);
-void forget(uint64_t data);
+bool forget(uint64_t data);
 void run_routines(void);
 void drop_routines(uint32_t of);
 extern uint64_t next_routine;

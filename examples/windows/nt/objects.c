@@ -406,8 +406,8 @@ kept *keep(om_object object, const char *name) {
     return k;
 }
 
-/* An object has ended with these data. */
-void forget(uint64_t data) {
+/* An object has ended with these data. Whether something was kept there. */
+bool forget(uint64_t data) {
     kept *k = kept_at(data);
     if (k != NULL) {
         if (k->file >= 0 && !k->is_standard) {
@@ -419,6 +419,7 @@ void forget(uint64_t data) {
         free(k);
         all_kept[data - 1] = NULL;
     }
+    return k != NULL;
 }
 
 /* An object that the host has a handle to, which isn't signaled until the thread or process ends. */

@@ -140,12 +140,14 @@ void look_round(void) {
     static om_reaping ended[SLOTS]; /* a place for each that there can be, so that one call tells all */
     om_answer answers[16];
     size_t count;
+    bool is_forgotten;
     do { /* what ends may end others, and waits */
+        is_forgotten = false;
         om_take_ended(&om, ended, SLOTS, &count);
         for (size_t i = 0; i < count; i++) {
-            forget(om_object_data(&om, ended[i].object.slot, ended[i].object.generation));
+            is_forgotten |= forget(om_object_data(&om, ended[i].object.slot, ended[i].object.generation));
         }
-    } while (count > 0);
+    } while (is_forgotten);
     do {
         om_take_answered(&om, answers, 16, &count);
         for (size_t i = 0; i < count; i++) {
