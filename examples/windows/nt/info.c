@@ -128,7 +128,7 @@ uint32_t NtQueryInformationProcess(void) {
     process *p;
     uint64_t to = arg(2);
     uint32_t class = (uint32_t)arg(1), size = (uint32_t)arg(3), need = class == BASICS ? 0x30 : class == TIMES ? 0x20 : 0x40;
-    uint32_t status = process_by(arg(0), 0x1000, &k, &p); /* PROCESS_QUERY_LIMITED_INFORMATION */
+    uint32_t status = process_by(arg(0), PROCESS_QUERY_LIMITED, &k, &p);
     size_t i = 0;
     while (i < sizeof plain / sizeof *plain && plain[i].class != class) {
         i++;

@@ -135,7 +135,8 @@ enum {
 
 /* Rights to a file; and to a thread or process those for which others stand (Learn: "Thread Security and Access Rights"). */
 enum { READ_DATA = 0x1, WRITE_DATA = 0x2, APPEND_DATA = 0x4 };
-enum { THREAD_SET = 0x20, THREAD_QUERY = 0x40, THREAD_SET_LIMITED = 0x400, THREAD_QUERY_LIMITED = 0x800, PROCESS_QUERY = 0x400, PROCESS_QUERY_LIMITED = 0x1000 };
+enum { THREAD_SET = 0x20, THREAD_QUERY = 0x40, THREAD_SET_LIMITED = 0x400, THREAD_QUERY_LIMITED = 0x800 };
+enum { PROCESS_QUERY = 0x400, PROCESS_QUERY_LIMITED = 0x1000 };
 
 #define THIS_PROCESS UINT64_MAX
 #define THIS_THREAD (UINT64_MAX - 1)

@@ -1,5 +1,5 @@
-/* Named pipes of bytes (Learn: "Named Pipes"), of which CreatePipe makes one too. Each end is a file; it keeps what there is to read at it, and the I/O that its
- * calls have begun. An I/O that doesn't end in its call ends in one of another thread: of the other end, or one that cancels it. */
+/* Named pipes of bytes (Learn: "Named Pipes"), of which CreatePipe makes one too. Each end is a file; it keeps what there is to read at it, and the I/O that
+ * its calls have begun. An I/O that doesn't end in its call ends in one of another thread: of the other end, or one that cancels it. */
 #include "nt.h"
 
 #include <stdlib.h>
@@ -209,7 +209,8 @@ static kept *next_server(const char *path, uint32_t *slot) {
     return NULL;
 }
 
-/* NtCreateNamedPipeFile (&HANDLE, ACCESS, ATTRIBUTES, &IO, SHARING, DISPOSITION, OPTIONS, MESSAGES, READS MESSAGES, NEVER WAITS, INSTANCES, QUOTA, QUOTA, ..) */
+/* NtCreateNamedPipeFile (&HANDLE, ACCESS, ATTRIBUTES, &IO, SHARING, DISPOSITION, OPTIONS, MESSAGES, READS MESSAGES, NEVER WAITS, INSTANCES, QUOTA, QUOTA, ..)
+ * */
 uint32_t NtCreateNamedPipeFile(void) {
     static const char folder[] = "\\??\\pipe\\";
     char path[2 * NT_NAME_MOST];
