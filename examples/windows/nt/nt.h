@@ -8,8 +8,8 @@
  * image.c    programs and DLLs in it               context.c   registers told, exceptions, APCs
  * threads.c  turns, the clock, the processor       files.c     the guests' drive, and files on it
  * fault.c    which instruction of a block failed   sections.c  files as memory, and shared memory
- * stuck.c    who waits for whom                    ports.c     completion ports, and how an I/O ends
- * fast.c     Unicorn's stores, less slow           pipes.c     named pipes
+ * stuck.c    who waits for whom                    ports.c     completion ports
+ * fast.c     Unicorn's stores, less slow           pipes.c     named pipes, and their I/O
  * save.c     all of it in a file                   info.c      what is asked of the system, processes and threads
  * layout.h   what of Windows' own structures lies where */
 #ifndef NT_H

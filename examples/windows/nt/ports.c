@@ -35,6 +35,13 @@ static thread *last_waiter(const kept *port) {
     return last;
 }
 
+/* Ends the wait of one, unless its time has just been up. */
+static bool wake_waiter(thread *t, uint32_t status) {
+    bool is_woken = wake(t, status);
+    t->waits = WAKES;
+    return is_woken;
+}
+
 /* Leaves a packet at a port, for the thread that began last to wait there, if one does. */
 static void leave_packet(kept *port, uint64_t key, uint64_t value, uint32_t status, uint64_t count) {
     packet *made = calloc(1, sizeof *made);
@@ -45,17 +52,18 @@ static void leave_packet(kept *port, uint64_t key, uint64_t value, uint32_t stat
     *(port->packets == NULL ? &port->packets : &port->last_packet->next) = made;
     port->last_packet = made;
     queued++;
-    thread *t = last_waiter(port);
-    bool is_one = t != NULL && t->waits == FOR_PACKET;
-    if (t == NULL || !wake(t, STATUS_SUCCESS)) {
-        set_signal(port, true);
-        return;
+    for (thread *t; (t = last_waiter(port)) != NULL;) {
+        const uint64_t *r = t->now.whole; /* the arguments of its call */
+        bool is_one = t->waits == FOR_PACKET;
+        if (wake_waiter(t, STATUS_SUCCESS)) {
+            process *before = in;
+            in = t->of;
+            take_packet(port, r[RDX], is_one ? r[R8] : r[RDX] + 8, is_one ? r[R9] : r[RDX] + 16);
+            in = before;
+            return;
+        }
     }
-    process *before = in;
-    const uint64_t *r = t->now.whole; /* the arguments of its call */
-    in = t->of;
-    take_packet(port, r[RDX], is_one ? r[R8] : r[RDX] + 8, is_one ? r[R9] : r[RDX] + 16);
-    in = before;
+    set_signal(port, true);
 }
 
 uint32_t NtCreateIoCompletion(void) {
@@ -146,7 +154,8 @@ uint32_t NtQueryIoCompletion(void) {
 
 /* A port ends, whose waits end with it, or a file that has one. */
 void end_port(kept *k) {
-    for (thread *t; (t = last_waiter(k)) != NULL && wake(t, STATUS_ABANDONED);) {
+    for (thread *t; (t = last_waiter(k)) != NULL;) {
+        wake_waiter(t, STATUS_ABANDONED);
     }
     while (k->packets != NULL) {
         packet *first = k->packets;
