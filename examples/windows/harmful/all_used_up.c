@@ -17,7 +17,7 @@ static DWORD WINAPI sleeper(void *milliseconds) {
 }
 
 static BOOL process(void) {
-    char path[MAX_PATH], line[] = "child 6 0";
+    char path[MAX_PATH], line[] = "child 9 0";
     STARTUPINFOA how = {.cb = sizeof how};
     PROCESS_INFORMATION made;
     return GetModuleFileNameA(NULL, path, sizeof path) != 0 && CreateProcessA(path, line, NULL, NULL, FALSE, 0, NULL, NULL, &how, &made);
