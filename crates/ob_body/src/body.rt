@@ -1,4 +1,4 @@
-ghost use Rattle.std.specs.Prelude.{◌≡◌, ◌<◌, ◌≤◌, true, false, None, IsSome};
+ghost use Rattle.std.specs.Prelude.{◌≡◌, ◌<◌, ◌≤◌, true, false, None, IsSome, IfOk, IfErr, Ok, Err};
 ghost use Rattle.ob_body.specs.Body as spec;
 ghost use Rattle.ob_body.specs.Mutex as mutex;
 ghost use Rattle.ob_body.specs.Timer.{is_due};
@@ -209,6 +209,24 @@ impl Body {
         match self {
             Body::Mutex(mutex) => mutex.unlock(thread),
             _ => unreachable!(),
+        }
+    }
+
+    /// What it is once the thread has released it once, as [`unlock`](Body::unlock) does. [`Fault::Handle`] (6) where
+    /// it is no mutex.
+    #[inline(always)]
+    pub fn unlocked(&self, thread: u32) -> Result<Body, Fault>
+        ensures answer { IfOk result (λ after. spec.unlock_answer thread self.now ≡ Ok tt) }
+        ensures value { IfOk result (λ after. after ≡ spec.after_unlock thread self.now) }
+        ensures err { IfErr result (λ fault. spec.unlock_answer thread self.now ≡ Err fault) }
+    {
+        match self {
+            Body::Mutex(mutex) => {
+                let mut after = *mutex;
+                after.unlock(thread)?;
+                Ok(Body::Mutex(after))
+            }
+            _ => Err(Fault::Handle),
         }
     }
 

@@ -104,8 +104,10 @@ pub fn release_mutex<K: PinKeeper>(
 {
     let process = caller(store, thread)?;
     let entry = found(store, process, handle)?;
-    let mutex = body_of(store, entry.id, Kind::Mutex)?;
-    store.unlock(entry.id, mutex, thread)?;
+    let Some(body) = store.body(entry.id) else {
+        return Err(Fault::Handle);
+    };
+    store.unlock(entry.id, body, thread)?;
     Ok(Reply::Done)
 }
 

@@ -1,6 +1,6 @@
 ghost use Rattle.std.specs.Prelude.{◌≡◌, ℕ, true, None, Some, OnErr, OnOk, slice_index_or};
 ghost use Rattle.ob_body.specs.Body as spec;
-ghost use Rattle.ob_rights.specs.declared.kind.Kind.TheVariants.{Mutex, Semaphore, Timer};
+ghost use Rattle.ob_rights.specs.declared.kind.Kind.TheVariants.{Semaphore, Timer};
 ghost use Rattle.ob_store.specs.State.{settled, with_body};
 ghost use Rattle.ob_store.specs.Kept.{Yields};
 ghost use Rattle.ob_store.specs.Moves.{OnlyCloses};
@@ -94,19 +94,17 @@ impl<K: PinKeeper> Store<K> {
 
     /// Releases a mutex once.
     ///
-    /// Refused with 288 where the thread doesn't own it.
+    /// Refused with 6 where the body is no mutex, and with 288 where the thread doesn't own it.
     #[tactic(auto, using(crate::proofs::Yielding::unlock_yields))]
     pub fn unlock(&mut self, id: Id, mutex: Body, thread: u32) -> Result<(), Fault>
         requires bodied { slice_index_or self.old.state.bodies id.slot None ≡ Some mutex }
-        requires mutex { spec.kind_of mutex ≡ Mutex }
         ensures answer { result ≡ spec.unlock_answer thread mutex }
         ensures ok { OnOk result (self.new.state
             ≡ settled (with_body self.old.state id (spec.after_unlock thread mutex))) }
         ensures err { OnErr result (self.new ≡ self.old) }
         ensures keeper { OnlyCloses self.old.keeper self.new.keeper }
     {
-        let mut after = mutex;
-        after.unlock(thread)?;
+        let after = mutex.unlocked(thread)?;
         self.put(id, mutex, after);
         Ok(())
     }
