@@ -11,7 +11,7 @@ use std::convert::AsSlice;
 
 /// A call of the manager with its arguments: what a create asks for is an `M`, a name a `T`, and a list of handles an
 /// `H`.
-#[derive(Clone, Copy, PartialEq, Drop)]
+#[derive(PartialEq, Drop)]
 pub enum CallOf<M, T, H> {
     /// `Manager::spawn`.
     Spawn {
@@ -279,6 +279,16 @@ pub enum CallOf<M, T, H> {
         id: Id,
     },
 }
+
+impl<M: Copy, T: Copy, H: Copy> Clone for CallOf<M, T, H> {
+    ghost is_clone = { λ call copy. copy ≡ call };
+
+    fn clone(&self) -> Result<CallOf<M, T, H>, AllocError> {
+        Ok(*self)
+    }
+}
+
+impl<M: Copy, T: Copy, H: Copy> Copy for CallOf<M, T, H> {}
 
 /// A call with a name and handles of its own, as a journal keeps it.
 pub type Call = CallOf<Making, Text, HandleList>;
