@@ -819,7 +819,7 @@ uint32_t om_save(om_manager *m, void *bytes, size_t capacity, size_t *written);
  * om_free. Any bytes may be passed: where they are no savestate, be it by one bit, they are refused. A count that passes its bound is refused
  * before what it counts is read, so what a load takes goes with the length: some 20 to 40 bytes for each byte that says a handle's place,
  * and up to some 500 for each process or thread number, of which there are 65,536 each at the most; limits.threads alone asks for some, 8
- * bytes a thread number.
+ * bytes a thread number, and where numbers come back limits.slots for as much as om_new_reusing does.
  * OM_ERROR_INVALID_DATA where the bytes are no savestate of this version; OM_ERROR_NOT_ENOUGH_MEMORY. */
 uint32_t om_load(const void *bytes, size_t length, om_manager *m);
 

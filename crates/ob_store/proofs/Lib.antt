@@ -30,6 +30,7 @@ pub mod EndingLaws
 pub mod EmptiedLaws
 pub mod PassedLaws
 pub mod KeeperLaws
+pub mod UsedLaws
 pub mod SavedLaws
 pub mod CountingLaws
 pub mod SavedSlotLaws

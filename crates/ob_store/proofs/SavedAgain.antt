@@ -5,7 +5,6 @@ use Rattle.std.specs.List.{AllByRecursion, range_with_len}
 use Rattle.std.proofs.lemmas.List.{ext_get_or, get_or-map, length-map}
 use Rattle.std.proofs.lemmas.List.FromFn.{get_or-map-range_with_len, length-map-range_with_len, get_or-range_with_len, length-range_with_len}
 use Rattle.std.proofs.lemmas.List.Sums.{sum_by-cons}
-use Rattle.ob_codec.specs.Codecs.{items_again}
 use Rattle.pin_core.specs.declared.shape.Shape.{Shape}
 use Rattle.pin_core.specs.declared.world.Slot.{Slot}
 use Rattle.pin_core.specs.Worlds.{opening_slot, slot_of}
@@ -23,16 +22,16 @@ use Rattle.ob_store.specs.Objects.{Object, ObjectsState, Places, places_in}
 use Rattle.ob_store.specs.SavedNames.{names_in}
 use Rattle.ob_store.specs.SavedObjects.{begun_over, object_saved, objects_at, objects_text, slot_saved, slots_saved, whole_at, whole_objects, with_slots}
 use Rattle.ob_store.specs.SavedWaits.{with_blocks}
-use Rattle.ob_store.specs.SavedSlots.{SlotFits, body_from, body_in, is_retired, keeper_slot, objects_from, places_from, slots_at}
+use Rattle.ob_store.specs.SavedSlots.{SlotFits, body_from, body_in, fresh_slot, is_retired, keeper_slot, objects_from, places_from, slots_at}
 use Rattle.ob_store.specs.State.{shape_of}
 use Rattle.ob_store.proofs.BySlot.{zero_counts}
 use Rattle.ob_store.proofs.CountingAgain.{counting_again}
 use Rattle.ob_store.proofs.NamedLaws.{sum_same}
-use Rattle.ob_store.proofs.SavedCodecs.{slot_codec}
+use Rattle.ob_store.proofs.SavedCodecs.{rows_codec}
 use Rattle.ob_store.proofs.SavedKeptLaws.{all_taken, blocks_counted}
 use Rattle.ob_store.proofs.SavedLaws.{objects-long}
 use Rattle.ob_store.proofs.SavedNameLaws.{names_complete}
-use Rattle.ob_store.proofs.SavedObjectLaws.{none_saved, object-at}
+use Rattle.ob_store.proofs.SavedObjectLaws.{object-at}
 use Rattle.ob_store.proofs.WholeAgain.{births_again, bodied_again}
 
 sum_map : {A B : Type 0} (f : B → ℕ) (g : A → B) (xs : List A) → sum_by f (map g xs) ≡ sum_by (λ x. f (g x)) xs
@@ -53,7 +52,7 @@ module _ (s : ObjectsState) (tied : ObjectsInvariant s) where
   pub xs-long : length (slots_saved s) ≡ s.keeper.shape.slots
   xs-long = length-map-range_with_len (slot_saved s) 0 n
 
-  pub xs-at : (k : ℕ) → k < s.keeper.shape.slots → get_or (slots_saved s) k none_saved ≡ slot_saved s k
+  pub xs-at : (k : ℕ) → k < s.keeper.shape.slots → get_or (slots_saved s) k fresh_slot ≡ slot_saved s k
   xs-at k lt = search (arith, get_or-map-range_with_len)
 
   objects-back : objects_from 0 xs ≡ s.objects
@@ -64,14 +63,14 @@ module _ (s : ObjectsState) (tied : ObjectsInvariant s) where
   bodies-back = ext_get_or None (map body_from xs) s.seen.bodies (length-map xs body_from ∙ xs-long ∙
       sym tied.agreed.bodied)
       (λ k lt. (let within : k < n = omega (arith, length-map xs body_from, xs-long) in
-      get_or-map body_from xs k none_saved None (omega (arith, xs-long)) ∙ ap body_from (xs-at k within) ∙
+      get_or-map body_from xs k fresh_slot None (omega (arith, xs-long)) ∙ ap body_from (xs-at k within) ∙
       one-body k _ _ _ _ (tied.agreed.each k within)))
 
   retired-back : map is_retired xs ≡ s.retired
   retired-back = ext_get_or false (map is_retired xs) s.retired (length-map xs is_retired ∙ xs-long ∙
       sym tied.agreed.marked)
       (λ k lt. (let within : k < n = omega (arith, length-map xs is_retired, xs-long) in
-      get_or-map is_retired xs k none_saved false (omega (arith, xs-long)) ∙ ap is_retired (xs-at k within)))
+      get_or-map is_retired xs k fresh_slot false (omega (arith, xs-long)) ∙ ap is_retired (xs-at k within)))
 
   slots-back : map (slot_of s.keeper.slots) (range_with_len 0 n) ≡ s.keeper.slots
   slots-back = ext_get_or opening_slot (map (slot_of s.keeper.slots) (range_with_len 0 n)) s.keeper.slots
@@ -108,9 +107,9 @@ module _ (s : ObjectsState) (tied : ObjectsInvariant s) where
     places-back : places_from xs ≡ uncounted bare
     places-back = search (arith, objects-back, bodies-back, retired-back, zeros)
 
-    slots-again : slots_at limits.slots limits.max_gen list.clock (objects_text s ++ rest) ≡
+    slots-again : slots_at limits.reuse limits.slots limits.max_gen list.clock (objects_text limits.reuse s ++ rest) ≡
         Ok ((uncounted bare, map keeper_slot xs), rest)
-    slots-again = rw (← wide, items_again (slot_codec limits.max_gen list.clock) xs rest fits, places-back) refl
+    slots-again = rw ((rows_codec limits list.clock limits.reuse).again xs rest (wide, fits), places-back) refl
 
     handles-again : counting_all (uncounted bare) tables ≡ Ok bare
     handles-again = counting_again bare processes limit tables (None ∷ [])
@@ -120,7 +119,7 @@ module _ (s : ObjectsState) (tied : ObjectsInvariant s) where
     blocks-again : with_blocks list.waits bare ≡ places_in s
     blocks-again = search (arith, blocks_counted)
 
-    whole-again : whole_at limits tables list (objects_text s ++ rest) ≡
+    whole-again : whole_at limits tables list (objects_text limits.reuse s ++ rest) ≡
         Ok ((record s { keeper = begun_over (shape_of limits) (map keeper_slot xs) }, rows), rest)
     whole-again =
         let slots = map keeper_slot xs in
@@ -129,13 +128,13 @@ module _ (s : ObjectsState) (tied : ObjectsInvariant s) where
         let named : names_in born.0 (places_in s) ≡ Ok rows = search (arith, births-back, names_complete) in
         let whole : whole_objects limits slots (places_in s) ≡ Ok (with_slots (places_in s) limits slots, rows) =
         rw (born.1, bodied_again s.seen (length s.objects) tied.bodied, named) refl in
-        let read : whole_at limits tables list (objects_text s ++ rest) ≡ Ok (
+        let read : whole_at limits tables list (objects_text limits.reuse s ++ rest) ≡ Ok (
           (with_slots (places_in s) limits slots, rows),
           rest,
         ) =
         search (arith, slots-again, handles-again, blocks-again) in
         search (arith, births-back)
 
-    pub objects_again : objects_at limits threads tables list (objects_text s ++ rest) ≡
+    pub objects_again : objects_at limits threads tables list (objects_text limits.reuse s ++ rest) ≡
         Ok ((record s { keeper = begun_over (shape_of limits) (map keeper_slot xs) }, rows), rest)
     objects_again = rw (whole-again, all_taken limits.max_recursion threads s tables list.waits named live quiet) refl

@@ -1,9 +1,10 @@
 -- Slots are read as they were spelled, and the objects that are read were spelled so.
-use Rattle.std.proofs.Common.{◌≡◌, ℕ, ◌<◌, false, List, length, get_or, Option, None, Ok, refl, sym, ap, ◌∙◌, subst, arith}
+use Rattle.std.proofs.Common.{◌≡◌, ℕ, ◌<◌, Bool, true, false, List, ◌++◌, length, get_or, Option, None, Ok, refl, sym, ap, ◌∙◌, subst, arith}
 use Rattle.std.specs.List.{flat_map}
+use Rattle.std.proofs.lemmas.Bool.{le-leb}
 use Rattle.std.proofs.lemmas.List.{ext_get_or}
 use Rattle.std.proofs.lemmas.List.FromFn.{get_or-map-range_with_len, length-map-range_with_len}
-use Rattle.ob_codec.specs.Codecs.{as_codec, both_codec, flag_codec, items_take, option_codec, u32_codec, u64_codec, where_codec}
+use Rattle.ob_codec.specs.Codecs.{as_codec, both_codec, flag_codec, items_again, items_take, list_codec, option_codec, some_codec, u32_codec, u64_codec, where_codec}
 use Rattle.ob_codec.specs.Laws.{IsCodec, Takes}
 use Rattle.ob_codec.specs.Reading.{items_at}
 use Rattle.ob_codec.specs.Spelling.{AreBytes}
@@ -20,9 +21,10 @@ use Rattle.ob_tables.specs.declared.entry.Entry.{Entry}
 use Rattle.ob_waits.specs.Waits.{WaitList}
 use Rattle.ob_waits.specs.declared.wait.Wait.{Wait}
 use Rattle.ob_store.proofs.CountingLaws.{Counts}
-use Rattle.ob_store.proofs.SavedObjectLaws.{AreRead, body-here, counts, none_saved, object-here, retired-here, slot-here}
+use Rattle.ob_store.proofs.SavedObjectLaws.{AreRead, body-here, counts, object-here, retired-here, slot-here}
 use Rattle.ob_store.proofs.SavedKeptLaws.{whole_steps}
-use Rattle.ob_store.proofs.SavedSlotLaws.{IsSlotSound, items_all, slot_generation, slot_sound}
+use Rattle.ob_store.proofs.SavedSlotLaws.{rows_all, slot_generation}
+use Rattle.ob_store.proofs.UsedLaws.{RowsFit, used_back, used_there}
 use Rattle.ob_store.specs.declared.limits.Limits.{Limits}
 use Rattle.ob_store.specs.declared.saved_slot.SavedObject.{SavedObject}
 use Rattle.ob_store.specs.declared.saved_slot.SavedSlot.{SavedSlot}
@@ -30,7 +32,7 @@ use Rattle.ob_store.specs.Objects.{ObjectsState, Places}
 use Rattle.ob_store.specs.SavedObjects.{object_saved, objects_at, objects_text, slot_saved, slots_saved, whole_at, with_slots}
 use Rattle.ob_store.specs.SavedWaits.{with_blocks}
 use Rattle.ob_store.specs.SavedSlots as saved
-use Rattle.ob_store.specs.SavedSlots.{ObjectFits, SlotFits, object_at, object_parts, object_text, slot_at, slot_parts, slot_stands, slot_text, slots_from}
+use Rattle.ob_store.specs.SavedSlots.{ObjectFits, SlotFits, filled, fresh_slot, object_at, object_parts, object_text, rows_at, rows_text, slot_at, slot_parts, slot_stands, slot_text, slots_from, used}
 
 pub object_codec : IsCodec object_text object_at ObjectFits
 object_codec = as_codec saved.object_of object_parts (λ _. refl) (λ _. refl)
@@ -43,6 +45,27 @@ slot_codec max_gen clock = where_codec
     (both_codec u32_codec (both_codec flag_codec (option_codec object_codec))))
     (slot_stands max_gen clock)
 
+-- so many slots are read as they were spelled, each of them or up to the last that ever had an object
+module _ (limits : Limits) (clock : ℕ) where
+  fresh-fits : SlotFits limits.max_gen clock fresh_slot
+  fresh-fits = (
+    (omega arith, (tt, tt)),
+    (let some = limits.in_range.max_gen_in_range.0 in search (arith, le-leb)),
+  )
+
+  pub rows_codec : (short : Bool) → IsCodec (rows_text short) (rows_at short limits.slots limits.max_gen clock)
+      (RowsFit limits.slots limits.max_gen clock)
+  rows_codec true = some_codec (filled limits.slots) used (RowsFit limits.slots limits.max_gen clock)
+      (used_there limits.slots limits.max_gen clock (let most = limits.in_range.slots_in_range.1 in omega arith))
+      (used_back limits.slots limits.max_gen clock fresh-fits)
+      (list_codec (slot_codec limits.max_gen clock) limits.slots)
+  rows_codec false = record {
+    again = λ xs rest fit. subst (λ (n : ℕ). items_at (slot_at limits.max_gen clock) n (flat_map slot_text xs ++ rest)
+        ≡ Ok (xs, rest)) fit.0 (items_again (slot_codec limits.max_gen clock) xs rest fit.1);
+    takes = λ bytes xs rest are e.
+        (let t = items_take (slot_codec limits.max_gen clock) limits.slots bytes xs rest are e in (t.0, (t.1, t.2)));
+  }
+
 -- an object that was put into its slot is saved as it was
 saved-back : (id : Id) (o : Option SavedObject) → object_saved (saved.object_in_slot id o) (saved.body_in o) ≡ o
 saved-back = search arith
@@ -50,9 +73,9 @@ saved-back = search arith
 module _ (n max_gen clock : ℕ) (p : Places) (slots : List Slot) (r : AreRead n max_gen clock p slots) (q : Places)
     (more : ℕ → ℕ) (Named : Id → Type 0) (counts : Counts p q more Named) (limits : Limits) (wide : n ≡
     limits.slots) where
-  slot-back : (k : ℕ) → k < n → slot_saved (with_slots q limits slots) k ≡ get_or r.xs k none_saved
+  slot-back : (k : ℕ) → k < n → slot_saved (with_slots q limits slots) k ≡ get_or r.xs k fresh_slot
   slot-back k lt =
-      let x = get_or r.xs k none_saved in
+      let x = get_or r.xs k fresh_slot in
       let generation : (slot_of slots k).generation ≡ x.generation =
       ap (λ (y : Slot). y.generation) (slot-here n max_gen clock p slots r q more Named counts k lt) ∙
       slot_generation x in
@@ -68,22 +91,22 @@ module _ (n max_gen clock : ℕ) (p : Places) (slots : List Slot) (r : AreRead n
   slots_back waits =
       let s = with_slots (with_blocks waits q) limits slots in
       let long : length (slots_saved s) ≡ limits.slots = length-map-range_with_len (slot_saved s) 0 limits.slots in
-      ext_get_or none_saved (slots_saved s) r.xs (long ∙ sym wide ∙ sym r.length_is)
+      ext_get_or fresh_slot (slots_saved s) r.xs (long ∙ sym wide ∙ sym r.length_is)
       (λ k lt. (let within : k < n = omega arith in
-      get_or-map-range_with_len (slot_saved s) 0 limits.slots k k none_saved (omega arith) (omega arith)
+      get_or-map-range_with_len (slot_saved s) 0 limits.slots k k fresh_slot (omega arith) (omega arith)
       ∙ slot-back k within))
 
 -- what is read is the spelling of the objects that it gives
 whole_take : (limits : Limits) (tables : List (List (Option Entry))) (list : WaitList) (bytes : List ℕ)
     (s : ObjectsState) (rows : Rows) (rest : List ℕ) → AreBytes bytes →
-    whole_at limits tables list bytes ≡ Ok ((s, rows), rest) → Takes bytes (objects_text s) rest
+    whole_at limits tables list bytes ≡ Ok ((s, rows), rest) → Takes bytes (objects_text limits.reuse s) rest
 whole_take limits tables list bytes s rows rest are e =
     let w = whole_steps limits tables list bytes s rows rest e in
-    let i = bind_ok (items_at (slot_at limits.max_gen list.clock) limits.slots bytes) (λ (xs : List SavedSlot ×
+    let i = bind_ok (rows_at limits.reuse limits.slots limits.max_gen list.clock bytes) (λ (xs : List SavedSlot ×
     List ℕ). Ok (slots_from xs.0, xs.1)) ((w.p, w.slots), rest) w.read in
     let back = ok_is (slots_from i.0.0, i.0.1) ((w.p, w.slots), rest) i.2 in
-    let all = items_all (slot_at limits.max_gen list.clock) (IsSlotSound limits.max_gen list.clock)
-    (slot_sound limits.max_gen list.clock) none_saved limits.slots bytes i.0.0 i.0.1 i.1 in
+    let all = rows_all limits.reuse limits.slots limits.max_gen list.clock limits.in_range.max_gen_in_range.0 bytes
+    i.0.1 i.0.0 i.1 in
     let r : AreRead limits.slots limits.max_gen list.clock w.p w.slots = record {
       xs = i.0.0;
       length_is = all.0;
@@ -91,15 +114,15 @@ whole_take limits tables list bytes s rows rest are e =
       places = sym (ap (λ (z : (Places × List Slot) × List ℕ). z.0.0) back);
       slots_are = sym (ap (λ (z : (Places × List Slot) × List ℕ). z.0.1) back);
     } in
-    let taken = (items_take (slot_codec limits.max_gen list.clock) limits.slots bytes i.0.0 i.0.1 are i.1).0 in
-    subst (λ (z : ObjectsState). Takes bytes (objects_text z) rest) w.is
-    (subst (λ (xs : List SavedSlot). Takes bytes (flat_map slot_text xs) rest)
+    let taken = ((rows_codec limits list.clock limits.reuse).takes bytes i.0.0 i.0.1 are i.1).0 in
+    subst (λ (z : ObjectsState). Takes bytes (objects_text limits.reuse z) rest) w.is
+    (subst (λ (xs : List SavedSlot). Takes bytes (rows_text limits.reuse xs) rest)
     (sym (slots_back limits.slots limits.max_gen list.clock w.p w.slots r w.q _ _
     (counts limits list.clock tables bytes w.p w.q w.slots rest w.read w.counted) limits refl list.waits))
-    (subst (λ (t : List ℕ). Takes bytes (flat_map slot_text i.0.0) t) (ap (λ (z : (Places × List Slot) ×
+    (subst (λ (t : List ℕ). Takes bytes (rows_text limits.reuse i.0.0) t) (ap (λ (z : (Places × List Slot) ×
     List ℕ). z.1) back) taken))
 
 pub objects_take : (limits : Limits) (threads : List (Option ℕ)) (tables : List (List (Option Entry)))
     (list : WaitList) (bytes : List ℕ) (s : ObjectsState) (rows : Rows) (rest : List ℕ) → AreBytes bytes →
-    objects_at limits threads tables list bytes ≡ Ok ((s, rows), rest) → Takes bytes (objects_text s) rest
+    objects_at limits threads tables list bytes ≡ Ok ((s, rows), rest) → Takes bytes (objects_text limits.reuse s) rest
 objects_take limits threads tables list bytes s rows rest are e = search (arith, whole_take)

@@ -46,7 +46,7 @@ pub record IsWhole (limits : Limits) (tables : List (List (Option Entry))) (list
   pub q : Places
   pub slots : List Slot
   pub order : Births
-  pub read : slots_at limits.slots limits.max_gen list.clock bytes ≡ Ok ((p, slots), rest)
+  pub read : slots_at limits.reuse limits.slots limits.max_gen list.clock bytes ≡ Ok ((p, slots), rest)
   pub counted : counting_all p tables ≡ Ok q
   pub ordered : births_from (sum_by made_in slots) [] 0 q.objects ≡ Ok order
   pub named : names_in order (with_blocks list.waits q) ≡ Ok rows
@@ -56,7 +56,7 @@ pub whole_steps : (limits : Limits) (tables : List (List (Option Entry))) (list 
     (s : ObjectsState) (rows : Rows) (rest : List ℕ) → whole_at limits tables list bytes ≡ Ok ((s, rows), rest) →
     IsWhole limits tables list bytes s rows rest
 whole_steps limits tables list bytes s rows rest e =
-    let a = bind_ok (slots_at limits.slots limits.max_gen list.clock bytes) _ ((s, rows), rest) e in
+    let a = bind_ok (slots_at limits.reuse limits.slots limits.max_gen list.clock bytes) _ ((s, rows), rest) e in
     let slots = a.0.0.1 in
     let b = bind_ok (counting_all a.0.0.0 tables) (λ (q : Places). whole_objects limits slots
     (with_blocks list.waits q) >>= λ (o : ObjectsState × Rows). Ok (o, a.0.1)) ((s, rows), rest) a.2 in

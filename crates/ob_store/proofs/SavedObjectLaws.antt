@@ -1,11 +1,8 @@
 -- Objects that were read are tied to a keeper that begins with their slots.
-use Rattle.std.proofs.lemmas.Bool.Decides.{nat_tests}
-use Rattle.ob_codec.proofs.AtPlace.{at_place}
-use Rattle.std.proofs.Common.{◌≡◌, ℕ, zero, suc, ◌+◌, ◌<◌, Bool, true, false, cond, ltb, List, [], ◌∷◌, length, get_or, map, Option, Some, None, Ok, refl, sym, ap, ◌∙◌, arith, inl, inr}
+use Rattle.std.proofs.Common.{◌≡◌, ℕ, zero, suc, ◌+◌, ◌<◌, ◌≤◌, Bool, true, false, cond, ltb, List, [], ◌∷◌, length, get_or, map, Option, Some, None, Ok, refl, sym, ap, ◌∙◌, arith, inl, inr}
 use Rattle.std.specs.Prelude.{is_none, is_some, sum_by}
 use Rattle.std.proofs.lemmas.Bool.{cases_lt}
 use Rattle.std.proofs.lemmas.List.{get_or-map, get_or-replicate, get_or_past, length-map, length-replicate}
-use Rattle.ob_codec.specs.Reading.{items_at}
 use Rattle.ob_codec.specs.Steps.{bind_ok, ok_is}
 use Rattle.pin_core.specs.declared.id.Id.{Id}
 use Rattle.pin_core.specs.declared.world.Slot.{Slot}
@@ -24,7 +21,7 @@ use Rattle.ob_store.specs.Kept.{AreFormed, IsThere}
 use Rattle.ob_store.specs.Objects.{Places}
 use Rattle.ob_store.specs.SavedBirths.{Births, births_from}
 use Rattle.ob_store.specs.SavedObjects.{are_bodied, is_bodied, with_slots}
-use Rattle.ob_store.specs.SavedSlots.{body_from, keeper_slot, object_from, objects_from, places_from, slot_at, slots_at, slots_from}
+use Rattle.ob_store.specs.SavedSlots.{body_from, fresh_slot, keeper_slot, object_from, objects_from, places_from, rows_at, slots_at, slots_from}
 use Rattle.ob_store.specs.SavedWaits.{with_blocks}
 use Rattle.ob_store.specs.State.{by_slot}
 use Rattle.ob_store.proofs.ByPlace.{below_at}
@@ -33,7 +30,7 @@ use Rattle.ob_store.proofs.CountingLaws.{Counts, tables_count}
 use Rattle.ob_store.proofs.KeeperLaws.{all_shown}
 use Rattle.ob_store.proofs.SavedBirthLaws.{ordered_born}
 use Rattle.ob_store.proofs.SavedLaws.{objects-long}
-use Rattle.ob_store.proofs.SavedSlotLaws.{IsSlotSound, items_all, slot_aged, slot_formed, slot_generation, slot_sound}
+use Rattle.ob_store.proofs.SavedSlotLaws.{IsSlotSound, rows_all, slot_aged, slot_formed, slot_generation}
 
 -- each slot has a body exactly where something refers to its object
 all_bodied : (o : waits.CountedBodies) (n : ℕ) → length o.bodies ≡ n → length o.handles ≡ n → length o.blocks ≡ n →
@@ -52,11 +49,8 @@ all_bodied o n bodies handles blocks all = record {
     by false None e = refl
     by false (Some b) e = absurd (cc e)
 
-abbrev pub none_saved : SavedSlot
-none_saved = record { generation = 0; retired = false; object = None }
-
 pub object-at : (j k : ℕ) (xs : List SavedSlot) → k < length xs → get_or (objects_from j xs) k None ≡
-    object_from (j + k) (get_or xs k none_saved)
+    object_from (j + k) (get_or xs k fresh_slot)
 object-at j k [] lt = absurd (omega arith)
 object-at j zero (x ∷ xs) lt = search arith
 object-at j (suc k) (x ∷ xs) lt = search (arith, object-at (suc j) k xs (omega arith))
@@ -65,20 +59,19 @@ object-at j (suc k) (x ∷ xs) lt = search (arith, object-at (suc j) k xs (omega
 pub record AreRead (n max_gen clock : ℕ) (p : Places) (slots : List Slot) : Type 0 where
   pub xs : List SavedSlot
   pub length_is : length xs ≡ n
-  pub sound : (k : ℕ) → k < n → IsSlotSound max_gen clock (get_or xs k none_saved)
+  pub sound : (k : ℕ) → k < n → IsSlotSound max_gen clock (get_or xs k fresh_slot)
   pub places : p ≡ places_from xs
   pub slots_are : slots ≡ map keeper_slot xs
 
-slots-are-read : (n max_gen clock : ℕ) (bytes : List ℕ) (p : Places) (slots : List Slot) (rest : List ℕ) →
-    slots_at n max_gen clock bytes ≡ Ok ((p, slots), rest) →
+slots-are-read : (short : Bool) (n max_gen clock : ℕ) → 1 ≤ max_gen → (bytes : List ℕ) (p : Places) (slots : List Slot)
+    (rest : List ℕ) → slots_at short n max_gen clock bytes ≡ Ok ((p, slots), rest) →
     AreRead n max_gen clock p slots
-slots-are-read n max_gen clock bytes p slots rest e =
-    let b = bind_ok (items_at (slot_at max_gen clock) n bytes) (λ (xs : List SavedSlot × List ℕ). Ok (
+slots-are-read short n max_gen clock some bytes p slots rest e =
+    let b = bind_ok (rows_at short n max_gen clock bytes) (λ (xs : List SavedSlot × List ℕ). Ok (
       slots_from xs.0,
       xs.1,
     )) ((p, slots), rest) e in
-    let all = items_all (slot_at max_gen clock) (IsSlotSound max_gen clock)
-    (slot_sound max_gen clock) none_saved n bytes b.0.0 b.0.1 b.1 in
+    let all = rows_all short n max_gen clock some bytes b.0.1 b.0.0 b.1 in
     let q = ok_is (slots_from b.0.0, b.0.1) ((p, slots), rest) b.2 in
     record {
       xs = b.0.0;
@@ -91,7 +84,7 @@ slots-are-read n max_gen clock bytes p slots rest e =
 module _ (n max_gen clock : ℕ) (p : Places) (slots : List Slot) (r : AreRead n max_gen clock p slots) (q : Places)
     (more : ℕ → ℕ) (Named : Id → Type 0) (counts : Counts p q more Named) where
   abbrev at : ℕ → SavedSlot
-  at k = get_or r.xs k none_saved
+  at k = get_or r.xs k fresh_slot
 
   pub objects-long-here : length q.objects ≡ n
   objects-long-here = search (arith, objects-long)
@@ -163,18 +156,20 @@ module _ (n max_gen clock : ℕ) (p : Places) (slots : List Slot) (r : AreRead n
   pub read_wide : length q.seen.blocks ≡ length q.objects
   read_wide = blocks-long ∙ sym objects-long-here
 
-pub slots_read : (n max_gen clock : ℕ) (bytes : List ℕ) (p : Places) (slots : List Slot) (rest : List ℕ) →
-    slots_at n max_gen clock bytes ≡ Ok ((p, slots), rest) → length slots ≡ n
-slots_read n max_gen clock bytes p slots rest e =
-    let r = slots-are-read n max_gen clock bytes p slots rest e in
+pub slots_read : (limits : Limits) (clock : ℕ) (bytes : List ℕ) (p : Places) (slots : List Slot) (rest : List ℕ) →
+    slots_at limits.reuse limits.slots limits.max_gen clock bytes ≡ Ok ((p, slots), rest) → length slots ≡ limits.slots
+slots_read limits clock bytes p slots rest e =
+    let r = slots-are-read limits.reuse limits.slots limits.max_gen clock limits.in_range.max_gen_in_range.0 bytes p slots
+    rest e in
     search (arith, length-map)
 
 module _ (limits : Limits) (clock : ℕ) (tables : List (List (Option Entry))) (bytes : List ℕ) (p q : Places)
     (slots : List Slot) (rest : List ℕ)
-    (read : slots_at limits.slots limits.max_gen clock bytes ≡ Ok ((p, slots), rest)) (counted : counting_all p tables ≡
+    (read : slots_at limits.reuse limits.slots limits.max_gen clock bytes ≡ Ok ((p, slots), rest)) (counted : counting_all p tables ≡
     Ok q) where
   are : AreRead limits.slots limits.max_gen clock p slots
-  are = search (arith, slots-are-read)
+  are = slots-are-read limits.reuse limits.slots limits.max_gen clock limits.in_range.max_gen_in_range.0 bytes p slots
+      rest read
 
   pub counts : Counts p q (λ k. slot_handles k tables) (λ id. 0 < handles_among id tables)
   counts = tables_count p q tables

@@ -1,15 +1,12 @@
 -- What is known of slots that were read.
-use Rattle.std.proofs.Common.{◌≡◌, ℕ, zero, suc, ◌<◌, ◌≤◌, ◌&&◌, Bool, true, List, [], ◌∷◌, length, get_or, Option, Some, None, Ok, sym, ap, ◌∙◌, subst, arith}
+use Rattle.std.proofs.Common.{◌≡◌, ℕ, zero, suc, ◌-◌, ◌<◌, ◌≤◌, ◌&&◌, Bool, true, false, cond, leb, List, [], ◌∷◌, length, get_or, Option, Some, None, Ok, Err, refl, sym, ap, ◌∙◌, subst, arith}
+use Rattle.std.proofs.lemmas.Bool.{le-leb, leb-true}
+use Rattle.std.proofs.lemmas.Option.{cond_some}
 use Rattle.ob_codec.specs.declared.fault.TextFault.TheVariants.{Value}
-use Rattle.ob_codec.specs.Reading.{◌>>=◌, Read, as_at, both_at, given_at, items_at, number_at, option_at, some_at}
+use Rattle.ob_codec.specs.Reading.{◌>>=◌, Read, as_at, both_at, given_at, items_at, list_at, number_at, option_at, some_at}
 use Rattle.ob_codec.specs.Reading as reading
 use Rattle.ob_codec.specs.Steps.{bind_ok, guard_passed, ok_is}
 use Rattle.std.specs.Int.{w32, w64}
-use Rattle.ob_name.specs.Names.{ObjectName}
-use Rattle.ob_name.specs.Spelling.{name_text_at}
-use Rattle.ob_body.specs.Spelling.{body_at}
-use Rattle.ob_rights.specs.declared.rights.Rights.{Rights}
-use Rattle.ob_rights.specs.Spelling.{rights_at}
 use Rattle.pin_core.specs.declared.descr.Descr.{Descr}
 use Rattle.pin_core.specs.Descrs.{IsGiven, decoded}
 use Rattle.pin_core.specs.Spelling.{descr_at}
@@ -20,7 +17,8 @@ use Rattle.ob_store.specs.declared.saved_slot.SavedObject.{SavedObject}
 use Rattle.ob_store.specs.declared.saved_slot.SavedSlot.{SavedSlot}
 use Rattle.ob_store.specs.Kept.{form_in, unset}
 use Rattle.ob_store.specs.Objects.{Object}
-use Rattle.ob_store.specs.SavedSlots.{any_slot_at, body_from, body_in, body_stands, descr_of, keeper_slot, may_retire, object_at, object_from, object_in_slot, object_of, object_stands, slot_at, slot_of, slot_stands}
+use Rattle.ob_store.specs.SavedSlots.{any_slot_at, body_from, body_in, body_stands, content_at, descr_of, ends_used, filled, fresh_slot, keeper_slot, may_retire, object_at, object_from, object_in_slot, object_of, object_stands, rows_at, slot_at, slot_of, slot_stands, with_fresh}
+use Rattle.ob_store.proofs.UsedLaws.{fresh_at, fresh_long}
 
 -- what was read in parts
 module _ {A B : Type 0} where
@@ -34,10 +32,10 @@ module _ {A B : Type 0} where
 
   some-split : (to : A → Option B) (read : List ℕ → Read A) (bytes : List ℕ) (x : B) (rest : List ℕ) →
       some_at to read bytes ≡ Ok (x, rest) →
-      (a : A) × (to a ≡ Some x)
+      (a : A × List ℕ) × (read bytes ≡ Ok a) × (to a.0 ≡ Some x)
   some-split to read bytes x rest e =
       let b = bind_ok (read bytes) (λ (a : A × List ℕ). given_at (to a.0) a.1) (x, rest) e in
-      (b.0.0, by (to b.0.0) b.0.1 b.2)
+      (b.0, b.1, by (to b.0.0) b.0.1 b.2)
     where
       by : (o : Option B) (after : List ℕ) → given_at o after ≡ Ok (x, rest) → o ≡ Some x
       by None after e = absurd cc
@@ -63,16 +61,13 @@ module _ {A B : Type 0} where
 decoded-given : (n : ℕ) (d : Descr) → decoded n ≡ Some d → IsGiven d
 decoded-given n d e = grind arith
 
-abbrev behind_descr : List ℕ → Read (Rights × (Option Body × Option ObjectName))
-behind_descr = both_at rights_at (both_at (option_at body_at) (option_at name_text_at))
-
 object-given : (bytes : List ℕ) (o : SavedObject) (rest : List ℕ) → object_at bytes ≡ Ok (o, rest) → IsGiven o.descr
 object-given bytes o rest e =
-    let a = as-split object_of (both_at (number_at w64) (both_at descr_at behind_descr)) bytes o rest e in
-    let b = both-split (number_at w64) (both_at descr_at behind_descr) bytes a.0 rest a.1 in
-    let c = both-split descr_at behind_descr b.0 a.0.1 rest b.2 in
+    let a = as-split object_of (both_at (number_at w64) (both_at descr_at content_at)) bytes o rest e in
+    let b = both-split (number_at w64) (both_at descr_at content_at) bytes a.0 rest a.1 in
+    let c = both-split descr_at content_at b.0 a.0.1 rest b.2 in
     let d = some-split decoded (number_at w64) b.0 a.0.1.0 c.0 c.1 in
-    rw (← a.2) (decoded-given d.0 a.0.1.0 d.1)
+    rw (← a.2) (decoded-given d.0.0 a.0.1.0 d.2)
 
 abbrev pub Given : Option SavedObject → Type 0
 Given None = Unit {0}
@@ -115,6 +110,12 @@ slot_sound max_gen clock bytes rest x e =
           rw (← a.2) (option-given d.0 a.0.1.1 b.0.1 d.2);
     })
 
+-- a test of how many there are, behind which they are read
+few_passed : {A : Type 0} (few : Bool) (r : Read A) (y : A × List ℕ) → cond few r (Err Value) ≡ Ok y
+    → (few ≡ true) × (r ≡ Ok y)
+few_passed true r y e = (refl, e)
+few_passed false r y e = absurd cc
+
 -- so many items, each of which is so
 pub items_all : {A : Type 0} (at : List ℕ → Read A) (P : A → Type 0) → ((bytes rest : List ℕ) (x : A) → at bytes ≡
     Ok (x, rest) → P x) → (d : A)
@@ -131,6 +132,29 @@ items_all {A = A} at P pass d (suc n) bytes xs rest e =
     let b = bind_ok (items_at at n a.0.1) (λ (ys : List A × List ℕ). Ok (a.0.0 ∷ ys.0, ys.1)) (xs, rest) a.2 in
     let ih = items_all at P pass d n a.0.1 b.0.0 b.0.1 b.1 in
     grind arith
+
+-- so many slots, with those that never had an object
+pub rows_all : (short : Bool) (n max_gen clock : ℕ) → 1 ≤ max_gen → (bytes rest : List ℕ) (xs : List SavedSlot)
+    → rows_at short n max_gen clock bytes ≡ Ok (xs, rest)
+    → (length xs ≡ n) × ((k : ℕ) → k < n → IsSlotSound max_gen clock (get_or xs k fresh_slot))
+unfolding list_at
+rows_all false n max_gen clock some bytes rest xs e =
+    items_all (slot_at max_gen clock) (IsSlotSound max_gen clock) (slot_sound max_gen clock) fresh_slot n bytes xs rest e
+rows_all true n max_gen clock some bytes rest xs e =
+    let b = some-split (filled n) (list_at n (slot_at max_gen clock)) bytes xs rest e in
+    let c = bind_ok (number_at w32 bytes)
+    (λ (c : ℕ × List ℕ). cond (leb c.0 n) (items_at (slot_at max_gen clock) c.0 c.1) (Err Value)) b.0 b.1 in
+    let few = few_passed (leb c.0.0 n) (items_at (slot_at max_gen clock) c.0.0 c.0.1) b.0 c.2 in
+    let all = items_all (slot_at max_gen clock) (IsSlotSound max_gen clock) (slot_sound max_gen clock) fresh_slot c.0.0
+    c.0.1 b.0.0 b.0.1 few.1 in
+    let g = cond_some (ends_used b.0.0) (with_fresh n b.0.0) xs b.2 in
+    let fresh : IsSlotSound max_gen clock fresh_slot = record { stands = search (arith, le-leb); given = tt } in (
+      ap (λ (z : List SavedSlot). length z) (sym g.1)
+          ∙ fresh_long n b.0.0 (omega (arith, all.0, leb-true c.0.0 n few.0)),
+      λ k lt. subst (λ (z : List SavedSlot). IsSlotSound max_gen clock (get_or z k fresh_slot)) g.1
+          (fresh_at (IsSlotSound max_gen clock) fresh b.0.0 (n - length b.0.0)
+          (λ j below. all.1 j (omega (arith, all.0))) k),
+    )
 
 -- one slot
 

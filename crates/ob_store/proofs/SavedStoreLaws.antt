@@ -1,5 +1,5 @@
 -- A store that is kept is read again as it was written, and what is read of a store was written so.
-use Rattle.std.proofs.Common.{◌≡◌, ℕ, ◌*◌, ◌<◌, ◌≤◌, ◌^◌, ltb, true, cond, List, [], ◌∷◌, ◌++◌, length, get_or, map, Option, Some, None, Ok, Err, append_assoc, refl, sym, ap, ◌∙◌, subst, arith}
+use Rattle.std.proofs.Common.{◌≡◌, ℕ, ◌*◌, ◌<◌, ◌≤◌, ◌^◌, ltb, Bool, true, false, cond, List, [], ◌∷◌, ◌++◌, length, get_or, map, Option, Some, None, Ok, Err, append_assoc, refl, sym, ap, ◌∙◌, subst, arith}
 use Rattle.std.specs.Int.{w64, to_le_bytes}
 use Rattle.std.specs.List.{AllByRecursion, flat_map}
 use Rattle.std.proofs.lemmas.Bool.{le-leb, lt-ltb}
@@ -33,15 +33,14 @@ use Rattle.ob_store.specs.SavedLimits.{limits_at, limits_text}
 use Rattle.ob_store.specs.SavedLimitLaws.{limits_codec}
 use Rattle.ob_store.specs.SavedObjects.{begun_over, objects_at, objects_text, slots_saved}
 use Rattle.ob_store.specs.SavedProcesses.{ListsFit, processes_at, processes_text}
-use Rattle.ob_store.specs.SavedSlots.{SlotFits, keeper_slot, slot_text}
-use Rattle.ob_store.specs.SavedStore.{is_moment, lists_at, moment_at, parts_at, begun_again, slot_bytes, store_at, store_text, tables_for, behind_lists, whole_with}
+use Rattle.ob_store.specs.SavedSlots.{SlotFits, fresh_slot, keeper_slot, rows_text, slot_text}
+use Rattle.ob_store.specs.SavedStore.{is_moment, least_bytes, lists_at, moment_at, parts_at, begun_again, slot_bytes, store_at, store_text, tables_for, behind_lists, whole_with}
 use Rattle.ob_store.specs.State.{Whole, generation_of, shape_of, last_wait}
 use Rattle.ob_store.proofs.NamedLaws.{place_counted, there_within}
 use Rattle.ob_store.proofs.PlacedLaws.{live_within}
 use Rattle.ob_store.proofs.SavedAgain.{objects_again, xs-at, xs-long}
 use Rattle.ob_store.proofs.SavedCodecs.{objects_take}
 use Rattle.ob_store.proofs.SavedProcessLaws.{kept_fits, processes_codec}
-use Rattle.ob_store.proofs.SavedObjectLaws.{none_saved}
 use Rattle.ob_store.proofs.ByPlace.{all_at, all_from}
 use Rattle.ob_store.proofs.SavedSlotLaws.{slot_generation}
 use Rattle.ob_store.proofs.VacatedLaws.{vacated_from, vacated_pass}
@@ -63,9 +62,9 @@ generations_back s tied =
     (λ k lt. (let here : k < s.keeper.shape.slots = omega (arith, length-map (map keeper_slot (slots_saved s)) generation_of, length-map (slots_saved s) keeper_slot, xs-long s tied) in
     get_or-map generation_of (map keeper_slot (slots_saved s)) k opening_slot 0
     (omega (arith, length-map (slots_saved s) keeper_slot, xs-long s tied))
-    ∙ ap generation_of (get_or-map keeper_slot (slots_saved s) k none_saved opening_slot
+    ∙ ap generation_of (get_or-map keeper_slot (slots_saved s) k fresh_slot opening_slot
     (omega (arith, xs-long s tied)))
-    ∙ slot_generation (get_or (slots_saved s) k none_saved) ∙ ap (λ (x : SavedSlot). x.generation) (xs-at s tied k here)
+    ∙ slot_generation (get_or (slots_saved s) k fresh_slot) ∙ ap (λ (x : SavedSlot). x.generation) (xs-at s tied k here)
     ∙ sym (get_or-map generation_of s.keeper.slots k opening_slot 0 (omega arith))))
 
 -- the threads and the slots of waits that are kept are within the limits
@@ -93,9 +92,10 @@ slots-long [] = omega arith
 slots-long (x ∷ xs) = search (arith, length-append, slots-long xs)
 
 -- three texts before the slots, and what stands behind them, have as many bytes as the slots have at least
-slots_there : (n : ℕ) (xs : List SavedSlot) (a b c rest : List ℕ) → length xs ≡ n
-    → has_at (n * slot_bytes) (a ++ (b ++ (c ++ (flat_map slot_text xs ++ rest)))) ≡ Ok tt
-slots_there n xs a b c rest long = search (arith, slots-long, length-append)
+slots_there : (short : Bool) (n : ℕ) (xs : List SavedSlot) (a b c rest : List ℕ) → length xs ≡ n
+    → has_at (cond short 0 (n * slot_bytes)) (a ++ (b ++ (c ++ (rows_text short xs ++ rest)))) ≡ Ok tt
+slots_there false n xs a b c rest long = search (arith, slots-long, length-append)
+slots_there true n xs a b c rest long = search arith
 
 -- the parts of a store are read again
 module _ (p : PartsState) (kept : StoreInvariant p) (tied : ObjectsInvariant p.objects) (processes : ListsFit p.processes)
@@ -135,7 +135,7 @@ module _ (p : PartsState) (kept : StoreInvariant p) (tied : ObjectsInvariant p.o
   same_whole = search (arith, generations_back)
 
   objects_back : (rest : List ℕ) → objects_at p.limits p.processes.threads p.tables.tables p.waits
-      (objects_text p.objects ++ rest) ≡ Ok ((over, p.rows), rest)
+      (objects_text p.limits.reuse p.objects ++ rest) ≡ Ok ((over, p.rows), rest)
   objects_back rest = objects_again p.objects tied p.limits p.tables.process_limit p.tables.handle_limit
       p.processes.threads p.tables.tables p.waits p.rows rest sound.limited.shape_is sound.counted sound.named
       sound.of_live (record { room = sound.room; settled = kept.settled }) sound.listing
@@ -144,20 +144,20 @@ module _ (p : PartsState) (kept : StoreInvariant p) (tied : ObjectsInvariant p.o
       sound.limited.shape_is objects)
 
   parts_again : (rest : List ℕ) → parts_at p.limits p.waits.clock (processes_text p.processes
-      ++ (tables_text p.tables.tables ++ (waits_text p.waits.waits ++ (objects_text p.objects ++ rest))))
+      ++ (tables_text p.tables.tables ++ (waits_text p.waits.waits ++ (objects_text p.limits.reuse p.objects ++ rest))))
       ≡ Ok (begun_again (whole_of p), rest)
   parts_again rest =
-      let e = tables_text p.tables.tables ++ (waits_text p.waits.waits ++ (objects_text p.objects ++ rest)) in
-      let t = waits_text p.waits.waits ++ (objects_text p.objects ++ rest) in
+      let e = tables_text p.tables.tables ++ (waits_text p.waits.waits ++ (objects_text p.limits.reuse p.objects ++ rest)) in
+      let t = waits_text p.waits.waits ++ (objects_text p.limits.reuse p.objects ++ rest) in
       let read : parts_at p.limits p.waits.clock (processes_text p.processes ++ e)
       ≡ Ok (whole_with p.limits p.processes p.tables p.waits over, rest) =
       rw (
-        slots_there p.limits.slots (slots_saved p.objects) (processes_text p.processes) (tables_text p.tables.tables)
+        slots_there p.limits.reuse p.limits.slots (slots_saved p.objects) (processes_text p.processes) (tables_text p.tables.tables)
             (waits_text p.waits.waits) rest
             (xs-long p.objects tied ∙ ap (λ (z : Shape). z.slots) sound.limited.shape_is),
         processes_again e,
         tables_back t,
-        waits_back (objects_text p.objects ++ rest),
+        waits_back (objects_text p.limits.reuse p.objects ++ rest),
         objects_back rest,
       ) refl in
       read ∙ ap (λ (w : Whole). Ok (w, rest)) same_whole
@@ -170,7 +170,7 @@ module _ (p : PartsState) (kept : StoreInvariant p) (tied : ObjectsInvariant p.o
       let c = processes_text p.processes in
       let d = tables_text p.tables.tables in
       let e = waits_text p.waits.waits in
-      let f = objects_text p.objects in
+      let f = objects_text p.limits.reuse p.objects in
       let r = c ++ (d ++ (e ++ (f ++ rest))) in
       let limits = limits_codec.again p.limits (b ++ r) tt in
       let clock = moment_codec.again p.waits.clock r (
@@ -226,7 +226,7 @@ store_takes bytes w rest are e =
     let la = (limits_codec.takes bytes limits a.0.1 are a.1).0 in
     let b = bind_ok (moment_at a.0.1) _ (w, rest) a.2 in
     let lb = (moment_codec.takes a.0.1 b.0.0 b.0.1 la.rest_fits b.1).0 in
-    let h = bind_ok (has_at (limits.slots * slot_bytes) b.0.1) _ (w, rest) b.2 in
+    let h = bind_ok (has_at (least_bytes limits) b.0.1) _ (w, rest) b.2 in
     let l = bind_ok (lists_at limits b.0.0 b.0.1) (behind_lists limits) (w, rest) h.2 in
     let ll = lists_were limits b.0.0 b.0.1 l.0 lb.rest_fits l.1 in
     let p = l.0.0.0 in
@@ -237,12 +237,12 @@ store_takes bytes w rest are e =
     let lg = objects_take limits p.threads t.tables list l.0.1 o g.0.0.1 g.0.1 ll.1.0 g.1 in
     let q : (whole_with limits p t list o, g.0.1) ≡ (w, rest) = search arith in
     let texts : bytes ≡ limits_text limits ++ (to_le_bytes w64 b.0.0 ++ (processes_text p ++ (tables_text t.tables
-    ++ (waits_text list.waits ++ (objects_text o ++ g.0.1))))) =
+    ++ (waits_text list.waits ++ (objects_text limits.reuse o ++ g.0.1))))) =
     search arith in
     subst (λ (z : Whole × List ℕ). Takes bytes (store_text z.0) z.1) q (record {
       parts =
           subst (λ (n : ℕ). bytes ≡ limits_text limits ++ (to_le_bytes w64 n ++ (processes_text p
-          ++ (tables_text t.tables ++ (waits_text list.waits ++ (objects_text o ++ g.0.1)))))) (sym ll.1.1) texts
+          ++ (tables_text t.tables ++ (waits_text list.waits ++ (objects_text limits.reuse o ++ g.0.1)))))) (sym ll.1.1) texts
           ∙ sym (search (arith, behind_six));
       rest_fits = lg.rest_fits;
     })

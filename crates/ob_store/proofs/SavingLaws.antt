@@ -1,8 +1,17 @@
 -- What is written one after the other.
-use Rattle.std.proofs.Common.{◌≡◌, ℕ, ◌++◌, List, append_assoc}
+use Rattle.std.proofs.Common.{◌≡◌, ℕ, ◌++◌, List, append_assoc, length}
+use Rattle.std.specs.Int.{w32, to_le_bytes}
+use Rattle.std.specs.List.{flat_map}
+use Rattle.ob_codec.specs.Spelling.{list}
 
 pub two_behind : (o a x y : List ℕ) → x ≡ o ++ a → (b : List ℕ) → y ≡ x ++ b → y ≡ o ++ (a ++ b)
 two_behind o a x y p b q = rw (q, p) (append_assoc o a b)
+
+-- how many there are, and these
+pub list_behind : {A : Type 0} (text : A → List ℕ) (o x y : List ℕ) (rows : ℕ) (ys us : List A)
+    → x ≡ o ++ to_le_bytes w32 rows → y ≡ x ++ flat_map text ys → ys ≡ us → length ys ≡ rows → y ≡ o ++ list text us
+list_behind text o x y rows ys us p q is long =
+    rw (q, p, ← is, ← long) (append_assoc o (to_le_bytes w32 (length ys)) (flat_map text ys))
 
 pub five_behind : (o a b c d e v w x y z : List ℕ) → v ≡ o ++ a → w ≡ v ++ b → x ≡ w ++ c → y ≡ x ++ d → z ≡ y ++ e
     → z ≡ o ++ (a ++ (b ++ (c ++ (d ++ e))))

@@ -1,5 +1,5 @@
 -- How the code keeps numbers: what stands at each, and beside it the set of those that are live, each less by one.
-use Rattle.std.specs.Prelude.{◌≡◌, ℕ, ◌+◌, ◌<◌, ◌≤◌, is_some, List, Option, None, length, slice_index_or, vec_capacity, vec_len}
+use Rattle.std.specs.Prelude.{◌≡◌, ℕ, ◌+◌, ◌<◌, ◌≤◌, is_some, None, length, slice_index_or, vec_capacity, vec_len}
 use Rattle.least.specs.Taken.{is_taken}
 use Rattle.ob_store.specs.declared.numbers.Numbers.{Numbers}
 use Rattle.ob_store.specs.Processes.{IsFromOne}

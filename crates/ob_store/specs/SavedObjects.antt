@@ -1,7 +1,7 @@
 -- What a save says of the objects, once what refers to them is counted: bodies, births, names, and what their keeper
 -- says.
 use Rattle.std.specs.Prelude.{ℕ, ◌+◌, nat_lt, Bool, false, if◌then◌else◌, List, [], length, Option, Some, None, Result, Ok, Err, is_none, is_some, map, slice_index_or, sum_by}
-use Rattle.std.specs.List.{flat_map, list_all, range_with_len}
+use Rattle.std.specs.List.{list_all, range_with_len}
 use Rattle.ob_codec.specs.declared.fault.TextFault.{TextFault}
 use Rattle.ob_codec.specs.declared.fault.TextFault.TheVariants.{Value}
 use Rattle.ob_codec.specs.Reading.{◌>>=◌, Read, where_at}
@@ -23,7 +23,7 @@ use Rattle.ob_store.specs.Counting.{counting_all}
 use Rattle.ob_store.specs.Objects.{Object, ObjectsState, Places, with_keeper}
 use Rattle.ob_store.specs.SavedBirths.{Births, births_from}
 use Rattle.ob_store.specs.SavedNames.{names_in}
-use Rattle.ob_store.specs.SavedSlots.{slot_text, slots_at}
+use Rattle.ob_store.specs.SavedSlots.{rows_text, slots_at}
 use Rattle.ob_store.specs.SavedWaits.{all_stand, with_blocks}
 use Rattle.ob_store.specs.State.{shape_of}
 
@@ -60,7 +60,7 @@ whole_objects limits slots p = do
 -- blocks
 abbrev pub whole_at : Limits → List (List (Option Entry)) → WaitList → List ℕ → Read (ObjectsState × Rows)
 whole_at limits tables list bytes = do
-  read ← slots_at limits.slots limits.max_gen list.clock bytes
+  read ← slots_at limits.reuse limits.slots limits.max_gen list.clock bytes
   counted ← counting_all read.0.0 tables
   objects ← whole_objects limits read.0.1 (with_blocks list.waits counted)
   Ok (objects, read.1)
@@ -89,5 +89,5 @@ slot_saved s k = record {
 abbrev pub slots_saved : ObjectsState → List SavedSlot
 slots_saved s = map (slot_saved s) (range_with_len 0 s.keeper.shape.slots)
 
-abbrev pub objects_text : ObjectsState → List ℕ
-objects_text s = flat_map slot_text (slots_saved s)
+abbrev pub objects_text : Bool → ObjectsState → List ℕ
+objects_text short s = rows_text short (slots_saved s)

@@ -1,8 +1,9 @@
 -- What a save says of the slots: how it is spelled, which slots may be so, and what they are in a store.
-use Rattle.std.specs.Prelude.{◌≡◌, ℕ, suc, ◌==◌, ◌<◌, ◌^◌, nat_le, nat_lt, Bool, true, not, ◌&&◌, ◌||◌, if◌then◌else◌, List, [], ◌∷◌, length, map, replicate, Option, Some, None, is_none}
+use Rattle.std.specs.Prelude.{◌≡◌, ℕ, suc, ◌-◌, ◌==◌, ◌<◌, ◌^◌, nat_le, nat_lt, Bool, true, false, not, ◌&&◌, ◌||◌, if◌then◌else◌, List, [], ◌∷◌, ◌++◌, length, map, replicate, Option, Some, None, Ok, is_none}
+use Rattle.std.specs.List.{flat_map}
 use Rattle.std.specs.Int.{w32, w64, to_le_bytes}
-use Rattle.ob_codec.specs.Reading.{Read, as_at, both_at, flag_at, items_at, number_at, option_at, where_at}
-use Rattle.ob_codec.specs.Spelling.{Any, BothFit, OptionFits, both, flag, option}
+use Rattle.ob_codec.specs.Reading.{Read, as_at, both_at, flag_at, items_at, list_at, number_at, option_at, some_at, where_at}
+use Rattle.ob_codec.specs.Spelling.{Any, BothFit, OptionFits, both, flag, list, option}
 use Rattle.ob_rights.specs.declared.rights.Rights.{Rights}
 use Rattle.ob_rights.specs.Spelling.{RightsFit, rights_at, rights_text}
 use Rattle.pin_core.specs.declared.id.Id.{Id}
@@ -37,11 +38,12 @@ object_text o =
     both (to_le_bytes w64) (both descr_text (both rights_text (both (option body_text) (option name_text))))
     (object_parts o)
 
+-- what is read of its grant, its body and its name
+abbrev pub content_at : List ℕ → Read (Rights × (Option Body × Option ObjectName))
+content_at = both_at rights_at (both_at (option_at body_at) (option_at name_text_at))
+
 abbrev pub object_at : List ℕ → Read SavedObject
-object_at =
-    as_at object_of
-    (both_at (number_at w64) (both_at descr_at (both_at rights_at
-    (both_at (option_at body_at) (option_at name_text_at)))))
+object_at = as_at object_of (both_at (number_at w64) (both_at descr_at content_at))
 
 abbrev pub ObjectFits : SavedObject → Type 0
 ObjectFits o =
@@ -156,9 +158,55 @@ places_from xs = record {
 abbrev pub slots_from : List SavedSlot → Places × List Slot
 slots_from xs = (places_from xs, map keeper_slot xs)
 
--- so many slots, from the first on
-abbrev pub slots_at : ℕ → ℕ → ℕ → List ℕ → Read (Places × List Slot)
-slots_at n max_gen clock = as_at slots_from (items_at (slot_at max_gen clock) n)
+-- a slot that never had an object
+abbrev pub fresh_slot : SavedSlot
+fresh_slot = record { generation = 1; retired = false; object = None }
+
+abbrev pub is_fresh : SavedSlot → Bool
+is_fresh x = (x.generation == 1) && (not x.retired && is_none x.object)
+
+-- slots up to the last that ever had an object
+abbrev pub with_used : SavedSlot → List SavedSlot → List SavedSlot
+with_used x [] = if is_fresh x then [] else x ∷ []
+with_used x (y ∷ ys) = x ∷ y ∷ ys
+
+abbrev pub used : List SavedSlot → List SavedSlot
+used [] = []
+used (x ∷ xs) = with_used x (used xs)
+
+-- whether the last of some slots, if there is one, ever had an object
+abbrev pub ends_used : List SavedSlot → Bool
+ends_used [] = true
+ends_used (x ∷ []) = not (is_fresh x)
+ends_used (x ∷ y ∷ ys) = ends_used (y ∷ ys)
+
+-- so many slots that begin with these, and of which the others never had an object
+abbrev pub with_fresh : ℕ → List SavedSlot → List SavedSlot
+with_fresh n xs = xs ++ replicate (n - length xs) fresh_slot
+
+abbrev pub filled : ℕ → List SavedSlot → Option (List SavedSlot)
+filled n xs = if ends_used xs then Some (with_fresh n xs) else None
+
+-- so many slots: each of them, or how many there are up to the last that ever had an object, and these
+abbrev pub rows_text : Bool → List SavedSlot → List ℕ
+rows_text false xs = flat_map slot_text xs
+rows_text true xs = list slot_text (used xs)
+
+abbrev pub rows_at : Bool → ℕ → ℕ → ℕ → List ℕ → Read (List SavedSlot)
+rows_at false n max_gen clock = items_at (slot_at max_gen clock) n
+rows_at true n max_gen clock = some_at (filled n) (list_at n (slot_at max_gen clock))
+
+-- how many stand there, and what is begun with them: the places, their keeper's slots, and whether the last one ever had
+-- an object
+abbrev pub count_at : Bool → ℕ → List ℕ → Read ℕ
+count_at false n bytes = Ok (n, bytes)
+count_at true n bytes = where_at (λ count. nat_le count n) (number_at w32) bytes
+
+abbrev pub begun_with : ℕ → List SavedSlot → Places × (List Slot × Bool)
+begun_with n xs = (places_from (with_fresh n xs), (map keeper_slot xs, ends_used xs))
+
+abbrev pub slots_at : Bool → ℕ → ℕ → ℕ → List ℕ → Read (Places × List Slot)
+slots_at short n max_gen clock = as_at slots_from (rows_at short n max_gen clock)
 
 -- one more slot: its object comes back to it, or it is never given again, or it stays as it was
 abbrev pub with_saved : Places → ℕ → ℕ → Bool → Option SavedObject → Places

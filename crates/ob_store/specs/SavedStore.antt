@@ -1,5 +1,5 @@
 -- A store as bytes: its limits, the moment, processes and threads, handle tables, waits, and slots with their objects.
-use Rattle.std.specs.Prelude.{ℕ, ◌*◌, nat_le, nat_lt, ◌||◌, not, Bool, List, [], ◌++◌, length, map, Option, None, Ok, is_some, slice_index_or}
+use Rattle.std.specs.Prelude.{ℕ, ◌*◌, nat_le, nat_lt, ◌||◌, not, Bool, if◌then◌else◌, List, [], ◌++◌, length, map, Option, None, Ok, is_some, slice_index_or}
 use Rattle.std.specs.List.{list_all, range_with_len}
 use Rattle.std.specs.Int.{w64, to_le_bytes}
 use Rattle.ob_codec.specs.Reading.{◌>>=◌, Read, has_at, number_at, where_at}
@@ -32,7 +32,7 @@ objects_in w = record {
 
 abbrev pub store_text : Whole → List ℕ
 store_text w = limits_text w.state.limits ++ (to_le_bytes w64 w.state.clock ++ (processes_text (processes_in w)
-    ++ (tables_text w.state.tables ++ (waits_text w.state.waits ++ objects_text (objects_in w)))))
+    ++ (tables_text w.state.tables ++ (waits_text w.state.waits ++ objects_text w.state.limits.reuse (objects_in w)))))
 
 -- a moment: none is after the last
 abbrev pub is_moment : ℕ → Bool
@@ -91,11 +91,15 @@ behind_lists limits l = do
 abbrev pub slot_bytes : ℕ
 slot_bytes = 6
 
+-- how many bytes all slots have at least, where each stands there
+abbrev pub least_bytes : Limits → ℕ
+least_bytes limits = if limits.reuse then 0 else limits.slots * slot_bytes
+
 -- What stands behind the limits and the moment: so many bytes at least as the slots have, so that no room is made for
 -- slots that aren't there.
 abbrev pub parts_at : Limits → ℕ → List ℕ → Read Whole
 parts_at limits clock bytes = do
-  there ← has_at (limits.slots * slot_bytes) bytes
+  there ← has_at (least_bytes limits) bytes
   l ← lists_at limits clock bytes
   behind_lists limits l
 

@@ -1,6 +1,6 @@
 -- The abstract state of the object manager: plain lists, by number or by slot. It keeps no count and no directory: both
 -- are read off the entries, the waits and the objects.
-use Rattle.std.specs.Prelude.{ℕ, ◌+◌, ◌==◌, Bool, true, false, List, [], ◌∷◌, ◌++◌, Option, Some, None, if◌then◌else◌, slice_index_or, slice_set, length, map, replicate}
+use Rattle.std.specs.Prelude.{ℕ, ◌+◌, ◌==◌, Bool, true, false, List, [], ◌∷◌, Option, Some, None, if◌then◌else◌, slice_index_or, slice_set, length, map, replicate}
 use Rattle.std.specs.List.{range_with_len}
 use Rattle.pin_core.specs.declared.id.Id.{Id}
 use Rattle.pin_core.specs.declared.shape.Shape.{Shape}

@@ -1,5 +1,5 @@
 -- What calls on waits make of the state.
-use Rattle.std.specs.Prelude.{◌≡◌, ℕ, ◌+◌, ◌&&◌, Bool, if◌then◌else◌, List, [], ◌∷◌, ◌++◌, Option, Some, None, IfSome, length, slice_index_or, slice_set}
+use Rattle.std.specs.Prelude.{◌≡◌, ℕ, ◌+◌, ◌&&◌, Bool, if◌then◌else◌, List, [], ◌∷◌, ◌++◌, Option, Some, None, IfSome, slice_index_or, slice_set}
 use Rattle.std.specs.Option.{option_and_then, option_map, unwrap_or}
 use Rattle.least.specs.From.{IsLeastFrom}
 use Rattle.pin_core.specs.declared.id.Id.{Id}

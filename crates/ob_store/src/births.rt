@@ -1,6 +1,6 @@
 ghost use Rattle.std.specs.Prelude.{◌≡◌, ◌≤◌, [], length, sum_by};
 ghost use Rattle.ob_codec.specs.Reading.{GivesAll};
-ghost use Rattle.ob_store.specs.Agreement.{made_in};
+ghost use Rattle.ob_store.specs.Agreement.{made_by, made_in};
 ghost use Rattle.ob_store.specs.SavedBirths.{births_from, with_birth, with_birth_of};
 ghost use Rattle.std.specs.Prelude.{None, slice_index_or};
 
@@ -11,12 +11,12 @@ use std::alloc::Global;
 use std::collections::BTreeMap;
 
 /// How many objects a slot has had, the present one included.
-fn made_in(slot: Slot) -> u32
-    ensures { result ≡ made_in slot }
+pub(crate) fn made_by(phase: Phase, generation: u32) -> u32
+    ensures { result ≡ made_by phase generation }
 {
-    match slot.phase {
-        Phase::Free => slot.generation.saturating_sub(1),
-        Phase::Live | Phase::Closing | Phase::Retired => slot.generation,
+    match phase {
+        Phase::Free => generation.saturating_sub(1),
+        Phase::Live | Phase::Closing | Phase::Retired => generation,
     }
 }
 
@@ -27,7 +27,7 @@ pub(crate) fn count_births(slots: &[Slot]) -> u64
 {
     let mut births = 0;
     for slot in slots {
-        births += u64::from(made_in(*slot));
+        births += u64::from(made_by(slot.phase, slot.generation));
     }
     births
 }

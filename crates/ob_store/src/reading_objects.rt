@@ -1,8 +1,9 @@
-ghost use Rattle.std.specs.Prelude.{◌≡◌, ◌≤◌, ◌+◌, IfOk, length, true};
+ghost use Rattle.std.specs.Prelude.{◌≡◌, ◌≤◌, ◌+◌, ◌-◌, ◌++◌, IfOk, OnOk, length, replicate, true};
 ghost use Rattle.ob_arena.specs.Slots.{is_vacant_at};
-ghost use Rattle.ob_codec.specs.Reading.{Gives};
+ghost use Rattle.ob_codec.specs.Reading.{Gives, as_at, items_at};
+ghost use Rattle.pin_core.specs.Worlds.{opening_slot};
 ghost use Rattle.ob_store.specs.Objects.{vacancy};
-ghost use Rattle.ob_store.specs.SavedSlots.{slots_at, with_saved};
+ghost use Rattle.ob_store.specs.SavedSlots.{begun_with, count_at, slot_at, slots_at, with_saved};
 ghost use Rattle.ob_store.specs.SavedObjects.{objects_at, whole_at};
 ghost use Rattle.ob_store.specs.State.{shape_of};
 ghost use Rattle.ob_store.specs.Kept.{AreFormed, AreOfLive, IsCounted, IsListing, IsNamed, IsQuiet};
@@ -24,7 +25,7 @@ use ob_tables::Tables;
 use ob_waits::Waits;
 use pin_core::{Id, Slot};
 use pin_words::LockedPins;
-use std::alloc::Global;
+use std::alloc::{AllocError, Global};
 
 /// Puts into a vacant slot what a savestate says of it.
 fn restore(headers: &mut ObjectHeaders, slot: u32, saved: SavedSlot)
@@ -55,10 +56,68 @@ fn restore(headers: &mut ObjectHeaders, slot: u32, saved: SavedSlot)
     }
 }
 
-/// Reads so many slots, with the objects in them and the slots with which their keeper begins. Nothing that refers to
-/// the objects is counted yet.
+/// Reads the first of so many slots, with the objects in them and the slots with which their keeper begins, and whether
+/// the last that was read ever had an object. Nothing that refers to the objects is counted yet.
+fn read_rows(
+    alloc: Global,
+    rows: u32,
+    slots: u32,
+    threads: u32,
+    max_gen: u32,
+    clock: u64,
+    from: &mut Cursor<'_>,
+) -> Result<(ObjectHeaders, Vec<Slot>, bool), ReadFault>
+    requires within { rows ≤ slots }
+    requires most { slots ≤ SLOTS_MAX }
+    ensures read { Gives (λ read. (read.0, (read.1.items, read.2))) result
+        (as_at (begun_with slots) (items_at (slot_at max_gen clock) rows) from.old) from.new }
+    ensures long { IfOk result (λ read. length read.1.items ≡ rows) }
+{
+    let mut headers = ObjectHeaders::new(alloc, slots, threads)?;
+    let mut begun = Vec::new(alloc);
+    let mut ends_used = true;
+    for slot in 0..rows {
+        let saved = SavedSlot::read(alloc, max_gen, clock, from)?;
+        ends_used = !saved.is_fresh();
+        begun.push(saved.keeper_slot())?;
+        restore(&mut headers, slot, saved);
+    }
+    Ok((headers, begun, ends_used))
+}
+
+/// Reads how many slots stand there: each, or how many is said first.
+fn read_count(short: bool, slots: u32, from: &mut Cursor<'_>) -> Result<u32, ReadFault>
+    ensures read { Gives (λ count. count) result (count_at short slots from.old) from.new }
+    ensures within { IfOk result (λ count. count ≤ slots) }
+{
+    if !short {
+        return Ok(slots);
+    }
+    let count = from.four()?;
+    if count > slots {
+        return Err(ReadFault::Text(TextFault::Value));
+    }
+    Ok(count)
+}
+
+/// Adds slots that never had an object, until there are so many.
+fn fill(begun: &mut Vec<Slot>, slots: u32) -> Result<(), AllocError>
+    requires { length begun.old.items ≤ slots }
+    ensures { OnOk result (begun.new.items ≡ begun.old.items
+        ++ replicate (slots - length begun.old.items) opening_slot) }
+{
+    for _ in begun.len()..slots as usize {
+        begun.push(Slot::opening())?;
+    }
+    Ok(())
+}
+
+/// Reads so many slots, or those up to the last that ever had an object, as [`read_rows`] does.
+/// [`TextFault::Value`] where more stand there.
+#[tactic(auto, using(crate::proofs::SavedLaws::slots_in_parts))]
 pub(crate) fn read_slots(
     alloc: Global,
+    short: bool,
     slots: u32,
     threads: u32,
     max_gen: u32,
@@ -66,15 +125,16 @@ pub(crate) fn read_slots(
     from: &mut Cursor<'_>,
 ) -> Result<(ObjectHeaders, Vec<Slot>), ReadFault>
     requires { slots ≤ SLOTS_MAX }
-    ensures { Gives (λ read. (read.0, read.1.items)) result (slots_at slots max_gen clock from.old) from.new }
+    ensures { Gives (λ read. (read.0, read.1.items)) result (slots_at short slots max_gen clock from.old) from.new }
 {
-    let mut headers = ObjectHeaders::new(alloc, slots, threads)?;
-    let mut begun = Vec::new(alloc);
-    for slot in 0..slots {
-        let saved = SavedSlot::read(alloc, max_gen, clock, from)?;
-        begun.push(saved.keeper_slot())?;
-        restore(&mut headers, slot, saved);
+    let count = read_count(short, slots, from)?;
+    let (headers, mut begun, ends_used) = read_rows(
+        alloc, count, slots, threads, max_gen, clock, from,
+    )?;
+    if short && !ends_used {
+        return Err(ReadFault::Text(TextFault::Value));
     }
+    fill(&mut begun, slots)?;
     Ok((headers, begun))
 }
 
@@ -91,6 +151,7 @@ fn read_whole(
 {
     let (mut headers, slots) = read_slots(
         alloc,
+        limits.reuse,
         limits.slots,
         limits.threads + 1,
         limits.max_gen,

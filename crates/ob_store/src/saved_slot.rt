@@ -1,6 +1,6 @@
 ghost use Rattle.std.specs.Prelude.{◌≡◌};
 ghost use Rattle.ob_codec.specs.Reading.{Gives, option_at};
-ghost use Rattle.ob_store.specs.SavedSlots.{any_slot_at, body_stands, descr_of, is_after, keeper_slot, object_at};
+ghost use Rattle.ob_store.specs.SavedSlots.{any_slot_at, body_stands, content_at, descr_of, is_after, is_fresh, keeper_slot, object_at};
 ghost use Rattle.ob_store.specs.SavedSlots.{object_stands, slot_at, slot_stands};
 
 use ob_body::Body;
@@ -62,6 +62,19 @@ fn body_stands(clock: u64, descr: Descr, body: Option<Body>) -> bool
     }
 }
 
+/// Reads what an object is granted, its body and its name.
+fn read_content(
+    alloc: Global,
+    from: &mut Cursor<'_>,
+) -> Result<(Rights, Option<Body>, Option<Name>), ReadFault>
+    ensures { Gives (λ read. (read.0, (read.1, read.2))) result (content_at from.old) from.new }
+{
+    let grant = Rights::read(alloc, from)?;
+    let body = Option::<Body>::read(alloc, from)?;
+    let name = Option::<Name>::read(alloc, from)?;
+    Ok((grant, body, name))
+}
+
 impl SavedObject {
     /// Reads an object.
     fn read(alloc: Global, from: &mut Cursor<'_>) -> Result<SavedObject, ReadFault>
@@ -69,9 +82,7 @@ impl SavedObject {
     {
         let birth = from.eight()?;
         let descr = read_descr(from)?;
-        let grant = Rights::read(alloc, from)?;
-        let body = Option::<Body>::read(alloc, from)?;
-        let name = Option::<Name>::read(alloc, from)?;
+        let (grant, body, name) = read_content(alloc, from)?;
         Ok(SavedObject {
             birth,
             descr,
@@ -147,6 +158,13 @@ impl SavedSlot {
         let aged = 1 <= self.generation && self.generation <= max_gen;
         let last = !self.retired || (self.generation == max_gen && self.object.is_none());
         aged && (last && self.object_stands(clock))
+    }
+
+    /// Whether it never had an object.
+    pub(crate) fn is_fresh(&self) -> bool
+        ensures { result ≡ is_fresh self.now }
+    {
+        self.generation == 1 && (!self.retired && self.object.is_none())
     }
 
     /// The slot with which a keeper begins.

@@ -1,10 +1,10 @@
 ghost use Rattle.std.specs.Prelude.{◌≡◌, ◌<◌, ◌≤◌, ◌+◌, ◌++◌, ℕ, List, IfOk, Ok, OnOk, length, true};
-ghost use Rattle.ob_codec.specs.Reading.{Gives};
+ghost use Rattle.ob_codec.specs.Reading.{Gives, GivesAll, has_at};
 ghost use Rattle.ob_store.specs.Kept.{StoreInvariant, ProcessesKept};
 ghost use Rattle.ob_waits.specs.Spelling.{are_within};
 ghost use Rattle.ob_store.specs.Parts.{parts_of, whole_of};
 ghost use Rattle.ob_store.specs.SavedProcesses.{are_populated};
-ghost use Rattle.ob_store.specs.SavedStore.{are_vacated, begun_again, is_vacated, lists_at, moment_at, parts_at};
+ghost use Rattle.ob_store.specs.SavedStore.{are_vacated, begun_again, is_vacated, least_bytes, lists_at, moment_at, parts_at};
 ghost use Rattle.ob_store.specs.SavedStore.{store_at, store_text, tables_for};
 ghost use Rattle.ob_store.specs.State.{last_wait};
 
@@ -113,6 +113,16 @@ fn read_lists(
     })
 }
 
+/// Whether there are as many bytes as the slots have at least, where each stands there.
+fn has_slots(limits: Limits, from: &Cursor<'_>) -> Result<(), ReadFault>
+    ensures { GivesAll (λ nothing. nothing) result (has_at (least_bytes limits) from.now) }
+{
+    if limits.reuse {
+        return Ok(());
+    }
+    from.has(limits.slots as usize * SLOT_BYTES)
+}
+
 /// Reads what stands behind the limits and the moment.
 fn read_parts(
     alloc: Global,
@@ -124,7 +134,7 @@ fn read_parts(
     ensures read { Gives (λ parts. whole_of (parts_of parts)) result (parts_at limits clock from.old) from.new }
     ensures kept { IfOk result (λ parts. StoreInvariant (parts_of parts)) }
 {
-    from.has(limits.slots as usize * SLOT_BYTES)?;
+    has_slots(limits, from)?;
     let signaled = SignaledSlots::new(alloc, limits.slots)?;
     let lists = read_lists(alloc, limits, clock, from)?;
     let (objects, names) = Objects::read(
@@ -152,8 +162,9 @@ impl Store<LockedPins> {
     /// and with want of memory.
     ///
     /// A count asks for no memory before its items are there, nor the slots before there are as many bytes as they have
-    /// at least; beside them the store takes 8 bytes for each thread number that its limits let it give. Linear in what
-    /// is there, except that objects are ordered by their births.
+    /// at least; beside them the store takes 8 bytes for each thread number that its limits let it give. Where numbers
+    /// come back the slots ask for as much as those of a new store. Linear in what is there, except that objects are
+    /// ordered by their births.
     pub fn read(alloc: Global, from: &mut Cursor<'_>) -> Result<Store<LockedPins>, ReadFault>
         ensures { Gives (λ store. store) result (store_at from.old) from.new }
     {
@@ -180,6 +191,6 @@ impl<K: PinKeeper> Store<K> {
         parts.processes.write(out)?;
         parts.tables.write(out)?;
         parts.waits.write(out)?;
-        parts.objects.write(out)
+        parts.objects.write(parts.limits.reuse, out)
     }
 }

@@ -1,5 +1,5 @@
-ghost use Rattle.std.specs.Prelude.{◌≡◌, ◌<◌, ◌++◌, ℕ, IfSome, None, OnOk, if◌then◌else◌};
-ghost use Rattle.std.specs.List.{AllByRecursion};
+ghost use Rattle.std.specs.Prelude.{◌≡◌, ◌<◌, ◌≤◌, ◌++◌, ℕ, IfSome, None, OnOk, if◌then◌else◌, map};
+ghost use Rattle.std.specs.List.{AllByRecursion, flat_map, range_with_len};
 ghost use Rattle.std.specs.Option.{option_map};
 ghost use Rattle.ob_codec.specs.Spelling.{OptionFits, option};
 ghost use Rattle.ob_name.specs.Spelling.{NameFits, name_text};
@@ -7,8 +7,9 @@ ghost use Rattle.pin_core.specs.Descrs.{IsGiven};
 ghost use Rattle.ob_store.specs.Kept.{AreFormed};
 ghost use Rattle.ob_store.specs.Objects.{object_of, tag_of};
 ghost use Rattle.ob_store.specs.SavedObjects.{objects_text, saved_of, slot_saved, slots_saved};
-ghost use Rattle.ob_store.specs.SavedSlots.{AnySlotFits, ObjectFits, SlotFits, object_text, slot_text};
+ghost use Rattle.ob_store.specs.SavedSlots.{AnySlotFits, ObjectFits, SlotFits, fresh_slot, object_text, slot_text, used};
 
+use crate::births::made_by;
 use crate::found::Found;
 use crate::label::Label;
 use crate::object_header::ObjectHeader;
@@ -87,17 +88,51 @@ impl<K: PinKeeper> Objects<K> {
         write_found(out, self.headers.look(slot))
     }
 
-    /// Writes the slots with their objects behind some bytes, as [`read`](Objects::read) reads them. Pins aren't
-    /// written. Where memory was wanting, part of it may stand there.
-    pub fn write(&self, out: &mut Vec<u8>) -> Result<(), AllocError>
-        ensures text { OnOk result (out.new.items ≡ out.old.items ++ objects_text self.now) }
+    /// Writes the first of the slots with their objects.
+    fn write_rows(&self, rows: u32, out: &mut Vec<u8>) -> Result<(), AllocError>
+        requires { rows ≤ self.now.keeper.shape.slots }
+        ensures text { OnOk result (out.new.items ≡ out.old.items
+            ++ flat_map slot_text (map (slot_saved self.now) (range_with_len 0 rows))) }
+        ensures fits { OnOk result ((k : ℕ) → k < rows → AnySlotFits (slot_saved self.now k)) }
+    {
+        for slot in 0..rows {
+            self.write_slot(out, slot)?;
+        }
+        Ok(())
+    }
+
+    /// How many slots there are up to the last that ever had an object.
+    fn used(&self) -> u32
+        ensures within { result ≤ self.now.keeper.shape.slots }
+        ensures value { map (slot_saved self.now) (range_with_len 0 result) ≡ used (slots_saved self.now) }
+        ensures fresh { (k : ℕ) → result ≤ k → k < self.now.keeper.shape.slots
+            → slot_saved self.now k ≡ fresh_slot }
+    {
+        self.kept();
+        let mut left = self.births;
+        for slot in 0..self.slots() {
+            if left == 0 {
+                return slot;
+            }
+            left -= u64::from(made_by(self.keeper.phase(slot), self.keeper.generation(slot)));
+        }
+        self.slots()
+    }
+
+    /// Writes the slots with their objects behind some bytes, as [`read`](Objects::read) reads them: each slot, or how
+    /// many there are up to the last that ever had an object, and these. Pins aren't written. Where memory was wanting,
+    /// part of it may stand there.
+    pub fn write(&self, short: bool, out: &mut Vec<u8>) -> Result<(), AllocError>
+        ensures text { OnOk result (out.new.items ≡ out.old.items ++ objects_text short self.now) }
         ensures fits { OnOk result ((clock : ℕ) → AreFormed clock self.now.objects self.now.seen.bodies
             → AllByRecursion (SlotFits self.now.keeper.shape.max_gen clock) (slots_saved self.now)) }
     {
         self.kept();
-        for slot in 0..self.slots() {
-            self.write_slot(out, slot)?;
+        if !short {
+            return self.write_rows(self.slots(), out);
         }
-        Ok(())
+        let rows = self.used();
+        rows.write(out)?;
+        self.write_rows(rows, out)
     }
 }

@@ -2,7 +2,7 @@
 use Rattle.std.proofs.Common.{◌≡◌, ◌∙◌, ℕ, List, [], ◌∷◌, ◌++◌, Ok, None, false, ap, map, refl, subst, sym}
 use Rattle.std.proofs.Math.ListN.{get_or-map}
 use Rattle.std.specs.Prelude.{slice_index_or}
-use Rattle.std.specs.List.{flat_map, range_with_len}
+use Rattle.std.specs.List.{range_with_len}
 use Rattle.std.specs.Int.{w64, to_le_bytes}
 use Rattle.ob_codec.specs.Sealing.{sealed}
 use Rattle.pin_core.specs.declared.shape.Shape.{Shape}
@@ -13,7 +13,7 @@ use Rattle.ob_store.specs.Consistent.{IsConsistent}
 use Rattle.ob_store.specs.SavedLimits.{limits_text}
 use Rattle.ob_store.specs.SavedObjects.{object_saved, slots_saved}
 use Rattle.ob_store.specs.SavedProcesses.{processes_text}
-use Rattle.ob_store.specs.SavedSlots.{slot_text}
+use Rattle.ob_store.specs.SavedSlots.{rows_text}
 use Rattle.ob_store.specs.SavedStore.{begun_again, objects_in}
 use Rattle.ob_store.specs.State.{State, Whole, generation_of}
 use Rattle.ob_manager.specs.Calls.{Call}
@@ -51,7 +51,7 @@ one_savestate v w kept also same = λ i. sealed (to_le_bytes w64 mark ++ (limits
     ++ (to_le_bytes w64 (same i).clock
     ++ (processes_text (record { processes = (same i).processes; threads = (same i).threads })
     ++ (tables_text (same i).tables ++ (waits_text (same i).waits
-    ++ flat_map slot_text (slots_alike v w kept also same i)))))))
+    ++ rows_text (same i).limits.reuse (slots_alike v w kept also same i)))))))
 
 abbrev replies : List Entry → List Reply
 replies entries = map (λ (entry : Entry). entry.reply) entries

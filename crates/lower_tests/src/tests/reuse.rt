@@ -3,6 +3,7 @@ use super::playing::{Scene, answers, over_locked};
 use super::saved::Edit;
 use super::{FIRST, NAMED_A, NAMED_E, SECOND};
 use call_tables::{Line, PLAIN};
+use ob_codec::TextFault;
 use ob_manager::CallOf::{
     Child, EndThread, Exit, Expire, MakeEvent, MakeMutex, ReleaseMutex, SetEvent, Spawn,
     StartThread, WaitFor, WaitResult,
@@ -102,6 +103,46 @@ const ANEW: &[Line<'static>] = &[
 fn numbers_of_waits_begin_anew(rt: HostRuntime) -> Result<(), Fail> {
     let limits = Limits::checked(3, 4, 4, 4, 4, 4, 4, 4)?;
     let scene = Scene::SavesEdited(WAITED, &LAST_GIVEN, ANEW);
+    over_locked(&rt, rt.alloc(), limits.with_reuse(true), scene)?;
+    Ok(())
+}
+
+/// An event in the first of five slots.
+#[rattlefmt::skip]
+const ONE: &[Line<'static>] = &[
+    (Spawn { session: 1 }, Spawned { process: 1, thread: 1 }),
+    (MakeEvent { thread: 1, make: PLAIN, manual: false, set: false }, Made { handle: 4, id: FIRST }),
+];
+
+/// What is saved of it: how many slots there are up to the last that ever had an object, and these.
+#[rattlefmt::skip]
+const ROWS: &[u8] = &[
+    1, 0, 0, 0,
+    1, 0, 0, 0, 0, 1, 0, 0, 0, 0, 0, 0, 0, 0, 0, 0, 0, 0, 0, 0, 0, 0, 3, 0, 31, 0, 1, 0, 0, 0, 0,
+];
+
+#[rattlefmt::skip]
+const EDITS_OF_ROWS: &[Edit<'static>] = &[
+    // more slots than there are, and none though an object is there
+    (105, &[1, 0, 0, 0], &[6, 0, 0, 0], Some(TextFault::Value)),
+    (105, ROWS, &[0, 0, 0, 0], Some(TextFault::Value)),
+    // one behind it that had an object, and one that never had
+    (105, ROWS, &[
+        2, 0, 0, 0,
+        1, 0, 0, 0, 0, 1, 0, 0, 0, 0, 0, 0, 0, 0, 0, 0, 0, 0, 0, 0, 0, 0, 3, 0, 31, 0, 1, 0, 0, 0, 0,
+        2, 0, 0, 0, 0, 0,
+    ], None),
+    (105, ROWS, &[
+        2, 0, 0, 0,
+        1, 0, 0, 0, 0, 1, 0, 0, 0, 0, 0, 0, 0, 0, 0, 0, 0, 0, 0, 0, 0, 0, 3, 0, 31, 0, 1, 0, 0, 0, 0,
+        1, 0, 0, 0, 0, 0,
+    ], Some(TextFault::Value)),
+];
+
+#[test]
+fn a_savestate_has_slots_up_to_the_last_that_was_used(rt: HostRuntime) -> Result<(), Fail> {
+    let limits = Limits::checked(5, 4, 4, 4, 4, 4, 4, 4)?;
+    let scene = Scene::Edits(ONE, 140, EDITS_OF_ROWS);
     over_locked(&rt, rt.alloc(), limits.with_reuse(true), scene)?;
     Ok(())
 }

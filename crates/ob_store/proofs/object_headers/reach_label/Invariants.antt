@@ -1,4 +1,4 @@
-use Rattle.std.proofs.Common.{◌≡◌, ◌-◌, ◌+◌, ◌≤◌, length, min, vec_capacity}
+use Rattle.std.proofs.Common.{◌≡◌, ◌-◌, ◌+◌, ◌≤◌, length, vec_capacity}
 use Rattle.least.specs.Padded.{padded}
 use Rattle.ob_store.specs.Objects.{no_tag, tags_in}
 use Rattle.ob_store.proofs.object_headers.reach_label.Given as goal

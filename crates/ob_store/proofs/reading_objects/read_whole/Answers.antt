@@ -13,14 +13,14 @@ count_blocks-requires c =
 pub count_births-births-requires : goal.count_births-births-requires
 count_births-births-requires c = omega (
   arith,
-  slots_read c.args.limits.slots c.args.limits.max_gen c.clock.result _ _ _ _ c.in_ok-headers.ensures,
+  slots_read c.args.limits c.clock.result _ _ _ _ c.in_ok-headers.ensures,
   ap (λ (z : List Slot). length z) c.as_slice.ensures.value,
   c.args.limits.in_range.slots_in_range.1,
 )
 
 pub with_slots-keeper-requires-clause-length_is : goal.with_slots-keeper-requires-clause-length_is
 with_slots-keeper-requires-clause-length_is c =
-    slots_read c.args.limits.slots c.args.limits.max_gen c.clock.result _ _ _ _ c.in_ok-headers.ensures
+    slots_read c.args.limits c.clock.result _ _ _ _ c.in_ok-headers.ensures
     ∙ sym (ap (λ (z : Shape). z.slots) c.shape.ensures.shape)
 
 pub invariant_of-objects : goal.invariant_of-objects

@@ -1,6 +1,6 @@
 use Rattle.std.proofs.Common.{◌-◌, arith}
 use Rattle.std.proofs.lemmas.Bool.Decides.{nat_tests}
-use Rattle.ob_store.proofs.NumberLaws.{read_all, read_first, read_next, stands_taken}
+use Rattle.ob_store.proofs.NumberLaws.{read_first, read_next, stands_taken}
 use Rattle.ob_store.proofs.numbers.Numbers.read.Goals as goal
 
 pub loop-place-init : goal.loop-place-init

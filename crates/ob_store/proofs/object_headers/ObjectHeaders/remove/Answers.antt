@@ -1,4 +1,4 @@
-use Rattle.std.proofs.Common.{true, ◌∙◌, refl, sym, None}
+use Rattle.std.proofs.Common.{true, ◌∙◌, refl, None}
 use Rattle.ob_store.specs.Objects.{tags_in}
 use Rattle.ob_store.specs.Closing.{is_open}
 use Rattle.ob_store.proofs.HeaderLaws.{header_of, places_removed, vacant_same, mapped_set}

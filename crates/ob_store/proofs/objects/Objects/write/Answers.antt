@@ -1,30 +1,35 @@
-use Rattle.std.proofs.Common.{◌≡◌, map, arith, inl, inr}
+use Rattle.std.proofs.Common.{arith, inl, inr, map}
 use Rattle.std.specs.List.{range_with_len}
 use Rattle.std.proofs.lemmas.Bool.{cases_lt}
-use Rattle.std.proofs.lemmas.List.{flat_map_more}
-use Rattle.std.proofs.lemmas.List.FromFn.{map-range_with_len_more}
-use Rattle.ob_store.specs.SavedObjects.{slot_saved}
-use Rattle.ob_store.specs.SavedSlots.{slot_text}
-use Rattle.ob_store.proofs.FittingLaws.{all_fit}
+use Rattle.std.proofs.lemmas.List.FromFn.{length-map-range_with_len}
+use Rattle.std.proofs.lemmas.Result.{on_ok_weaker}
+use Rattle.ob_store.specs.SavedObjects.{slot_saved, slots_saved}
+use Rattle.ob_store.specs.SavedSlots.{slot_text, used}
+use Rattle.ob_store.proofs.FittingLaws.{all_fit, fresh_fits}
+use Rattle.ob_store.proofs.SavingLaws.{list_behind}
 use Rattle.ob_store.proofs.objects.Objects.write.Goals as goal
 
-pub loop-slot-preserved : goal.loop-slot-preserved
-loop-slot-preserved g c =
+pub returns-then-not-short-clause-fits : goal.returns-then-not-short-clause-fits
+returns-then-not-short-clause-fits g c = on_ok_weaker c.write_rows.result
+    (λ fits clock formed. all_fit c.args.self.now c.kept.ensures clock formed
+    (λ k lt. fits k (omega (arith, lt, c.slots.ensures))))
+    c.write_rows.ensures.fits
+
+pub returns-clause-text : goal.returns-clause-text
+returns-clause-text g c =
     let s = c.args.self.now in
-    let k = c.loop-slot.slot in
-    record {
-      text = rw (
-        c.in_ok-write_slot.ensures.text,
-        c.loop-slot.invariant.text,
-        map-range_with_len_more (slot_saved s) 0 k k (omega arith),
-      ) (flat_map_more slot_text c.args.out.now.items (map (slot_saved s) (range_with_len 0 k)) (slot_saved s k));
-      fits = λ j lt. elim (cases_lt j k) [
-        | inl below ↦ c.loop-slot.invariant.fits j below
-        | inr above ↦ (let e : k ≡ j = omega (arith, lt, above) in rw (← e) c.in_ok-write_slot.ensures.fits)
-      ];
-    }
+    let rows = c.used-rows.result in
+    rw c.if-not-short.false (on_ok_weaker c.write_rows-2.result
+    (λ t. list_behind slot_text c.args.out.now.items c.write.new.out.items c.write_rows-2.new.out.items rows
+    (map (slot_saved s) (range_with_len 0 rows)) (used (slots_saved s)) c.in_ok-write.ensures.text t
+    c.used-rows.ensures.value (length-map-range_with_len (slot_saved s) 0 rows))
+    c.write_rows-2.ensures.text)
 
 pub returns-clause-fits : goal.returns-clause-fits
-returns-clause-fits g c clock formed =
-    all_fit c.args.self.now c.kept.ensures clock formed
-    (λ k lt. c.loop-slot.invariant.fits k (omega (arith, lt, c.loop-slot-test.false)))
+returns-clause-fits g c = on_ok_weaker c.write_rows-2.result
+    (λ fits clock formed. all_fit c.args.self.now c.kept.ensures clock formed
+    (λ k lt. elim (cases_lt k c.used-rows.result) [
+      | inl below ↦ fits k below
+      | inr past ↦ fresh_fits (slot_saved c.args.self.now k) (c.used-rows.ensures.fresh k past lt)
+    ]))
+    c.write_rows-2.ensures.fits

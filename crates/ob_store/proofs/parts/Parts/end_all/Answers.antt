@@ -1,11 +1,10 @@
-use Rattle.std.proofs.Common.{◌≡◌, ◌∙◌, ◌≤◌, ◌<◌, None, refl, ap, arith, length, set, inl, inr}
+use Rattle.std.proofs.Common.{◌∙◌, ◌<◌, None, refl, ap, arith, length, inl, inr}
 use Rattle.std.proofs.lemmas.Bool.{cases_eq, cases_lt}
 use Rattle.std.proofs.lemmas.List.{length-set}
 use Rattle.ob_codec.proofs.AtPlace.{at_place}
 use Rattle.std.proofs.lemmas.Bool.Decides.{nat_tests}
 use Rattle.ob_store.specs.Parts.{parts_of}
 use Rattle.ob_store.specs.Processes.{ProcessesState}
-use Rattle.ob_store.specs.State.{State}
 use Rattle.ob_store.proofs.MemberLaws.{own_within}
 use Rattle.ob_store.proofs.PassedLaws.{ending_ended, ending_passed, its_own}
 use Rattle.ob_store.proofs.parts.Parts.end_all.Goals as goal

@@ -1,4 +1,4 @@
-use Rattle.std.proofs.Common.{◌≤◌, arith}
+use Rattle.std.proofs.Common.{◌≤◌}
 use Rattle.ob_store.proofs.GivenLaws.{IsFree}
 use Rattle.ob_store.proofs.MemberLaws.{member_added, member_undone}
 use Rattle.ob_store.proofs.processes.Processes.add_process.Goals as goal

@@ -1,4 +1,4 @@
-use Rattle.std.proofs.Common.{◌≤◌, arith}
+use Rattle.std.proofs.Common.{◌≤◌}
 use Rattle.ob_store.proofs.GivenLaws.{IsFree}
 use Rattle.ob_store.proofs.MemberLaws.{member_added}
 use Rattle.ob_store.proofs.processes.Processes.add_thread.Goals as goal

@@ -1,5 +1,4 @@
-use Rattle.std.proofs.Common.{◌∙◌, ap}
-use Rattle.std.specs.Prelude.{is_some}
+use Rattle.std.proofs.Common.{◌∙◌}
 use Rattle.ob_store.proofs.MemberLaws.{any_least}
 use Rattle.ob_store.proofs.processes.Processes.has_threads.Goals as goal
 

@@ -1,5 +1,3 @@
-use Rattle.std.proofs.Common.{◌≤◌, ℕ, Option, Some, None, arith, get_or, length}
-use Rattle.std.specs.Prelude.{IfSome}
 use Rattle.ob_store.proofs.MemberLaws.{few_from}
 use Rattle.ob_store.proofs.processes.Processes.thread_from.Goals as goal
 

@@ -15,7 +15,7 @@ returns-clause-text g c =
     let p = c.self.inside.parts in
     on_ok_weaker c.write-6.result (λ t. rw (← c.self.view_is)
     (six_behind c.args.out.now.items (limits_text p.limits) (to_le_bytes w64 p.waits.clock) (processes_text p.processes)
-    (tables_text p.tables.tables) (waits_text p.waits.waits) (objects_text p.objects)
+    (tables_text p.tables.tables) (waits_text p.waits.waits) (objects_text p.limits.reuse p.objects)
     c.write.new.out.items c.write-2.new.out.items c.write-3.new.out.items c.write-4.new.out.items
     c.write-5.new.out.items c.write-6.new.out.items c.in_ok-write.ensures.text
     (rw c.clock.ensures.moment at c.in_ok-write-2.ensures.text)

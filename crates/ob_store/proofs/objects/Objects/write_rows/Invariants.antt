@@ -2,7 +2,7 @@ use Rattle.std.proofs.Common.{◌≡◌, ℕ, ◌++◌, ◌<◌, map}
 use Rattle.std.specs.List.{flat_map, range_with_len}
 use Rattle.ob_store.specs.SavedObjects.{slot_saved}
 use Rattle.ob_store.specs.SavedSlots.{AnySlotFits, slot_text}
-use Rattle.ob_store.proofs.objects.Objects.write.Given as goal
+use Rattle.ob_store.proofs.objects.Objects.write_rows.Given as goal
 
 abbrev pub invariant-loop-slot : goal.invariant-loop-slot
 invariant-loop-slot g l = record {

@@ -1,0 +1,139 @@
+-- Slots up to the last that ever had an object, and all of them again.
+use Rattle.std.proofs.Common.{◌≡◌, ℕ, zero, suc, ◌+◌, ◌-◌, ◌≤◌, ◌^◌, ◌<◌, Bool, true, false, cond, List, [], ◌∷◌, ◌++◌, length, get_or, Some, None, refl, sym, ap, ◌∙◌, subst, append_assoc, arith, length-append}
+use Rattle.std.specs.Prelude.{replicate}
+use Rattle.std.specs.List.{AllByRecursion}
+use Rattle.std.proofs.lemmas.Bool.{le-leb, leb-true}
+use Rattle.std.proofs.lemmas.List.{append-nil, length-replicate, replicate_more}
+use Rattle.std.proofs.lemmas.Option.{cond_some}
+use Rattle.ob_codec.specs.Spelling.{FewFit}
+use Rattle.ob_store.specs.declared.saved_slot.SavedSlot.{SavedSlot}
+use Rattle.ob_store.proofs.ByPlace.{replicate_at}
+use Rattle.ob_store.specs.SavedSlots.{SlotFits, ends_used, filled, fresh_slot, is_fresh, used, with_fresh, with_used}
+
+fresh-is : (x : SavedSlot) → is_fresh x ≡ true → x ≡ fresh_slot
+fresh-is x e = search arith
+
+-- as many are left out as are filled in again
+used-short : (xs : List SavedSlot) → length (used xs) ≤ length xs
+used-short [] = omega arith
+used-short (x ∷ xs) = by (used xs) (used-short xs)
+  where
+    by : (ys : List SavedSlot) → length ys ≤ length xs → length (with_used x ys) ≤ suc (length xs)
+    by [] le = grind arith
+    by (y ∷ ys) le = omega arith
+
+pub used_filled : (xs : List SavedSlot) → with_fresh (length xs) (used xs) ≡ xs
+used_filled [] = refl
+used_filled (x ∷ xs) = by (used xs) (used_filled xs)
+  where
+    by : (ys : List SavedSlot) → with_fresh (length xs) ys ≡ xs → with_fresh (suc (length xs)) (with_used x ys) ≡ x ∷ xs
+    by [] e = one (is_fresh x) refl
+      where
+        one : (b : Bool) → is_fresh x ≡ b → with_fresh (suc (length xs)) (cond b [] (x ∷ [])) ≡ x ∷ xs
+        one true f =
+            let k : length xs - 0 ≡ length xs = omega arith in
+            let j : suc (length xs) - 0 ≡ suc (length xs) = omega arith in
+            rw (j, fresh-is x f) (ap (λ (r : List SavedSlot). fresh_slot ∷ r) (rw k at e))
+        one false f =
+            let j : suc (length xs) - 1 ≡ length xs - 0 = omega arith in
+            rw j (ap (λ (r : List SavedSlot). x ∷ r) e)
+    by (y ∷ ys) e =
+        let j : suc (length xs) - suc (suc (length ys)) ≡ length xs - suc (length ys) = omega arith in
+        rw j (ap (λ (r : List SavedSlot). x ∷ r) e)
+
+used-ends : (xs : List SavedSlot) → ends_used (used xs) ≡ true
+used-ends [] = refl
+used-ends (x ∷ xs) = by (used xs) (used-ends xs)
+  where
+    by : (ys : List SavedSlot) → ends_used ys ≡ true → ends_used (with_used x ys) ≡ true
+    by [] e = grind arith
+    by (y ∷ ys) e = e
+
+-- slots of which the last had an object stay, and those behind them that never had one don't count
+used-same : (xs : List SavedSlot) → ends_used xs ≡ true → used xs ≡ xs
+used-same [] e = refl
+used-same (x ∷ []) e = grind arith
+used-same (x ∷ y ∷ ys) e = ap (with_used x) (used-same (y ∷ ys) e)
+
+used-behind : (xs : List SavedSlot) (n : ℕ) → used (xs ++ replicate n fresh_slot) ≡ used xs
+used-behind [] zero = refl
+used-behind [] (suc n) = ap (with_used fresh_slot) (used-behind [] n)
+used-behind (x ∷ xs) n = ap (with_used x) (used-behind xs n)
+
+pub used_is : (xs : List SavedSlot) (n : ℕ) → ends_used xs ≡ true → used (xs ++ replicate n fresh_slot) ≡ xs
+used_is xs n e = used-behind xs n ∙ used-same xs e
+
+pub ends_more : (xs : List SavedSlot) (x : SavedSlot) → ends_used (xs ++ x ∷ []) ≡ ends_used (x ∷ [])
+ends_more [] x = refl
+ends_more (y ∷ []) x = refl
+ends_more (y ∷ z ∷ zs) x = ends_more (z ∷ zs) x
+
+pub fresh_long : (n : ℕ) (xs : List SavedSlot) → length xs ≤ n → length (with_fresh n xs) ≡ n
+fresh_long n xs le =
+    let a = length-append xs (replicate (n - length xs) fresh_slot) in
+    let b = length-replicate (n - length xs) fresh_slot in
+    omega arith
+
+-- where each stands there, none is filled in
+pub fresh_none : (n : ℕ) (xs : List SavedSlot) → length xs ≡ n → with_fresh n xs ≡ xs
+fresh_none n xs is = (let k : n - length xs ≡ 0 = omega arith in rw k (append-nil xs))
+
+-- one more of those that are filled in
+pub one_filled : {A : Type 0} (xs : List A) (x : A) (k : ℕ) → length xs ≤ k
+    → (xs ++ replicate (k - length xs) x) ++ x ∷ [] ≡ xs ++ replicate (k + 1 - length xs) x
+one_filled xs x k le =
+    let more : k + 1 - length xs ≡ k - length xs + 1 = omega arith in
+    append_assoc xs (replicate (k - length xs) x) (x ∷ []) ∙ ap (λ r. xs ++ r) (replicate_more (k - length xs) x)
+    ∙ ap (λ n. xs ++ replicate n x) (sym more)
+
+module _ (P : SavedSlot → Type 0) where
+  all-used : (xs : List SavedSlot) → AllByRecursion P xs → AllByRecursion P (used xs)
+  all-used [] all = tt
+  all-used (x ∷ xs) all = by (used xs) (all-used xs all.1)
+    where
+      by : (ys : List SavedSlot) → AllByRecursion P ys → AllByRecursion P (with_used x ys)
+      by [] each = one (is_fresh x)
+        where
+          one : (b : Bool) → AllByRecursion P (cond b [] (x ∷ []))
+          one true = tt
+          one false = (all.0, tt)
+      by (y ∷ ys) each = (all.0, each)
+
+  all-fresh : P fresh_slot → (xs : List SavedSlot) (n : ℕ) → AllByRecursion P xs
+      → AllByRecursion P (xs ++ replicate n fresh_slot)
+  all-fresh fresh [] zero all = tt
+  all-fresh fresh [] (suc n) all = (fresh, all-fresh fresh [] n tt)
+  all-fresh fresh (x ∷ xs) n all = (all.0, all-fresh fresh xs n all.1)
+
+  -- what holds of each of these, and of one that never had an object, holds at each place
+  pub fresh_at : P fresh_slot → (xs : List SavedSlot) (n : ℕ) → ((k : ℕ) → k < length xs → P (get_or xs k fresh_slot))
+      → (k : ℕ) → P (get_or (xs ++ replicate n fresh_slot) k fresh_slot)
+  fresh_at fresh [] n each k = rw (replicate_at n k fresh_slot) fresh
+  fresh_at fresh (x ∷ xs) n each zero = each 0 (omega arith)
+  fresh_at fresh (x ∷ xs) n each (suc k) = fresh_at fresh xs n (λ j lt. each (suc j) (omega arith)) k
+
+-- so many slots that have a spelling and may be so
+abbrev pub RowsFit : ℕ → ℕ → ℕ → List SavedSlot → Type 0
+RowsFit n max_gen clock xs = (length xs ≡ n) × AllByRecursion (SlotFits max_gen clock) xs
+
+module _ (n max_gen clock : ℕ) where
+  pub used_there : n < 2 ^ 32 → (xs : List SavedSlot) → RowsFit n max_gen clock xs
+      → (filled n (used xs) ≡ Some xs) × FewFit n (SlotFits max_gen clock) (used xs)
+  used_there few xs fit =
+      let short = used-short xs in
+      let is : with_fresh n (used xs) ≡ xs = rw (← fit.0) (used_filled xs) in (
+        ap (λ (b : Bool). cond b (Some (with_fresh n (used xs))) None) (used-ends xs) ∙ ap Some is,
+        ((omega (arith, fit.0), all-used (SlotFits max_gen clock) xs fit.1), le-leb (length (used xs)) n (omega (arith, fit.0))),
+      )
+
+  pub used_back : SlotFits max_gen clock fresh_slot → (ys xs : List SavedSlot)
+      → FewFit n (SlotFits max_gen clock) ys → filled n ys ≡ Some xs → (used xs ≡ ys) × RowsFit n max_gen clock xs
+  used_back fresh ys xs fits e =
+      let g = cond_some (ends_used ys) (with_fresh n ys) xs e in
+      let le = leb-true (length ys) n fits.1 in (
+        subst (λ (z : List SavedSlot). used z ≡ ys) g.1 (used_is ys (n - length ys) g.0),
+        subst (RowsFit n max_gen clock) g.1 (
+          fresh_long n ys le,
+          all-fresh (SlotFits max_gen clock) fresh ys (n - length ys) fits.0.1,
+        ),
+      )

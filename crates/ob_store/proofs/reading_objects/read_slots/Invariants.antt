@@ -1,5 +1,0 @@
-use Rattle.ob_store.proofs.SavedLaws.{HasRead}
-use Rattle.ob_store.proofs.reading_objects.read_slots.Given as goal
-
-abbrev pub invariant-loop-slot : goal.invariant-loop-slot
-invariant-loop-slot l = HasRead l.slots l.max_gen l.clock l.slot l.fn.from l.from l.headers l.begun.items
