@@ -280,6 +280,7 @@ pub enum CallOf<M, T, H> {
     },
 }
 
+// Not derived, which would copy part by part and takes three minutes of proof.
 impl<M: Copy, T: Copy, H: Copy> Clone for CallOf<M, T, H> {
     ghost is_clone = { λ call copy. copy ≡ call };
 
