@@ -49,12 +49,20 @@ timely_came clock ws w dues dues' alone ahead others here timely = record {
       | inr other ↦ search arith
     ]
 
-pub timely_added : (clock : ℕ) (ws : List (Option Wait)) (t : ℕ) (mode : Mode) (ids : List Id) (d : Option ℕ)
-    (dues room : List (Option ℕ)) → number_of t ws ≡ None → IsAfter clock d → t < length room
-    → ((u : ℕ) → get_or room u None ≡ get_or dues u None) → AreTimely clock ws dues
-    → AreTimely clock (ws ++ Some (new_wait t mode ids d) ∷ []) (set room t d)
-timely_added clock ws t mode ids d dues room alone ahead place same timely =
-    search (arith, timely_came, get_or-set_other, get_or-set_same)
+-- some moment is listed at a thread that has no wait
+pub timely_listed : (clock : ℕ) (ws : List (Option Wait)) (t : ℕ) (dues dues' : List (Option ℕ)) → number_of t ws ≡ None
+    → ((u : ℕ) → (u ≡ t → ⊥) → get_or dues' u None ≡ get_or dues u None) → AreTimely clock ws dues
+    → AreTimely clock ws dues'
+timely_listed clock ws t dues dues' alone others timely = record {
+  moment = timely.moment;
+  ahead = timely.ahead;
+  listed = record {
+    each = λ n u e own due. elim (cases_eq u t) [
+      | inl ours ↦ absurd (search (arith, no_number))
+      | inr other ↦ search arith
+    ];
+  };
+}
 
 pub timely_answered : (clock : ℕ) (ws : List (Option Wait)) (t code : ℕ) (d : Option ℕ) (dues : List (Option ℕ))
     → number_of t ws ≡ None

@@ -1,9 +1,29 @@
-ghost use Rattle.std.specs.Prelude.{◌≡◌, ℕ, IfNone, IfSome, None, false, map, true, slice_index_or};
-ghost use Rattle.least.specs.Dues.{IsLeast};
+ghost use Rattle.std.specs.Prelude.{◌≡◌, ◌≢◌, ℕ, IfNone, IfSome, None, OnOk, Some, false, map, true, slice_index_or};
+ghost use Rattle.least.specs.Dues.{IsLeast, due_at};
 ghost use Rattle.ob_waits.specs.Deadlines.{AreListed, deadline_of, is_overdue};
 
 use crate::live::Live;
 use least::Dues;
+use std::alloc::AllocError;
+
+/// Lists the deadline of a wait that a thread begins, where it has one, as most haven't. One that is listed for an
+/// earlier wait of the thread may stay else.
+#[inline]
+pub(crate) fn list_deadline(
+    deadlines: &mut Dues,
+    thread: u32,
+    deadline: Option<u64>,
+) -> Result<(), AllocError>
+    ensures others { (t : ℕ) → t ≢ thread → due_at deadlines.new t ≡ due_at deadlines.old t }
+    ensures listed { OnOk result ((due : ℕ) → deadline ≡ Some due → due_at deadlines.new thread ≡ Some due) }
+{
+    let Some(due) = deadline else {
+        return Ok(());
+    };
+    deadlines.make_room(thread)?;
+    deadlines.set(thread, Some(due));
+    Ok(())
+}
 
 /// A pending wait whose deadline isn't after a moment. The deadlines of waits that were answered before are dropped on
 /// the way.

@@ -58,11 +58,11 @@ fn take_effect<B: Bodies>(live: &mut Live, bodies: &mut B, number: u32, slot: Op
     let State::Pending(mode, ids) = &wait.state else {
         return false;
     };
-    let thread = wait.thread;
-    let Some(code) = try_at(bodies, thread, *mode, ids.as_slice(), slot) else {
+    let (thread, ids) = (wait.thread, ids.as_slice());
+    let Some(code) = try_at(bodies, thread, *mode, ids, slot) else {
         return true;
     };
-    leave_all(bodies, ids.as_slice());
+    leave_all(bodies, ids);
     live.answer(thread, number, code);
     false
 }

@@ -20,7 +20,7 @@ use crate::blocks::blocks_of;
 use crate::bodies::Bodies;
 use crate::ids::Ids;
 use crate::live::Live;
-use crate::overdue::{next_due, next_overdue};
+use crate::overdue::{list_deadline, next_due, next_overdue};
 use crate::pass::{pass, pass_each, pass_slot};
 use crate::pending::Pending;
 use crate::pending_index::PendingIndex;
@@ -242,15 +242,12 @@ impl Waits {
         let number = self.live.given() + 1;
         let list = Ids::new(self.alloc, ids)?;
         self.pending_index.make_room(&self.live, ids, number)?;
-        self.deadlines.make_room(thread)?;
+        list_deadline(&mut self.deadlines, thread, deadline)?;
         self.live.push(Wait {
             thread,
             deadline,
             state: State::Pending(mode, list),
         })?;
-        // Most waits have no deadline.
-        let before = self.deadlines.get(thread);
-        self.deadlines.moved(thread, before, deadline);
         Ok(number)
     }
 

@@ -1,6 +1,6 @@
 use Rattle.ob_waits.proofs.Cited.{◌≡◌, ◌≤◌, ◌+◌, ◌++◌, [], ◌∷◌, None, Some, List, Option, false, subst, sym, arith, length, Wait, new_wait, WaitList, number_of, is_full, IsTracked, AreTimely, IsAfter}
 use Rattle.ob_waits.proofs.AddedLaws.{tracked_added}
-use Rattle.ob_waits.proofs.DeadlineLaws.{timely_added}
+use Rattle.ob_waits.proofs.DeadlineLaws.{timely_came, timely_listed}
 use Rattle.ob_waits.proofs.waits.Waits.admit.Goals as goal
 
 pub invariant_of-self-2 : goal.invariant_of-self-2
@@ -16,15 +16,34 @@ invariant_of-self-2 c =
     ++ Some (new_wait c.args.thread c.args.mode c.args.ids.now c.args.deadline) ∷ [] =
     search arith in
     subst (λ (ws : List (Option Wait)). IsTracked c.self.inside.limit ws c.make_room.new.self
-    × AreTimely c.self.inside.clock ws c.moved.new.self) (sym waits) (
+    × AreTimely c.self.inside.clock ws c.list_deadline.new.deadlines) (sym waits) (
       tracked_added c.self.inside.limit c.self.inside.live c.self.inside.pending_index c.make_room.new.self number
           c.args.thread c.args.mode c.args.ids.now c.args.deadline
           len (omega arith) below c.requires.waitable alone c.self.invariant.0 c.in_ok-make_room.ensures.right
           c.in_ok-make_room.ensures.place,
-      subst (AreTimely c.self.inside.clock (c.self.inside.live
-          ++ Some (new_wait c.args.thread c.args.mode c.args.ids.now c.args.deadline) ∷ [])) (sym c.moved.ensures)
-          (timely_added c.self.inside.clock c.self.inside.live c.args.thread c.args.mode c.args.ids.now c.args.deadline
-          c.self.inside.deadlines c.make_room-2.new.self alone
+      timely_came c.self.inside.clock c.self.inside.live
+          (new_wait c.args.thread c.args.mode c.args.ids.now c.args.deadline) c.self.inside.deadlines
+          c.list_deadline.new.deadlines alone
           (subst (λ (l : WaitList). IsAfter l.clock c.args.deadline) (sym c.self.view_is) c.requires.ahead)
-          c.in_ok-make_room-2.ensures.room c.in_ok-make_room-2.ensures.same c.self.invariant.1),
+          c.list_deadline.ensures.others c.in_ok-list_deadline.ensures.listed c.self.invariant.1,
+    )
+
+pub invariant_of-self-in_err-list_deadline : goal.invariant_of-self-in_err-list_deadline
+invariant_of-self-in_err-list_deadline c =
+    let alone : number_of c.args.thread c.self.inside.live ≡ None =
+    subst (λ (l : WaitList). number_of c.args.thread l.waits ≡ None) (sym c.self.view_is) c.requires.alone in (
+      search arith,
+      timely_listed c.self.inside.clock c.self.inside.live c.args.thread c.self.inside.deadlines
+          c.list_deadline.new.deadlines alone c.list_deadline.ensures.others c.self.invariant.1,
+    )
+
+pub invariant_of-self-in_err-push : goal.invariant_of-self-in_err-push
+invariant_of-self-in_err-push c =
+    let alone : number_of c.args.thread c.self.inside.live ≡ None =
+    subst (λ (l : WaitList). number_of c.args.thread l.waits ≡ None) (sym c.self.view_is) c.requires.alone in
+    subst (λ (ws : List (Option Wait)). IsTracked c.self.inside.limit ws c.make_room.new.self
+    × AreTimely c.self.inside.clock ws c.list_deadline.new.deadlines) (sym c.in_err-push.ensures.err) (
+      search arith,
+      timely_listed c.self.inside.clock c.self.inside.live c.args.thread c.self.inside.deadlines
+          c.list_deadline.new.deadlines alone c.list_deadline.ensures.others c.self.invariant.1,
     )
