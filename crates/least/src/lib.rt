@@ -33,6 +33,7 @@
 
 mod best;
 mod due;
+mod finding;
 mod free;
 mod levels;
 mod reserved;
@@ -40,6 +41,7 @@ mod words;
 
 pub use best::sooner;
 pub use due::Dues;
+pub use finding::next_place;
 pub use free::{LeastFree, NUMBERS_MAX};
 pub use levels::Levels;
 pub use reserved::reach;

@@ -1,3 +1,4 @@
 pub mod AtPlace
 pub mod Loop
 pub mod SealLaws
+pub mod SavingLaws

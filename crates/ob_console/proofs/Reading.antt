@@ -2,7 +2,7 @@
 use Rattle.std.proofs.Common.{arith, ◌≡◌, ℕ, Bool, List, [], ◌++◌, Result, Ok, Err, refl, ◌∙◌}
 use Rattle.std.specs.Prelude.{IsErrOf}
 use Rattle.std.proofs.lemmas.List.{append_assoc, append-nil}
-use Rattle.ob_store.specs.declared.limits.Limits.{Limits}
+use Rattle.ob_tables.specs.declared.limits.Limits.{Limits}
 use Rattle.ob_console.specs.declared.script.RunFault.{RunFault}
 use Rattle.ob_console.specs.declared.script.RunFault.TheVariants.{Memory, Read, Write}
 use Rattle.ob_console.specs.Runs.{Point, AnswersTo, AnswersLines, AnswersPart, IsCut, IsEnded, IsOpening, IsWholeEnded}

@@ -16,11 +16,11 @@ use Rattle.ob_tables.specs.declared.entry.Entry.{Entry}
 use Rattle.ob_waits.specs.declared.wait.Mode.{Mode}
 use Rattle.ob_waits.specs.declared.wait.WaitState.{WaitState}
 use Rattle.ob_waits.specs.declared.wait.WaitState.TheVariants.{Pending, Answered}
-use Rattle.ob_store.specs.declared.limits.Limits.{Limits}
+use Rattle.ob_tables.specs.declared.limits.Limits.{Limits}
 use Rattle.ob_store.specs.State.{State, Whole, with_child, with_process}
 use Rattle.ob_store.specs.Directory.{directory_of}
 use Rattle.ob_store.specs.Ends.{thread_ended, threads_ended, process_ended, after_thread_end}
-use Rattle.ob_store.specs.Processes.{is_of}
+use Rattle.ob_tables.specs.Processes.{is_of}
 use Rattle.ob_store.specs.Waiting.{cut_short, taken_at}
 use Rattle.ob_manager.specs.Calls.{Call}
 use Rattle.ob_manager.specs.declared.call.CallOf.TheVariants as calls

@@ -1,6 +1,6 @@
 ghost use Rattle.std.specs.Prelude.{◌≡◌, ◌<◌, None, Some, IfOk, length, slice_index_or};
 ghost use Rattle.ob_body.specs.Body as spec;
-ghost use Rattle.ob_store.specs.Kept.{IsLive};
+ghost use Rattle.ob_tables.specs.Processes.{IsLive};
 ghost use Rattle.ob_tables.specs.Table.{entry_at};
 ghost use Rattle.ob_tables.specs.Tables.{table_of};
 ghost use Rattle.ob_manager.specs.Checks.{body_of, caller, found, granted, if_kind, is_allowed, natural, positive, same_kind};

@@ -1,6 +1,6 @@
 -- A journal grows at its end, and tells the state.
 use Rattle.std.proofs.Common.{◌≡◌, ℕ, List, [], ◌∷◌, ◌++◌, Ok, refl, ap, sym, subst, ◌∙◌}
-use Rattle.ob_store.specs.declared.limits.Limits.{Limits}
+use Rattle.ob_tables.specs.declared.limits.Limits.{Limits}
 use Rattle.ob_store.specs.Consistent.{IsConsistent}
 use Rattle.ob_store.specs.State.{State, Whole}
 use Rattle.ob_manager.specs.Savestates.{load}

@@ -1,6 +1,6 @@
 -- A journal, and what it means that a manager is the one after it.
 use Rattle.std.specs.Prelude.{◌≡◌, ℕ, List, [], ◌∷◌, Ok}
-use Rattle.ob_store.specs.declared.limits.Limits.{Limits}
+use Rattle.ob_tables.specs.declared.limits.Limits.{Limits}
 use Rattle.ob_store.specs.Consistent.{IsConsistent}
 use Rattle.ob_store.specs.State.{State, Whole, opening}
 use Rattle.ob_manager.specs.Savestates.{load}

@@ -25,7 +25,8 @@ use Rattle.ob_store.specs.Agreement.{IsAgreed, ObjectsInvariant}
 use Rattle.ob_store.specs.State as state
 use Rattle.ob_store.specs.Parts.{PartsState, state_of}
 use Rattle.ob_store.specs.State.{State, generation_of, id_at}
-use Rattle.ob_store.specs.Kept.{StoreInvariant, IsCounted, IsListing, IsLive, form_in}
+use Rattle.ob_tables.specs.Processes.{IsLive}
+use Rattle.ob_store.specs.Kept.{StoreInvariant, IsCounted, IsListing, form_in}
 use Rattle.ob_store.proofs.AgreeLaws.{object_at, body_at}
 use Rattle.ob_store.proofs.CountedLaws.{blocks_at, counted_added}
 use Rattle.ob_store.proofs.NamedLaws.{named_added}

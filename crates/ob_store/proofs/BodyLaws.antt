@@ -13,7 +13,8 @@ use Rattle.ob_waits.specs.Waits.{Scene, settled}
 use Rattle.ob_waits.proofs.Settling.{IsLess}
 use Rattle.ob_waits.proofs.Staying.{settled_form, settled_owner, settled_thread}
 use Rattle.ob_store.specs.Objects.{Object}
-use Rattle.ob_store.specs.Kept.{AreFormed, AreOfLive, IsLive, Yields, form_in}
+use Rattle.ob_tables.specs.Processes.{IsLive}
+use Rattle.ob_store.specs.Kept.{AreFormed, AreOfLive, Yields, form_in}
 
 -- a place that changes or stays
 pub at_gone : (c : Bool) (bodies : List (Option Body)) (i k : ℕ)

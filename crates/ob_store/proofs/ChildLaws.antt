@@ -13,7 +13,7 @@ use Rattle.ob_tables.specs.Tables.{HandleTables, IsBounded, table_of}
 use Rattle.ob_tables.proofs.Counting.{handles_among-with_table, handles_in-inherited, handles_in-among}
 use Rattle.ob_tables.proofs.Inheriting.{at-trimmed}
 use Rattle.ob_tables.proofs.SlotCounts.{one_in, slot_handles-with_table, slot_handles-few}
-use Rattle.ob_store.specs.Processes.{next_number}
+use Rattle.ob_tables.specs.Processes.{next_number}
 use Rattle.ob_store.specs.Objects.{ObjectsState, with_handle_at, with_handles_of}
 use Rattle.ob_store.specs.Agreement.{ObjectsInvariant}
 use Rattle.ob_store.specs.State as state
@@ -24,7 +24,7 @@ use Rattle.ob_store.proofs.BySlot.{recounted, count_few}
 use Rattle.ob_store.proofs.CountedLaws.{handles_at, handles_long}
 use Rattle.ob_store.proofs.NamedLaws.{entry_counted}
 use Rattle.ob_store.proofs.ListingLaws.{listing_process}
-use Rattle.ob_store.proofs.GivenLaws.{IsFree, get_or-put, next_is_free, within-put}
+use Rattle.ob_tables.proofs.GivenLaws.{IsFree, get_or-put, next_is_free, within-put}
 use Rattle.ob_store.proofs.KeptLaws.{handled, member_kept, member_live, member_populated, none_in, with_member}
 
 -- all but the counts of handles

@@ -23,8 +23,8 @@ use Rattle.ob_waits.proofs.References.{left_all}
 use Rattle.ob_waits.proofs.Room.{room_dropped}
 use Rattle.ob_store.specs.Agreement.{ObjectsInvariant}
 use Rattle.ob_store.specs.Ends.{slot_left_by, thread_ended}
-use Rattle.ob_store.specs.Kept.{IsCounted, IsLive}
-use Rattle.ob_store.specs.Processes.{ProcessesState}
+use Rattle.ob_tables.specs.Processes.{IsLive, ProcessesState}
+use Rattle.ob_store.specs.Kept.{IsCounted}
 use Rattle.ob_store.specs.Objects.{ObjectsState, KeptRest, kept_rest}
 use Rattle.ob_store.specs.Parts.{PartsState}
 use Rattle.ob_store.specs.Signaled.{SignaledState, KeepsEnough}

@@ -40,7 +40,6 @@ pub mod SavedOrderLaws
 pub mod SavedNameLaws
 pub mod SavedObjectLaws
 pub mod SavedProcessLaws
-pub mod SavingLaws
 pub mod SavedKeptLaws
 pub mod FittingLaws
 pub mod SavedCodecs
@@ -61,8 +60,5 @@ pub mod TimeoutLaws
 pub mod ChildLaws
 pub mod ConsistentLaws
 pub mod StoredLaws
-pub mod GivenLaws
-pub mod MemberLaws
 pub mod MetLaws
-pub mod NumberLaws
 pub mod OpenedLaws

@@ -8,7 +8,8 @@ use Rattle.ob_waits.specs.declared.wait.Mode.TheVariants.{Any}
 use Rattle.ob_waits.specs.Rules.{HasRoom}
 use Rattle.ob_waits.specs.Waits.{nowhere}
 use Rattle.ob_store.specs.Agreement.{ObjectsInvariant}
-use Rattle.ob_store.specs.Kept.{IsLive, StoreInvariant, Yields}
+use Rattle.ob_tables.specs.Processes.{IsLive}
+use Rattle.ob_store.specs.Kept.{StoreInvariant, Yields}
 use Rattle.ob_store.specs.Objects.{ObjectsState, kept_rest}
 use Rattle.ob_store.specs.Parts.{PartsState, state_of}
 use Rattle.ob_store.specs.Signaled.{SignaledState}

@@ -7,7 +7,8 @@ use Rattle.pin_core.specs.declared.id.Id.{Id}
 use Rattle.ob_waits.specs.declared.wait.Mode.{Mode}
 use Rattle.ob_waits.specs.Waits.{WaitList, is_full, state_at, state_shown, with_renewed}
 use Rattle.ob_waits.proofs.RenewedLaws.{blocks_renewed, each_renewed, few_renewed, room_renewed, settled_renewed, slot_blocks_renewed}
-use Rattle.ob_store.specs.Kept.{IsLive, StoreInvariant}
+use Rattle.ob_tables.specs.Processes.{IsLive}
+use Rattle.ob_store.specs.Kept.{StoreInvariant}
 use Rattle.ob_store.specs.Parts.{PartsState, state_of, whole_of}
 use Rattle.std.specs.Prelude.{Result}
 use Rattle.ob_rights.specs.declared.fault.Fault.{Fault}

@@ -8,9 +8,9 @@ use Rattle.pin_core.specs.Worlds.{opening_slot}
 use Rattle.pin_words.specs.Keepers.{KeeperState, IsFresh}
 use Rattle.ob_tables.specs.Tables.{HandleTables}
 use Rattle.ob_waits.specs.Waits.{WaitList}
-use Rattle.ob_store.specs.declared.limits.Limits.{Limits}
+use Rattle.ob_tables.specs.declared.limits.Limits.{Limits}
 use Rattle.ob_store.specs.Agreement.{ObjectsInvariant, made_in}
-use Rattle.ob_store.specs.Processes.{no_processes}
+use Rattle.ob_tables.specs.Processes.{no_processes}
 use Rattle.ob_store.specs.Objects.{ObjectsState, with_keeper, vacant_places}
 use Rattle.ob_store.specs.Parts.{PartsState, whole_of}
 use Rattle.ob_store.specs.Signaled.{none_signaled}

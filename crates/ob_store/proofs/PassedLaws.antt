@@ -4,7 +4,7 @@ use Rattle.pin_words.specs.Keepers.{KeeperState}
 use Rattle.ob_store.specs.Parts.{PartsState}
 use Rattle.ob_store.specs.UnderWay.{IsEnding}
 use Rattle.ob_store.specs.Ends.{thread_ended, threads_ended}
-use Rattle.ob_store.specs.Processes.{is_of}
+use Rattle.ob_tables.specs.Processes.{is_of}
 use Rattle.ob_store.specs.State.{State}
 
 is_of_none : (p : ℕ) (x : Option ℕ) → (x ≡ Some p → ⊥) → is_of p x ≡ false

@@ -8,12 +8,12 @@ use Rattle.std.proofs.lemmas.List.{get_or_past}
 use Rattle.ob_tables.specs.Counts.{handles_among}
 use Rattle.ob_waits.specs.Waits.{blocks_among}
 use Rattle.ob_tables.specs.declared.entry.Entry.{Entry}
-use Rattle.ob_store.specs.declared.limits.Limits.{Limits}
+use Rattle.ob_tables.specs.declared.limits.Limits.{Limits}
 use Rattle.ob_store.specs.declared.found.Found.{Found}
-use Rattle.ob_store.specs.Processes.{ProcessesState}
+use Rattle.ob_tables.specs.Processes.{IsLive, ProcessesKept, ProcessesState}
 use Rattle.ob_store.specs.Objects.{Object, ObjectsState, object_of, tag_of}
 use Rattle.ob_store.specs.Agreement.{ObjectsInvariant}
-use Rattle.ob_store.specs.Kept.{IsLive, IsSound, IsThere, ProcessesKept}
+use Rattle.ob_store.specs.Kept.{IsSound, IsThere}
 use Rattle.ob_store.specs.Parts.{PartsState}
 use Rattle.ob_store.proofs.AgreeLaws.{body_at, object_within}
 use Rattle.ob_store.proofs.CountedLaws.{handles_at, blocks_at}

@@ -6,13 +6,13 @@ use Rattle.std.specs.List.{list_any}
 use Rattle.std.proofs.lemmas.Bool.{cases_eq, eq-eqb}
 use Rattle.std.proofs.lemmas.Bool.Decides.{nat_tests}
 use Rattle.ob_store.specs.Ends.{after_thread_end, exited, process_ended, thread_ended, threads_ended}
-use Rattle.ob_store.specs.Kept.{IsLive, IsPopulated}
-use Rattle.ob_store.specs.Processes.{ProcessesState, is_of}
-use Rattle.ob_store.specs.SavedProcesses.{are_populated, is_populated}
+use Rattle.ob_tables.specs.Processes.{IsLive, ProcessesState, is_of}
+use Rattle.ob_store.specs.Kept.{IsPopulated}
+use Rattle.ob_tables.specs.SavedProcesses.{are_populated, is_populated}
 use Rattle.ob_store.specs.State.{State}
 use Rattle.ob_store.proofs.ByPlace.{below_at, below_from}
 use Rattle.ob_tables.specs.Tables.{put}
-use Rattle.ob_store.proofs.GivenLaws.{IsFree, any_put, get_or-put}
+use Rattle.ob_tables.proofs.GivenLaws.{IsFree, any_put, get_or-put}
 use Rattle.ob_store.proofs.PlacedLaws.{live_within}
 
 -- as a test

@@ -13,7 +13,7 @@ use Rattle.ob_name.specs.Listing.{Rows}
 use Rattle.ob_tables.specs.declared.entry.Entry.{Entry}
 use Rattle.ob_tables.specs.Tables.{IsBounded}
 use Rattle.ob_waits.specs.Waits.{WaitList}
-use Rattle.ob_store.specs.declared.limits.Limits.{Limits}
+use Rattle.ob_tables.specs.declared.limits.Limits.{Limits}
 use Rattle.ob_store.specs.declared.saved_slot.SavedSlot.{SavedSlot}
 use Rattle.ob_store.specs.Agreement.{Agrees, AreBorn, ObjectsInvariant, made_in}
 use Rattle.ob_store.specs.Counting.{counting_all, uncounted}

@@ -25,7 +25,7 @@ use Rattle.ob_store.proofs.SavedObjectLaws.{AreRead, body-here, counts, object-h
 use Rattle.ob_store.proofs.SavedKeptLaws.{whole_steps}
 use Rattle.ob_store.proofs.SavedSlotLaws.{rows_all, slot_generation}
 use Rattle.ob_store.proofs.UsedLaws.{RowsFit, used_back, used_there}
-use Rattle.ob_store.specs.declared.limits.Limits.{Limits}
+use Rattle.ob_tables.specs.declared.limits.Limits.{Limits}
 use Rattle.ob_store.specs.declared.saved_slot.SavedObject.{SavedObject}
 use Rattle.ob_store.specs.declared.saved_slot.SavedSlot.{SavedSlot}
 use Rattle.ob_store.specs.Objects.{ObjectsState, Places}

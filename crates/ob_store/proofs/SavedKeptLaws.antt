@@ -20,10 +20,11 @@ use Rattle.ob_waits.specs.Waits.{WaitList, blocks_among, blocks_in, ids_of, is_r
 use Rattle.ob_waits.specs.declared.wait.State.{State}
 use Rattle.ob_waits.specs.declared.wait.State.TheVariants.{Pending, Answered}
 use Rattle.ob_waits.specs.declared.wait.Wait.{Wait}
-use Rattle.ob_store.specs.declared.limits.Limits.{Limits}
+use Rattle.ob_tables.specs.declared.limits.Limits.{Limits}
 use Rattle.ob_store.specs.Agreement.{Agrees, ObjectsInvariant}
 use Rattle.ob_store.specs.Counting.{counting_all, is_its}
-use Rattle.ob_store.specs.Kept.{AreFormed, AreOfLive, IsCounted, IsListing, IsLive, IsNamed, IsQuiet, IsThere}
+use Rattle.ob_tables.specs.Processes.{IsLive}
+use Rattle.ob_store.specs.Kept.{AreFormed, AreOfLive, IsCounted, IsListing, IsNamed, IsQuiet, IsThere}
 use Rattle.ob_store.specs.Objects.{Object, ObjectsState, Places}
 use Rattle.ob_store.specs.SavedBirths.{Births, births_from}
 use Rattle.ob_store.specs.SavedNames.{names_in}

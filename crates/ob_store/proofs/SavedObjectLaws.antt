@@ -13,7 +13,7 @@ use Rattle.ob_tables.specs.Counts.{handles_among, slot_handles}
 use Rattle.ob_waits.specs.CountedBodies as waits
 use Rattle.ob_waits.specs.Rules.{HasBodies}
 use Rattle.ob_waits.specs.declared.wait.Wait.{Wait}
-use Rattle.ob_store.specs.declared.limits.Limits.{Limits}
+use Rattle.ob_tables.specs.declared.limits.Limits.{Limits}
 use Rattle.ob_store.specs.declared.saved_slot.SavedSlot.{SavedSlot}
 use Rattle.ob_store.specs.Agreement.{IsAgreed, ObjectsInvariant, made_in}
 use Rattle.ob_store.specs.Counting.{counting_all}

@@ -22,17 +22,17 @@ use Rattle.ob_waits.specs.SpellingLaws.{waits_again, waits_take}
 use Rattle.ob_waits.specs.Rules.{thread_of}
 use Rattle.ob_waits.specs.Waits.{WaitList, ids_of, nowhere}
 use Rattle.ob_waits.specs.declared.wait.Wait.{Wait}
-use Rattle.ob_store.specs.declared.limits.Limits.{Limits}
+use Rattle.ob_tables.specs.declared.limits.Limits.{Limits}
 use Rattle.ob_store.specs.declared.saved_slot.SavedSlot.{SavedSlot}
 use Rattle.ob_store.specs.Agreement.{ObjectsInvariant}
-use Rattle.ob_store.specs.Kept.{StoreInvariant, IsLive, IsSound}
+use Rattle.ob_tables.specs.Processes.{IsLive, ProcessesState}
+use Rattle.ob_store.specs.Kept.{StoreInvariant, IsSound}
 use Rattle.ob_store.specs.Objects.{ObjectsState}
 use Rattle.ob_store.specs.Parts.{PartsState, whole_of}
-use Rattle.ob_store.specs.Processes.{ProcessesState}
-use Rattle.ob_store.specs.SavedLimits.{limits_at, limits_text}
-use Rattle.ob_store.specs.SavedLimitLaws.{limits_codec}
+use Rattle.ob_tables.specs.SavedLimits.{limits_at, limits_text}
+use Rattle.ob_tables.specs.SavedLimitLaws.{limits_codec}
 use Rattle.ob_store.specs.SavedObjects.{begun_over, objects_at, objects_text, slots_saved}
-use Rattle.ob_store.specs.SavedProcesses.{ListsFit, processes_at, processes_text}
+use Rattle.ob_tables.specs.SavedProcesses.{ListsFit, processes_at, processes_text}
 use Rattle.ob_store.specs.SavedSlots.{SlotFits, fresh_slot, keeper_slot, rows_text, slot_text}
 use Rattle.ob_store.specs.SavedStore.{is_moment, least_bytes, lists_at, moment_at, parts_at, begun_again, slot_bytes, store_at, store_text, tables_for, behind_lists, whole_with}
 use Rattle.ob_store.specs.State.{Whole, generation_of, shape_of, last_wait}

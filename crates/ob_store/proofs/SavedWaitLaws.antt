@@ -14,7 +14,7 @@ use Rattle.ob_waits.specs.declared.wait.State.TheVariants.{Pending}
 use Rattle.ob_waits.specs.declared.wait.Wait.{Wait}
 use Rattle.ob_waits.proofs.TrackedLaws.{no_number, waits_thread}
 use Rattle.ob_store.specs.declared.object_header.ObjectHeader.{ObjectHeader}
-use Rattle.ob_store.specs.Kept.{IsLive}
+use Rattle.ob_tables.specs.Processes.{IsLive}
 use Rattle.ob_store.specs.Objects.{ObjectsState, Places, Tag, places_of, header_blocks}
 use Rattle.ob_store.specs.SavedWaits.{object_blocks, state_stands, wait_of, wait_stands, waits_stand, with_blocks, with_blocks_at}
 use Rattle.ob_store.proofs.LabelLaws.{object_read}

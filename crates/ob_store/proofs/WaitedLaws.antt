@@ -27,7 +27,8 @@ use Rattle.ob_waits.proofs.Room.{room_added, room_answered, room_now, room_remov
 use Rattle.ob_waits.proofs.Settled.{settled_added, settled_answered, settled_less, settled_now, settled_removed}
 use Rattle.ob_waits.proofs.Staying.{taken}
 use Rattle.ob_store.specs.Agreement.{ObjectsInvariant}
-use Rattle.ob_store.specs.Kept.{AreFormed, AreOfLive, IsCounted, IsLive, IsNamed, IsSound, StoreInvariant}
+use Rattle.ob_tables.specs.Processes.{IsLive}
+use Rattle.ob_store.specs.Kept.{AreFormed, AreOfLive, IsCounted, IsNamed, IsSound, StoreInvariant}
 use Rattle.ob_store.specs.Objects.{Object, ObjectsState, KeptRest, kept_rest, with_blocks_of}
 use Rattle.ob_store.specs.Parts.{PartsState, state_of, whole_of}
 use Rattle.ob_store.specs.State.{settled}

@@ -8,7 +8,8 @@ use Rattle.ob_waits.specs.Rules.{WaitsInvariant}
 use Rattle.ob_store.specs.Agreement.{Agrees, AreBorn, IsListed}
 use Rattle.ob_store.specs.State.{Whole, generation_of, handles_of, blocks_of, settled, shape_of}
 use Rattle.ob_store.specs.Directory.{directory_of}
-use Rattle.ob_store.specs.Kept.{AreFormed, AreOfLive, IsNamed, IsPopulated, IsQuiet, IsThere, ProcessesKept}
+use Rattle.ob_tables.specs.Processes.{ProcessesKept}
+use Rattle.ob_store.specs.Kept.{AreFormed, AreOfLive, IsNamed, IsPopulated, IsQuiet, IsThere}
 
 pub record IsConsistent (w : Whole) : Type 0 where
   -- numbers are within the limits and 0 is nobody's, each process number has a table, which is empty where the process

@@ -6,7 +6,7 @@ use Rattle.ob_body.specs.Body.{after_abandon}
 use Rattle.ob_tables.specs.Tables.{without_entries}
 use Rattle.ob_waits.specs.CountedBodies.{CountedBodies}
 use Rattle.ob_waits.specs.Waits.{unless_of}
-use Rattle.ob_store.specs.Processes.{is_of}
+use Rattle.ob_tables.specs.Processes.{is_of}
 use Rattle.ob_store.specs.State.{State}
 
 -- a mutex that the thread owned is abandoned

@@ -1,6 +1,6 @@
 -- What holds whenever no call is under way. Each group of facts is about the parts that it reads, so that a change of
 -- others leaves it as it is.
-use Rattle.std.specs.Prelude.{◌≡◌, ℕ, ◌+◌, ◌<◌, ◌≤◌, List, [], Option, Some, None, length, slice_index_or, IsSome, true}
+use Rattle.std.specs.Prelude.{◌≡◌, ℕ, ◌<◌, List, Option, Some, None, length, slice_index_or, true}
 use Rattle.std.specs.List.{list_any}
 use Rattle.pin_core.specs.declared.id.Id.{Id}
 use Rattle.pin_core.specs.declared.descr.Descr.{Descr}
@@ -15,8 +15,8 @@ use Rattle.ob_waits.specs.CountedBodies.{CountedBodies}
 use Rattle.ob_waits.specs.Form.{Form, IsAfter, form_of, slot_due, slot_owner}
 use Rattle.ob_waits.specs.Rules.{IsSettled, WaitsHaveRoom, thread_of}
 use Rattle.ob_waits.specs.Waits.{blocks_among, slot_blocks}
-use Rattle.ob_store.specs.declared.limits.Limits.{Limits}
-use Rattle.ob_store.specs.Processes.{IsFromOne, ProcessesState, is_of}
+use Rattle.ob_tables.specs.declared.limits.Limits.{Limits}
+use Rattle.ob_tables.specs.Processes.{IsLive, ProcessesKept, is_of}
 use Rattle.ob_store.specs.Objects.{Object}
 use Rattle.ob_store.specs.Parts.{PartsState}
 use Rattle.ob_store.specs.State.{by_slot, last_wait, shape_of}
@@ -28,21 +28,6 @@ pub record AreLimited (limits : Limits) (processes handles waits : ℕ) (shape :
   pub handles_are : handles ≡ limits.handles
   pub waits_are : waits ≡ last_wait limits
   pub shape_is : shape ≡ shape_of limits
-
--- the number is live
-abbrev pub IsLive : List (Option ℕ) → ℕ → Type 0
-IsLive numbers n = IsSome (slice_index_or numbers n None)
-
--- no more numbers than the limits let, and 0 is nobody's; each process number has a table, which is empty where the
--- process isn't live; a live thread's process is live
-pub record ProcessesKept (limits : Limits) (p : ProcessesState) (tables : List (List (Option Entry))) : Type 0 where
-  pub few_processes : length p.processes ≤ limits.processes + 1
-  pub few_threads : length p.threads ≤ limits.threads + 1
-  pub processes_from_one : IsFromOne p.processes
-  pub threads_from_one : IsFromOne p.threads
-  pub tabled : length tables ≡ length p.processes
-  pub vacated : (process : ℕ) → slice_index_or p.processes process None ≡ None → slice_index_or tables process [] ≡ []
-  pub live : (thread process : ℕ) → slice_index_or p.threads thread None ≡ Some process → IsLive p.processes process
 
 -- each live process has a live thread, which doesn't hold while it ends
 abbrev pub IsPopulated : List (Option ℕ) → List (Option ℕ) → Type 0

@@ -1,7 +1,3 @@
-pub mod Limits
-pub mod Processes
-pub mod Numbers
-pub mod Members
 pub mod Objects
 pub mod Agreement
 pub mod State
@@ -22,9 +18,6 @@ pub mod Meetings
 pub mod Signaled
 pub mod Consistent
 pub mod Stored
-pub mod SavedProcesses
-pub mod SavedLimits
-pub mod SavedLimitLaws
 pub mod SavedSlots
 pub mod Counting
 pub mod SavedWaits

@@ -3,9 +3,9 @@ use Rattle.std.specs.Prelude.{map}
 use Rattle.ob_name.specs.Listing.{Rows}
 use Rattle.ob_tables.specs.Tables.{HandleTables}
 use Rattle.ob_waits.specs.Waits.{Scene, WaitList}
-use Rattle.ob_store.specs.declared.limits.Limits.{Limits}
+use Rattle.ob_tables.specs.declared.limits.Limits.{Limits}
 use Rattle.ob_store.specs.declared.parts.Parts.{Parts}
-use Rattle.ob_store.specs.Processes.{ProcessesState}
+use Rattle.ob_tables.specs.Processes.{ProcessesState}
 use Rattle.ob_store.specs.Objects.{ObjectsState}
 use Rattle.ob_store.specs.Signaled.{SignaledState}
 use Rattle.ob_store.specs.State.{State, Whole, generation_of}

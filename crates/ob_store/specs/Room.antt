@@ -1,15 +1,12 @@
 -- What can still come before a call is refused for want of it.
-use Rattle.std.specs.Prelude.{ℕ, ◌-◌, Bool, List, Option, count_by, if◌then◌else◌, is_some, length}
+use Rattle.std.specs.Prelude.{ℕ, ◌-◌, if◌then◌else◌, length}
 use Rattle.ob_arena.specs.Slots.{vacant_count}
 use Rattle.ob_tables.specs.Counts.{entries_in}
+use Rattle.ob_tables.specs.Processes.{used_up}
 use Rattle.ob_tables.specs.Tables.{table_of}
 use Rattle.ob_store.specs.declared.room.Room.{Room}
 use Rattle.ob_store.specs.State.{State, vacancy}
 use Rattle.ob_store.specs.Walking.{is_process}
-
--- how many numbers are used up: those that were given, from 1 on, or where they come back those of live ones
-abbrev pub used_up : Bool → List (Option ℕ) → ℕ
-used_up reuse numbers = if reuse then count_by is_some numbers else length numbers - 1
 
 -- how many further handles a process may have: none where it isn't live
 abbrev pub handles_left : State → ℕ → ℕ

@@ -8,12 +8,12 @@ use Rattle.ob_tables.specs.Tables.{HandleTables}
 use Rattle.ob_tables.specs.declared.entry.Entry.{Entry}
 use Rattle.ob_waits.specs.Spelling.{waits_at, waits_text}
 use Rattle.ob_waits.specs.Waits.{WaitList}
-use Rattle.ob_store.specs.declared.limits.Limits.{Limits}
+use Rattle.ob_tables.specs.declared.limits.Limits.{Limits}
 use Rattle.ob_store.specs.Objects.{ObjectsState}
-use Rattle.ob_store.specs.Processes.{ProcessesState}
-use Rattle.ob_store.specs.SavedLimits.{limits_at, limits_text}
+use Rattle.ob_tables.specs.Processes.{ProcessesState}
+use Rattle.ob_tables.specs.SavedLimits.{limits_at, limits_text}
 use Rattle.ob_store.specs.SavedObjects.{begun_over, objects_at, objects_text, slots_saved}
-use Rattle.ob_store.specs.SavedProcesses.{processes_at, processes_text}
+use Rattle.ob_tables.specs.SavedProcesses.{processes_at, processes_text}
 use Rattle.ob_store.specs.SavedSlots.{keeper_slot}
 use Rattle.ob_store.specs.State.{Whole, generation_of, last_wait, shape_of}
 

@@ -11,7 +11,7 @@ use Rattle.ob_waits.specs.declared.wait.State.TheVariants.{Pending, Answered}
 use Rattle.ob_waits.specs.declared.wait.Wait.{Wait}
 use Rattle.ob_store.specs.Counting.{is_its}
 use Rattle.ob_store.specs.Objects.{Object, ObjectsState, Places}
-use Rattle.ob_store.specs.SavedProcesses.{is_of_live}
+use Rattle.ob_tables.specs.SavedProcesses.{is_of_live}
 
 -- how many places of pending waits name an object
 abbrev pub object_blocks : List (Option Wait) → Option Object → ℕ

@@ -17,9 +17,9 @@ use Rattle.ob_waits.specs.CountedBodies as waits
 use Rattle.ob_waits.specs.declared.wait.Wait.{Wait}
 use Rattle.ob_waits.specs.Waits.{Scene, blocks_among, slot_blocks}
 use Rattle.ob_waits.specs.Ends.{settled_plainly, with_ends}
-use Rattle.ob_store.specs.declared.limits.Limits.{Limits}
+use Rattle.ob_tables.specs.declared.limits.Limits.{Limits}
 use Rattle.ob_store.specs.Objects.{Object, ObjectAttributes}
-use Rattle.ob_store.specs.Processes.{given, next_number}
+use Rattle.ob_tables.specs.Processes.{given, next_number}
 
 -- Numbers of processes, threads and waits are places of lists. Number 0 is never given, so place 0 has nothing. A number
 -- that is gone has None.

@@ -3,7 +3,7 @@ use Rattle.std.specs.Prelude.{ℕ, ◌%◌, ◌==◌, ◌&&◌, Bool, List, Opti
 use Rattle.ob_tables.specs.declared.entry.Entry.{Entry}
 use Rattle.ob_tables.specs.Table.{entry_at}
 use Rattle.ob_tables.specs.Tables.{table_of}
-use Rattle.ob_store.specs.Processes.{is_of}
+use Rattle.ob_tables.specs.Processes.{is_of}
 use Rattle.ob_store.specs.State.{State}
 
 -- whether an object is in the slot

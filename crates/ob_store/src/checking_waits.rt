@@ -5,11 +5,10 @@ ghost use Rattle.ob_waits.specs.declared.wait.State.TheVariants.{Pending};
 ghost use Rattle.ob_store.specs.SavedWaits.{all_stand, may_wait_for, owner_stands, owners_stand, state_stands};
 ghost use Rattle.ob_store.specs.SavedWaits.{wait_of, wait_stands, waits_stand};
 
-use crate::limits::Limits;
 use crate::object_headers::owner_of;
 use crate::objects::Objects;
-use crate::processes::Processes;
 use ob_body::Body;
+use ob_tables::{Limits, Processes};
 use ob_waits::{Mode, Waits, is_satisfied};
 use pin_core::{Id, same_id};
 use pin_words::LockedPins;

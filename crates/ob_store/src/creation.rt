@@ -11,7 +11,8 @@ ghost use Rattle.pin_core.specs.Descrs.{IsGiven};
 ghost use Rattle.pin_words.specs.Keepers.{published, stored};
 ghost use Rattle.ob_store.specs.State.{id_at, is_full, settled, vacancy, with_entry, with_object};
 ghost use Rattle.ob_store.specs.Directory.{directory_of};
-ghost use Rattle.ob_store.specs.Kept.{IsLive, form_in};
+ghost use Rattle.ob_tables.specs.Processes.{IsLive};
+ghost use Rattle.ob_store.specs.Kept.{form_in};
 
 use crate::store::Store;
 use ob_body::Body;

@@ -6,7 +6,7 @@ ghost use Rattle.ob_store.specs.Signaled.{KeepsEnough};
 ghost use Rattle.ob_waits.specs.Waits.{thread_ids};
 ghost use Rattle.ob_store.specs.Ends.{abandoned_by, after_thread_end, exited, process_ended, thread_ended};
 ghost use Rattle.ob_store.specs.Ends.{threads_ended, unless_threads};
-ghost use Rattle.ob_store.specs.Processes.{is_of};
+ghost use Rattle.ob_tables.specs.Processes.{is_of};
 ghost use Rattle.ob_store.specs.Moves.{OnlyCloses};
 ghost use Rattle.ob_store.specs.Objects.{kept_rest};
 ghost use Rattle.ob_store.specs.Owners.{owns_at};

@@ -4,7 +4,7 @@ ghost use Rattle.ob_rights.specs.declared.fault.Fault.TheVariants.{Limit, Memory
 ghost use Rattle.ob_tables.specs.Counts.{entries_in, handles_among};
 ghost use Rattle.ob_tables.specs.Table.{entry_at, free_place, is_packed, value_of};
 ghost use Rattle.ob_tables.specs.Tables.{table_of};
-ghost use Rattle.ob_store.specs.Kept.{IsLive};
+ghost use Rattle.ob_tables.specs.Processes.{IsLive};
 ghost use Rattle.ob_store.specs.State.{settled, with_entry, with_flags, without_entry};
 ghost use Rattle.ob_store.specs.Objects.{name_in};
 ghost use Rattle.ob_store.specs.Moves.{OnlyCloses, rows_left};

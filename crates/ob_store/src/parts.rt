@@ -1,9 +1,7 @@
-use crate::limits::Limits;
 use crate::objects::Objects;
-use crate::processes::Processes;
 use crate::signaled::SignaledSlots;
 use ob_name::Directory;
-use ob_tables::Tables;
+use ob_tables::{Limits, Processes, Tables};
 use ob_waits::Waits;
 use pin_words::PinKeeper;
 

@@ -1,21 +1,20 @@
 ghost use Rattle.std.specs.Prelude.{◌≡◌, ◌<◌, ◌≤◌, ◌+◌, ◌++◌, ℕ, List, IfOk, Ok, OnOk, length, true};
 ghost use Rattle.ob_codec.specs.Reading.{Gives, GivesAll, has_at};
-ghost use Rattle.ob_store.specs.Kept.{StoreInvariant, ProcessesKept};
+ghost use Rattle.ob_tables.specs.Processes.{ProcessesKept};
+ghost use Rattle.ob_store.specs.Kept.{StoreInvariant};
 ghost use Rattle.ob_waits.specs.Spelling.{are_within};
 ghost use Rattle.ob_store.specs.Parts.{parts_of, whole_of};
-ghost use Rattle.ob_store.specs.SavedProcesses.{are_populated};
+ghost use Rattle.ob_tables.specs.SavedProcesses.{are_populated};
 ghost use Rattle.ob_store.specs.SavedStore.{are_vacated, begun_again, is_vacated, least_bytes, lists_at, moment_at, parts_at};
 ghost use Rattle.ob_store.specs.SavedStore.{store_at, store_text, tables_for};
 ghost use Rattle.ob_store.specs.State.{last_wait};
 
-use crate::limits::Limits;
 use crate::objects::Objects;
 use crate::parts::Parts;
-use crate::processes::Processes;
 use crate::signaled::SignaledSlots;
 use crate::store::Store;
 use ob_codec::{Cursor, ReadFault, Spelled, TextFault};
-use ob_tables::Tables;
+use ob_tables::{Limits, Processes, Tables};
 use ob_waits::{LAST_MOMENT, Waits};
 use pin_words::{LockedPins, PinKeeper};
 use std::alloc::{AllocError, Global};

@@ -15,14 +15,12 @@ ghost use Rattle.ob_store.specs.Consistent.{IsConsistent};
 ghost use Rattle.ob_store.specs.Directory.{directory_of};
 
 use crate::found::Found;
-use crate::limits::Limits;
 use crate::objects::Objects;
 use crate::parts::Parts;
-use crate::processes::Processes;
 use crate::signaled::SignaledSlots;
 use ob_body::Body;
 use ob_name::{Directory, NameRef, Rows};
-use ob_tables::{Entry, Tables};
+use ob_tables::{Entry, Limits, Processes, Tables};
 use ob_waits::{Bodies, LAST_MOMENT, Waits};
 use pin_core::Id;
 use pin_words::PinKeeper;

@@ -9,8 +9,8 @@ ghost use Rattle.ob_store.specs.Kept.{IsThere};
 ghost use Rattle.ob_store.specs.Waiting.{wait_name, wait_number};
 ghost use Rattle.ob_store.specs.Walking.{is_object_at, is_process, is_thread_of, is_value_in, is_value_of};
 
-use crate::finding::next_place;
 use crate::store::Store;
+use least::next_place;
 use ob_tables::Entry;
 use ob_waits::Pending;
 use pin_core::Id;

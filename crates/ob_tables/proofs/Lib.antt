@@ -1,7 +1,10 @@
 pub mod Places
 pub mod Inheriting
-pub mod Limits
+pub mod LimitLaws
 pub mod Counting
 pub mod SlotCounts
 pub mod Bounds
 pub mod NewTables
+pub mod GivenLaws
+pub mod MemberLaws
+pub mod NumberLaws

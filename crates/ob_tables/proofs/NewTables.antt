@@ -4,7 +4,7 @@ use Rattle.std.proofs.lemmas.List.{length-append, length-set}
 use Rattle.ob_tables.specs.declared.entry.Entry.{Entry}
 use Rattle.ob_tables.specs.Tables.{IsBounded, new_table}
 use Rattle.ob_tables.proofs.Inheriting.{length_inherited}
-use Rattle.ob_tables.proofs.Limits.{short_pushed, short_set}
+use Rattle.ob_tables.proofs.LimitLaws.{short_pushed, short_set}
 
 module _ (processes handles : ℕ) (ts : List (List (Option Entry))) (t : List (Option Entry)) (from : Option ℕ)
     (is : t ≡ new_table ts from) (bounded : IsBounded processes handles ts) where

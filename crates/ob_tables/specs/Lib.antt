@@ -4,3 +4,10 @@ pub mod Counts
 pub mod Tables
 pub mod Spelling
 pub mod SpellingLaws
+pub mod Limits
+pub mod Processes
+pub mod Numbers
+pub mod Members
+pub mod SavedProcesses
+pub mod SavedLimits
+pub mod SavedLimitLaws

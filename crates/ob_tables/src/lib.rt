@@ -1,4 +1,5 @@
-//! The handle tables of all processes.
+//! The live processes and threads by their numbers, the limits of what a manager holds, and the handle tables of all
+//! processes.
 //!
 //! A handle is a number that names an object in one process: its value says the place of an entry in the table of that
 //! process, and the entry says the object, the rights that the handle grants, and its flags ([Handles and objects]).
@@ -21,11 +22,17 @@
 
 mod entry;
 mod law;
+mod limits;
+mod members;
+mod numbers;
+mod processes;
 mod spelling;
 mod table;
 mod tables;
 
 pub use entry::Entry;
 pub use law::law_of_spelled_tables;
+pub use limits::Limits;
+pub use processes::Processes;
 pub use table::HANDLES_MAX;
 pub use tables::{PROCESSES_MAX, Tables};

@@ -235,7 +235,7 @@ impl Tables {
 
     /// Whether a process has as many entries as it may, so that [`place`](Tables::place) answers 1450.
     #[inline(always)]
-    #[tactic(auto, using(crate::proofs::Limits::full_test, std::proofs::lemmas::List::get_or_read))]
+    #[tactic(auto, using(crate::proofs::LimitLaws::full_test, std::proofs::lemmas::List::get_or_read))]
     pub fn is_full(&self, process: u32) -> bool
         requires { process < length self.now.tables }
         ensures { IsTrue result ↔ (entries_in (table_of self.now.tables process) ≡ self.now.handle_limit) }

@@ -2,7 +2,7 @@
 use Rattle.std.proofs.Common.{◌≡◌, ℕ, Bool, Option}
 use Rattle.obman_c_base.specs.declared.owned.OwnedManager.{OwnedManager}
 use Rattle.obman_c_base.specs.declared.limits.CLimits.{CLimits}
-use Rattle.ob_store.specs.declared.limits.Limits.{Limits}
+use Rattle.ob_tables.specs.declared.limits.Limits.{Limits}
 use Rattle.obman_c_base.specs.Allowed.{AreAllowed, AreAs}
 use Rattle.obman_c.specs.Opening.{Opens, outside, lacks}
 

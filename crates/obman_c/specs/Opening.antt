@@ -4,7 +4,7 @@ use Rattle.pin_core.specs.declared.shape.Shape.{Shape}
 use Rattle.pin_words.specs.Keepers.{state_of}
 use Rattle.pin_words.specs.Seats.{KeeperSeat, TableState}
 use Rattle.pin_words.specs.Views.{keeper_gave, opening_keeper}
-use Rattle.ob_store.specs.declared.limits.Limits.{Limits}
+use Rattle.ob_tables.specs.declared.limits.Limits.{Limits}
 use Rattle.ob_store.specs.State.{Whole, opening, shape_of}
 use Rattle.ob_manager.specs.HostData.{no_data}
 use Rattle.obman_c_base.specs.Owned.{unrecorded}

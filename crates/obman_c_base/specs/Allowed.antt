@@ -1,7 +1,7 @@
 -- Limits of a manager, as C gives them.
 use Rattle.std.specs.Prelude.{◌≡◌}
-use Rattle.ob_store.specs.declared.limits.Limits.{Limits}
-use Rattle.ob_store.specs.Limits.{AreInRange}
+use Rattle.ob_tables.specs.declared.limits.Limits.{Limits}
+use Rattle.ob_tables.specs.Limits.{AreInRange}
 use Rattle.obman_c_base.specs.declared.limits.CLimits.{CLimits}
 
 -- each is within its range

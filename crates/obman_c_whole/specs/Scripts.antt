@@ -1,6 +1,6 @@
 -- What C is told of a script.
 use Rattle.std.specs.Prelude.{◌≡◌, ℕ, false, List}
-use Rattle.ob_store.specs.declared.limits.Limits.{Limits}
+use Rattle.ob_tables.specs.declared.limits.Limits.{Limits}
 use Rattle.ob_console.specs.Runs.{AnswersAll}
 use Rattle.obman_c_base.specs.declared.limits.CLimits.{CLimits}
 use Rattle.obman_c_base.specs.Allowed.{AreAllowed, AreAs}

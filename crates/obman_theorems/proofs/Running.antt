@@ -1,7 +1,7 @@
 -- A run of a script recounts its state.
 use Rattle.std.specs.Prelude.{OnOk}
 use Rattle.std.proofs.Common.{Bool, Result, Ok, Err, ◌≡◌, ◌∙◌, ℕ, ◌+◌, List, [], ◌∷◌, ◌++◌, ap, refl, subst}
-use Rattle.ob_store.specs.declared.limits.Limits.{Limits}
+use Rattle.ob_tables.specs.declared.limits.Limits.{Limits}
 use Rattle.ob_store.specs.State.{State}
 use Rattle.ob_manager.specs.Steps.{next}
 use Rattle.ob_manager.proofs.StepLaws.{step_next}

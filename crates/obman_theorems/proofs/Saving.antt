@@ -10,9 +10,9 @@ use Rattle.pin_core.specs.Worlds.{opening_slot, slot_of}
 use Rattle.ob_tables.specs.Spelling.{tables_text}
 use Rattle.ob_waits.specs.Spelling.{waits_text}
 use Rattle.ob_store.specs.Consistent.{IsConsistent}
-use Rattle.ob_store.specs.SavedLimits.{limits_text}
+use Rattle.ob_tables.specs.SavedLimits.{limits_text}
 use Rattle.ob_store.specs.SavedObjects.{object_saved, slots_saved}
-use Rattle.ob_store.specs.SavedProcesses.{processes_text}
+use Rattle.ob_tables.specs.SavedProcesses.{processes_text}
 use Rattle.ob_store.specs.SavedSlots.{rows_text}
 use Rattle.ob_store.specs.SavedStore.{begun_again, objects_in}
 use Rattle.ob_store.specs.State.{State, Whole, generation_of}

@@ -18,7 +18,7 @@ use Rattle.pin_words.specs.Shown.{Table}
 use Rattle.pin_words.specs.Stepped.{IsHold, Pinned, ReaderAt}
 use Rattle.ob_rights.specs.declared.fault.Fault.{Fault}
 use Rattle.ob_rights.specs.declared.fault.Fault.TheVariants.{Memory}
-use Rattle.ob_store.specs.declared.limits.Limits.{Limits}
+use Rattle.ob_tables.specs.declared.limits.Limits.{Limits}
 use Rattle.ob_store.specs.Consistent.{IsConsistent}
 use Rattle.ob_store.specs.Moves.{OnlyCloses}
 use Rattle.ob_store.specs.Objects.{Object}

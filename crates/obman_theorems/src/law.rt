@@ -6,7 +6,7 @@ ghost use Rattle.pin_core.specs.declared.shape.Shape.{Shape};
 ghost use Rattle.pin_words.specs.Shown.{IsShown, Table};
 ghost use Rattle.pin_words.specs.Tries.{Tries};
 ghost use Rattle.ob_rights.specs.declared.fault.Fault.{Fault};
-ghost use Rattle.ob_store.specs.declared.limits.Limits.{Limits};
+ghost use Rattle.ob_tables.specs.declared.limits.Limits.{Limits};
 ghost use Rattle.ob_store.specs.Consistent.{IsConsistent};
 ghost use Rattle.ob_store.specs.State.{State, Whole, opening};
 ghost use Rattle.ob_store.specs.Stored.{MatchesState};

@@ -3,7 +3,7 @@ use Rattle.std.proofs.lemmas.Result.{on_ok_weaker}
 use Rattle.ob_store.specs.Objects.{object_of, tag_of}
 use Rattle.ob_store.specs.SavedObjects.{saved_of}
 use Rattle.ob_store.specs.SavedSlots.{object_text}
-use Rattle.ob_store.proofs.SavingLaws.{two_behind}
+use Rattle.ob_codec.proofs.SavingLaws.{two_behind}
 use Rattle.ob_store.proofs.writing_objects.write_found.Goals as goal
 
 pub returns-in_ok-push-in-Some-clause-text : goal.returns-in_ok-push-in-Some-clause-text

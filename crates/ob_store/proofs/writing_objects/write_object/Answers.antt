@@ -6,7 +6,7 @@ use Rattle.ob_name.specs.Spelling.{name_text}
 use Rattle.ob_body.specs.Spelling.{body_text}
 use Rattle.pin_core.specs.Spelling.{descr_text}
 use Rattle.ob_rights.specs.Spelling.{rights_text}
-use Rattle.ob_store.proofs.SavingLaws.{five_behind}
+use Rattle.ob_codec.proofs.SavingLaws.{five_behind}
 use Rattle.ob_store.proofs.writing_objects.write_object.Goals as goal
 
 pub returns-clause-text : goal.returns-clause-text

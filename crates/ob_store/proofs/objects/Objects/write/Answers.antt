@@ -6,7 +6,7 @@ use Rattle.std.proofs.lemmas.Result.{on_ok_weaker}
 use Rattle.ob_store.specs.SavedObjects.{slot_saved, slots_saved}
 use Rattle.ob_store.specs.SavedSlots.{slot_text, used}
 use Rattle.ob_store.proofs.FittingLaws.{all_fit, fresh_fits}
-use Rattle.ob_store.proofs.SavingLaws.{list_behind}
+use Rattle.ob_codec.proofs.SavingLaws.{list_behind}
 use Rattle.ob_store.proofs.objects.Objects.write.Goals as goal
 
 pub returns-then-not-short-clause-fits : goal.returns-then-not-short-clause-fits

@@ -4,8 +4,8 @@ use Rattle.std.proofs.lemmas.List.{length-set}
 use Rattle.ob_codec.proofs.AtPlace.{at_place}
 use Rattle.std.proofs.lemmas.Bool.Decides.{nat_tests}
 use Rattle.ob_store.specs.Parts.{parts_of}
-use Rattle.ob_store.specs.Processes.{ProcessesState}
-use Rattle.ob_store.proofs.MemberLaws.{own_within}
+use Rattle.ob_tables.specs.Processes.{ProcessesState}
+use Rattle.ob_tables.proofs.MemberLaws.{own_within}
 use Rattle.ob_store.proofs.PassedLaws.{ending_ended, ending_passed, its_own}
 use Rattle.ob_store.proofs.parts.Parts.end_all.Goals as goal
 

@@ -3,11 +3,11 @@ use Rattle.std.proofs.lemmas.Result.{on_ok_weaker}
 use Rattle.ob_tables.specs.Spelling.{tables_text}
 use Rattle.ob_waits.specs.Spelling.{waits_text}
 use Rattle.ob_store.specs.Parts.{parts_of}
-use Rattle.ob_store.specs.SavedLimits.{limits_text}
+use Rattle.ob_tables.specs.SavedLimits.{limits_text}
 use Rattle.ob_store.specs.SavedObjects.{objects_text}
-use Rattle.ob_store.specs.SavedProcesses.{processes_text}
+use Rattle.ob_tables.specs.SavedProcesses.{processes_text}
 use Rattle.ob_store.proofs.SavedStoreLaws.{store_again}
-use Rattle.ob_store.proofs.SavingLaws.{six_behind}
+use Rattle.ob_codec.proofs.SavingLaws.{six_behind}
 use Rattle.ob_store.proofs.store.Store.write.Goals as goal
 
 pub returns-clause-text : goal.returns-clause-text

@@ -1,5 +1,5 @@
 use Rattle.std.proofs.Common.{arith, ◌<◌, length}
-use Rattle.ob_tables.proofs.Limits.{few_at}
+use Rattle.ob_tables.proofs.LimitLaws.{few_at}
 use Rattle.ob_tables.proofs.tables.Tables.left.Goals as goal
 
 pub overflow_sub-result : goal.overflow_sub-result

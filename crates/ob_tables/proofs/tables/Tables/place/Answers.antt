@@ -3,7 +3,7 @@ use Rattle.std.proofs.Common.{arith, ◌≡◌, ◌≤◌, ◌<◌, ap, subst, l
 use Rattle.std.proofs.lemmas.List.{get_or_read}
 use Rattle.ob_tables.specs.Counts.{entries_in}
 use Rattle.ob_tables.specs.Tables.{table_of, HandleTables}
-use Rattle.ob_tables.proofs.Limits.{full_at, room_at, length-with_entry}
+use Rattle.ob_tables.proofs.LimitLaws.{full_at, room_at, length-with_entry}
 use Rattle.ob_tables.proofs.tables.Tables.place.Goals as goal
 
 pub invariant_of-self : goal.invariant_of-self

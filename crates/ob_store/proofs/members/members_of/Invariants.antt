@@ -1,6 +1,0 @@
-use Rattle.std.proofs.Common.{take}
-use Rattle.ob_store.specs.Members.{AreMembers}
-use Rattle.ob_store.proofs.members.members_of.Given as goal
-
-abbrev pub invariant-loop-thread : goal.invariant-loop-thread
-invariant-loop-thread l = AreMembers (take l.thread l.threads) l.members

@@ -1,0 +1,31 @@
+use Rattle.std.proofs.Common.{arith, true}
+use Rattle.ob_tables.proofs.GivenLaws.{next_is_free}
+use Rattle.ob_tables.proofs.NumberLaws.{least_is}
+use Rattle.ob_tables.proofs.numbers.Numbers.next.Goals as goal
+
+pub overflow_add-result : goal.overflow_add-result
+overflow_add-result c = let m = c.args.self.now in
+    let is = least_is m.taken m.places.items c.requires.from_one.not_empty c.requires.taken in
+    omega (arith, is, c.least.ensures.value, (next_is_free true m.places.items c.requires.from_one).within, c.requires.few)
+
+pub overflow_cast-result : goal.overflow_cast-result
+overflow_cast-result c = let m = c.args.self.now in
+    let is = least_is m.taken m.places.items c.requires.from_one.not_empty c.requires.taken in
+    omega (arith, is, c.least.ensures.value, (next_is_free true m.places.items c.requires.from_one).within, c.requires.few)
+
+pub returns-then-reuse-clause-value : goal.returns-then-reuse-clause-value
+returns-then-reuse-clause-value c = let m = c.args.self.now in
+    rw (c.if-reuse.true, c.least.ensures.value) (least_is m.taken m.places.items c.requires.from_one.not_empty
+    c.requires.taken)
+
+pub returns-then-reuse-clause-above : goal.returns-then-reuse-clause-above
+returns-then-reuse-clause-above c = let m = c.args.self.now in
+    rw (returns-then-reuse-clause-value c) (next_is_free c.args.reuse m.places.items c.requires.from_one).above
+
+pub returns-then-reuse-clause-within : goal.returns-then-reuse-clause-within
+returns-then-reuse-clause-within c = let m = c.args.self.now in
+    rw (returns-then-reuse-clause-value c) (next_is_free c.args.reuse m.places.items c.requires.from_one).within
+
+pub returns-then-reuse-clause-gone : goal.returns-then-reuse-clause-gone
+returns-then-reuse-clause-gone c = let m = c.args.self.now in
+    rw (returns-then-reuse-clause-value c) (next_is_free c.args.reuse m.places.items c.requires.from_one).none
