@@ -50,11 +50,14 @@ abbrev pub thread_in : Reply → ℕ → ℕ
 thread_in (Started thread) before = thread
 thread_in reply before = before
 
+abbrev pub opening_of : ℕ → Id → Opening
+opening_of handle id = record { handle = handle; object = object_of id }
+
 abbrev pub opening_in : Reply → Opening → Opening
-opening_in (Made handle id) before = record { handle = handle; object = object_of id }
-opening_in (Exists handle id) before = record { handle = handle; object = object_of id }
-opening_in (Opened handle id) before = record { handle = handle; object = object_of id }
-opening_in (Duplicated handle id) before = record { handle = handle; object = object_of id }
+opening_in (Made handle id) before = opening_of handle id
+opening_in (Exists handle id) before = opening_of handle id
+opening_in (Opened handle id) before = opening_of handle id
+opening_in (Duplicated handle id) before = opening_of handle id
 opening_in reply before = before
 
 abbrev pub flags_in : Reply → ℕ → ℕ

@@ -10,6 +10,12 @@ use obman_c_base::SUCCESS;
 /// `ERROR_NO_MORE_ITEMS`.
 pub(crate) const NO_MORE: u32 = 259;
 
+/// `ERROR_ALREADY_EXISTS`.
+pub(crate) const EXISTS: u32 = 183;
+
+/// `ERROR_IO_PENDING`.
+pub(crate) const PENDING: u32 = 997;
+
 /// 0, or a Win32 error code ([System Error Codes]): `ERROR_ALREADY_EXISTS` (183) where a name was there and its object
 /// was opened, `ERROR_IO_PENDING` (997) for a wait that is pending, and for a refusal its own.
 ///
@@ -19,8 +25,8 @@ pub(crate) fn told(answer: Result<Reply, Fault>) -> u32
     ensures { result ≡ status_of (reply_of answer) }
 {
     match answer {
-        Ok(Reply::Exists { .. }) => 183,
-        Ok(Reply::Pending { .. } | Reply::Signaled { .. }) => 997,
+        Ok(Reply::Exists { .. }) => EXISTS,
+        Ok(Reply::Pending { .. } | Reply::Signaled { .. }) => PENDING,
         Err(fault) | Ok(Reply::Refused(fault)) => code_of(fault),
         Ok(_) => SUCCESS,
     }

@@ -1,12 +1,14 @@
-//! What C is told of a reply beside its number.
+//! What C is told of a reply beside its number. What the calls that are made most are told looks at the reply once, and so
+//! says the number too.
 ghost use Rattle.std.specs.Prelude.{◌≡◌};
 ghost use Rattle.ob_manager.specs.Steps.{reply_of};
-ghost use Rattle.obman_c.specs.Telling.{answer_in, count_in, flags_in, member_in, object_of, opening_in, outcome_of};
+ghost use Rattle.obman_c.specs.Telling.{answer_in, count_in, flags_in, member_in, object_of, opening_in, opening_of, outcome_of};
 ghost use Rattle.obman_c.specs.Telling.{pins_of, reaping_in, references_in, status_of, thread_in};
 
-use crate::status::told;
+use crate::status::{EXISTS, PENDING, told};
 use ob_manager::Reply;
 use ob_rights::Fault;
+use obman_c_base::SUCCESS;
 use pin_core::Id;
 use pin_words::Reclaim;
 
@@ -74,6 +76,17 @@ pub(crate) fn object_of(id: Id) -> Object
     }
 }
 
+/// A handle to the object of an Id.
+#[inline(always)]
+fn opening_of(handle: u32, id: Id) -> Opening
+    ensures { result ≡ opening_of handle id }
+{
+    Opening {
+        handle,
+        object: object_of(id),
+    }
+}
+
 /// Tells of a new process.
 pub(crate) fn tell_member(answer: Result<Reply, Fault>, out: &mut Member) -> u32
     ensures told { result ≡ status_of (reply_of answer) }
@@ -104,18 +117,18 @@ pub(crate) fn tell_opening(answer: Result<Reply, Fault>, out: &mut Opening) -> u
     match answer {
         Ok(
             Reply::Made { handle, id }
-            | Reply::Exists { handle, id }
             | Reply::Opened { handle, id }
             | Reply::Duplicated { handle, id },
         ) => {
-            *out = Opening {
-                handle,
-                object: object_of(id),
-            };
+            *out = opening_of(handle, id);
+            SUCCESS
         }
-        _ => {}
+        Ok(Reply::Exists { handle, id }) => {
+            *out = opening_of(handle, id);
+            EXISTS
+        }
+        answer => told(answer),
     }
-    told(answer)
 }
 
 /// Tells of a handle's flags.
@@ -130,27 +143,37 @@ pub(crate) fn tell_flags(answer: Result<Reply, Fault>, out: &mut u32) -> u32
 }
 
 /// Tells of a semaphore's count.
+#[inline(always)]
 pub(crate) fn tell_count(answer: Result<Reply, Fault>, out: &mut u32) -> u32
     ensures told { result ≡ status_of (reply_of answer) }
     ensures value { out.new ≡ count_in (reply_of answer) out.old }
 {
-    if let Ok(Reply::Previous { count }) = answer {
-        *out = count;
+    match answer {
+        Ok(Reply::Previous { count }) => {
+            *out = count;
+            SUCCESS
+        }
+        answer => told(answer),
     }
-    told(answer)
 }
 
 /// Tells of a wait.
+#[inline(always)]
 pub(crate) fn tell_answer(answer: Result<Reply, Fault>, out: &mut u32) -> u32
     ensures told { result ≡ status_of (reply_of answer) }
     ensures value { out.new ≡ answer_in (reply_of answer) out.old }
 {
     match answer {
-        Ok(Reply::Code { code }) => *out = code,
-        Ok(Reply::Pending { wait } | Reply::Signaled { wait }) => *out = wait,
-        _ => {}
+        Ok(Reply::Code { code }) => {
+            *out = code;
+            SUCCESS
+        }
+        Ok(Reply::Pending { wait } | Reply::Signaled { wait }) => {
+            *out = wait;
+            PENDING
+        }
+        answer => told(answer),
     }
-    told(answer)
 }
 
 /// Tells of a slot.
@@ -158,14 +181,17 @@ pub(crate) fn tell_reaping(answer: Result<Reply, Fault>, out: &mut Reaping) -> u
     ensures told { result ≡ status_of (reply_of answer) }
     ensures value { out.new ≡ reaping_in (reply_of answer) out.old }
 {
-    if let Ok(Reply::Reaped { id, outcome }) = answer {
-        *out = Reaping {
-            object: object_of(id),
-            outcome: number_of(outcome),
-            pins: pins_of(outcome),
-        };
+    match answer {
+        Ok(Reply::Reaped { id, outcome }) => {
+            *out = Reaping {
+                object: object_of(id),
+                outcome: number_of(outcome),
+                pins: pins_of(outcome),
+            };
+            SUCCESS
+        }
+        answer => told(answer),
     }
-    told(answer)
 }
 
 /// Tells what refers to an object.

@@ -55,7 +55,7 @@ impl OwnedManager {
     {
         if self.recorder.is_on() {
             let call = *call;
-            return self.recorded(&call);
+            return Ok(self.recorded(&call));
         }
         let answer = self.manager.try_call(call);
         self.kept.follow(call, &answer);
@@ -65,13 +65,12 @@ impl OwnedManager {
     #[cold]
     #[inline(never)]
     #[tactic(auto, using(crate::proofs::Made::noted))]
-    fn recorded(&mut self, call: &Ask<'_>) -> Result<Reply, Fault>
-        ensures { Makes self.old (call_of call.now) (reply_of result) self.new }
+    fn recorded(&mut self, call: &Ask<'_>) -> Reply
+        ensures { Makes self.old (call_of call.now) result self.new }
     {
         let reply = self.manager.call(call);
         self.recorder.note(call, &reply);
-        let answer = Ok(reply);
-        self.kept.follow(call, &answer);
-        answer
+        self.kept.follow(call, &Ok(reply));
+        reply
     }
 }
