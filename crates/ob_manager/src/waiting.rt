@@ -27,7 +27,7 @@ use arrayvec::ArrayVec;
 use ob_body::Body;
 use ob_rights::{Fault, Kind, Rights, within};
 use ob_store::{LAST_MOMENT, Limits, Store};
-use ob_tables::Entry;
+use ob_tables::{Entry, entry_in};
 use ob_waits::{MAXIMUM_WAIT_OBJECTS, Mode, WAIT_IO_COMPLETION, WAIT_TIMEOUT, WaitState};
 use pin_core::{Id, same_id};
 use pin_words::PinKeeper;
@@ -203,13 +203,14 @@ fn objects_rise<K: PinKeeper>(
     ensures apart { result ≡ true → has_twice same_handle handles.now ≡ false }
     ensures value { result ≡ true → Ok ids.new.items ≡ objects_of store.now.state process handles.now }
 {
+    let places = store.places(process);
     let mut last = 0;
     for handle in handles {
         if *handle / 4 <= last {
             return false;
         }
         last = *handle / 4;
-        let Ok(entry) = found(store, process, *handle) else {
+        let Some(entry) = entry_in(places, *handle) else {
             return false;
         };
         if lacks_synchronize(entry) {

@@ -141,6 +141,15 @@ impl<K: PinKeeper> Store<K> {
         self.parts.waits.wait_of(thread).is_some()
     }
 
+    /// The places of a process's table, in each of which an entry is or none.
+    #[inline(always)]
+    pub fn places(&self, process: u32) -> &[Option<Entry>]
+        requires { process < length self.now.state.tables }
+        ensures { result.now ≡ table_of self.now.state.tables process }
+    {
+        self.parts.tables.places(process)
+    }
+
     /// The entry of a handle, in the table of a process.
     pub fn look(&self, process: u32, handle: u32) -> Option<Entry>
         requires { process < length self.now.state.tables }

@@ -34,5 +34,5 @@ pub use entry::Entry;
 pub use law::law_of_spelled_tables;
 pub use limits::Limits;
 pub use processes::Processes;
-pub use table::HANDLES_MAX;
+pub use table::{HANDLES_MAX, entry_in};
 pub use tables::{PROCESSES_MAX, Tables};

@@ -58,6 +58,20 @@ impl Model for Table {
     ghost invariant = { λ t. TableInvariant t.free t.places.items };
 }
 
+/// The entry of a handle value, whose two lowest bits are ignored, in the places of a table.
+///
+/// Its cost does not grow with the places.
+#[inline]
+pub fn entry_in(places: &[Option<Entry>], value: u32) -> Option<Entry>
+    ensures { result ≡ entry_at places.now value }
+{
+    let above = (value / STEP) as usize;
+    if above == 0 || above > places.len() {
+        return None;
+    }
+    places[above - 1]
+}
+
 impl Table {
     pub(crate) fn new(alloc: Global) -> Table
         ensures { result ≡ [] }
@@ -95,15 +109,7 @@ impl Table {
     pub(crate) fn entry(&self, value: u32) -> Option<Entry>
         ensures { result ≡ entry_at self.now value }
     {
-        if value < STEP {
-            return None;
-        }
-        let place = place_of(value);
-        if place < self.places.len() {
-            self.places[place]
-        } else {
-            None
-        }
+        entry_in(self.places.as_slice(), value)
     }
 
     /// How many entries there are.

@@ -264,6 +264,15 @@ impl Tables {
         }
     }
 
+    /// The places of a table, in each of which an entry is or none.
+    #[inline]
+    pub fn places(&self, process: u32) -> &[Option<Entry>]
+        requires { process < length self.now.tables }
+        ensures { result.now ≡ table_of self.now.tables process }
+    {
+        self.tables[process as usize].places()
+    }
+
     /// The entry of a handle, in the table of a process number that was given.
     #[inline]
     pub fn entry(&self, process: u32, value: u32) -> Option<Entry>
