@@ -278,6 +278,7 @@ impl<K: PinKeeper> Store<K> {
     }
 
     /// The same for the wait of a number.
+    #[inline(always)]
     fn take_at(&mut self, wait: u32) -> Option<WaitState>
         ensures state { result ≡ state_at (slice_index_or self.old.state.waits wait None) }
         ensures over { self.new ≡ (if is_answer result

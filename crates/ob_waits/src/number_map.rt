@@ -90,6 +90,7 @@ fn put_at(
     Ok(())
 }
 
+#[inline(always)]
 fn make_places(places: &mut Vec<Option<NumberedThread>>, mask: usize) -> Result<(), AllocError>
     ensures made { OnOk result (mask < length places.new.items) }
     ensures same { (i : ℕ) → slice_index_or places.new.items i None ≡ slice_index_or places.old.items i None }

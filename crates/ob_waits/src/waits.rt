@@ -471,6 +471,7 @@ impl Waits {
     }
 
     /// Where the wait of a number stands. One that is answered is then over, and its thread may wait again.
+    #[inline(always)]
     pub fn take_if_answered(&mut self, wait: u32) -> Option<WaitState>
         ensures state { result ≡ state_at (slice_index_or self.old.waits wait None) }
         ensures over { self.new ≡ (if is_answer result then without_wait self.old wait else self.old) }
