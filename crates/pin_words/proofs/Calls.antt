@@ -1,5 +1,5 @@
 -- What the calls of readers and of the keeper need of the steps.
-use Rattle.pin_words.proofs.Cited.{nat_tests, at_place, ◌≡◌, ◌≢◌, ⊎_elim, ℕ, ◌<◌, List, [], ◌∷◌, ◌++◌, length, get_or, set, Some, None, sym, refl, ap, ◌∙◌, subst, arith, append_assoc, get_or_read, none, step, Allows, Word, Id, Descr, Free, Live, Shape, Slot, decoded, tally, drop_last, same_id, slot_of, reclaimed, count-snoc, count-drop_last-le, Look, KeeperView, ReaderView, View, IsPlace, place_of, descr_place, M, view, look, id_in, reader_with, reader_got, reader_released, keeper_with, keeper_stored, reader_of, keeper_of, IsReaders, IsKeepers, Shown, Behind, TellsReader, got_view, released, noted, stored, Stale, Go, verdict_of, Err, IfSome, option_map, StaleStays, HasOnlyLooked, WasStale, Tries}
+use Rattle.pin_words.proofs.Cited.{nat_tests, at_place, ◌≡◌, ◌≢◌, ⊎_elim, ℕ, ◌<◌, List, [], ◌∷◌, ◌++◌, length, get_or, set, Some, None, sym, refl, ap, ◌∙◌, arith, append_assoc, get_or_read, none, step, Allows, Word, Id, Descr, Free, Live, Shape, Slot, decoded, tally, drop_last, same_id, slot_of, reclaimed, count-snoc, count-drop_last-le, Look, KeeperView, ReaderView, IsPlace, place_of, descr_place, M, view, look, id_in, reader_with, reader_got, reader_released, keeper_with, keeper_stored, reader_of, keeper_of, IsReaders, IsKeepers, Shown, Behind, TellsReader, got_view, released, noted, stored, Stale, Go, verdict_of, Err, option_map, StaleStays, HasOnlyLooked, WasStale, Tries}
 use Rattle.pin_core.specs.Descrs as descr_code
 use Rattle.pin_words.specs.declared.fault.PinFault.TheVariants as fault
 use Rattle.pin_words.proofs.ReaderSteps.{notes-step}
@@ -31,16 +31,9 @@ pub released-one : (n p : ℕ) (m m' : M) (id : Id) → IsPlace place_of p id.sl
     → IsReaders m' × (reader_of m'.0 ≡ reader_released (reader_of m.0) id)
 released-one n p m m' id at reads does have =
     let did = does id.slot at in let r = reader_of m.0 in
-    let tells : TellsReader r id.slot n = subst (λ (v : View). IfSome v.reader (λ r. TellsReader r id.slot n))
-    (ap (λ (z : M). z.0) reads) did.1 in
-    let now : m' ≡ (view None (Some (reader_released r (id_in id.slot n))), []) =
-    did.0 ∙ ap (λ (z : M).
-    (view z.0.keeper (option_map (λ r. reader_released r (id_in id.slot n)) z.0.reader), z.1)) reads in
-    let gen = (tells.held id have refl).0 in (
-      now ∙ ap (λ (z : M). (view None (Some (reader_of z.0)), [])) (sym now),
-      ap (λ (z : M). reader_of z.0) now
-          ∙ λ c. reader_released r record { slot = id.slot; generation = gen c },
-    )
+    let tells : TellsReader r id.slot n = rw reads at did.1 in
+    let now : m' ≡ (view None (Some (reader_released r (id_in id.slot n))), []) = did.0 ∙ rw reads refl in
+    let gen = (tells.held id have refl).0 in rw now (rw gen (refl, refl))
 
 -- what an exchange that won leaves to its caller
 pub got-one : (n : ℕ) (m m' : M) (id : Id) → IsReaders m → m' ≡ (got_view m.0 id.slot n, m.1)
@@ -65,25 +58,20 @@ pub stored-one : (n : ℕ) (m m' : M) (s w : ℕ) (d : Descr) → IsKeepers m
     → IsPlace descr_place w s → descr_code.IsGiven d → n ≡ descr_code.encoded d
     → IsKeepers m' × (keeper_of m'.0 ≡ keeper_stored (keeper_of m.0) s d)
 stored-one n m m' s w d mine did is valid n-is =
-    let now : m' ≡ (view (Some (keeper_stored (keeper_of m.0) s d)) None, []) =
-    did (keeper_of m.0) s d (ap (λ (z : M). z.0.keeper) mine) is valid n-is
-    ∙ ap (λ (z : M). (view (Some (keeper_stored (keeper_of m.0) s d)) z.0.reader, z.1)) mine in
-    (now ∙ ap (λ (z : M). (view (Some (keeper_of z.0)) None, [])) (sym now), ap (λ (z : M). keeper_of z.0) now)
+    let now = did (keeper_of m.0) s d (rw mine refl) is valid n-is in rw now (rw mine (refl, refl))
 
 pub stores-there : (key : Shape) (slots id i p x : ℕ) (me : M) (v : KeeperView) (d : Descr) (k : Shape)
     → IsPlace descr_place p i → key ≡ k → me.0.keeper ≡ Some v → i < k.slots → (slot_of v.slots i).phase ≡ Free
     → descr_code.IsGiven d → x ≡ descr_code.encoded d
     → Allows (Shown key) slots id me p (λ _. x) (λ _. stored (step slots p x 0 none) me x)
 stores-there key slots id i p x me v d k at same is inside free descr-given x-is =
-    subst (λ (z : Shape × ℕ). Allows (Shown z.0) slots id me z.1 (λ _. x) (λ _. stored (step slots z.1 x 0 none) me x))
-    (λ c. (sym same c, sym at.is c)) (stores-step k slots id i x me v d is inside free descr-given x-is)
+    rw (same, at.is) (stores-step k slots id i x me v d is inside free descr-given x-is)
 
 pub notes-there : (key : Shape) (slots id p : ℕ) (me : M) (r : ReaderView) (y : Id) (k : Shape)
     → IsPlace descr_place p y.slot → key ≡ k → me.0.reader ≡ Some r → y.slot < k.slots → 0 < tally (same_id y) r.held
     → Allows (Shown key) slots id me p (λ n. n) (noted (step slots p 0 0 none) me)
 notes-there key slots id p me r y k at same is inside have =
-    subst (λ (z : Shape × ℕ). Allows (Shown z.0) slots id me z.1 (λ n. n) (noted (step slots z.1 0 0 none) me))
-    (λ c. (sym same c, sym at.is c)) (search (arith, notes-step))
+    rw (same, at.is) (notes-step k slots id y.slot me r y is refl inside have)
 
 -- a held Id is one of these, or the new one
 pub inside-more : (n : ℕ) (id : Id) (xs : List Id) → id.slot < n → ((x : Id) → 0 < tally (same_id x) xs → x.slot < n)
@@ -100,7 +88,7 @@ pub stays-stale : (max : ℕ) (id : Id) (ls : List Look) (n : ℕ) → WasStale 
 stays-stale max id [] n h b = absurd h
 stays-stale max id (l ∷ ls) n h b = ⊎_elim (λ (t : (l.slot ≡ id.slot)
     × (verdict_of max id (decoded l.word) ≡ Stale)). grind (arith, nat_tests))
-    (λ (t : WasStale max id ls). stays-stale max id ls n t b.1) h
+    (λ t. stays-stale max id ls n t b.1) h
 
 pub busy-looked : (r r' : ReaderView) (id : Id) (seen : Word) → Tries r id (Err (fault.Busy seen)) r'
     → HasOnlyLooked r r'

@@ -1,33 +1,15 @@
 -- The law of the steps.
-use Rattle.pin_words.proofs.Cited.{nat_tests, nat_le, ◌≡◌, ⊎_elim, ℕ, ◌<◌, ◌&&◌, nat_lt, List, [], ◌∷◌, replicate, Some, None, sym, refl, ap, ◌∙◌, subst, arith, option_map, Id, Shape, Hold, Event, StoreDescr, Publish, CloseSlot, tally, weight, hold_of, same_id, WorldState, opening_slot, slot_of, at, copies, times, refusal, Transition, after, IsSafe, opening_at, times-le-copies, kept_while_held, may_read, may_publish, may_store, may_close, given_as-le, Note, KeeperView, ReaderView, View, place_of, view, reader_looked, keeper_looked, keeper_gave, opening_keeper, Table, AreNoted, HoldsJust, HasReader, IsShown, ArePublished, CloseSteps, CopiesStay, FailedReclaimSteps, GivesReader, KeeperAt, LoadSteps, NotesArePublished, PinSteps, PublishSteps, ReadSteps, ReaderAt, ReclaimSteps, ReleaseSteps, ShowsOneWorld, ShowsOpening, StoreSteps, after_step, with_keeper, with_reader, word}
+use Rattle.pin_words.proofs.Cited.{nat_tests, nat_le, ◌≡◌, ⊎_elim, ℕ, ◌<◌, ◌&&◌, nat_lt, List, [], ◌∷◌, replicate, sym, refl, ap, ◌∙◌, subst, arith, Id, Shape, Hold, Free, Live, tally, weight, hold_of, same_id, WorldState, opening_slot, at, copies, times, IsSafe, opening_at, times-le-copies, kept_while_held, may_read, may_publish, may_store, may_close, given_as-le, Note, KeeperView, ReaderView, View, keeper_gave, opening_keeper, Table, AreNoted, HoldsJust, HasReader, IsShown, ArePublished, CloseSteps, CopiesStay, FailedReclaimSteps, GivesReader, LoadSteps, NotesArePublished, PinSteps, PublishSteps, ReadSteps, ReaderAt, ReclaimSteps, ReleaseSteps, ShowsOneWorld, ShowsOpening, StoreSteps}
 use Rattle.pin_words.proofs.Holdings.{has-copies}
 use Rattle.pin_words.proofs.Steps.{keeper-at, reader-at, in-shape}
 use Rattle.pin_words.proofs.ReaderSteps.{looks-shown, reader-pins, reader-releases, reader-notes}
-use Rattle.pin_words.proofs.KeeperSteps.{keeper-publishes, keeper-closes, keeper-reclaims, keeper-looks, keeper-stores, pinned-still}
+use Rattle.pin_words.proofs.KeeperSteps.{found, keeper-publishes, keeper-closes, keeper-reclaims, keeper-looks, keeper-stores, pinned-still}
 use Rattle.pin_words.proofs.Reseated.{gives-shown}
-
-can-by : (w : WorldState) (e : Event) → refusal w e ≡ None → Transition w e (after w e)
-can-by w e can = (can, refl)
-
--- a part that is known is the one that is put back
-read-as : (k : Shape) (s : Table) (w' : WorldState) (i n j : ℕ) (v : View) (g : ReaderView → ReaderView)
-    (r : ReaderView) → v.reader ≡ Some r
-    → IsShown k (after_step s i n j (view v.keeper (option_map g v.reader))) w'
-    → IsShown k (after_step s i n j (with_reader v (g r))) w'
-read-as k s w' i n j v g r = search arith
-
-kept-as : (k : Shape) (s : Table) (w' : WorldState) (i n j : ℕ) (v : View) (g : KeeperView → KeeperView)
-    (q : KeeperView) → v.keeper ≡ Some q
-    → IsShown k (after_step s i n j (view (option_map g v.keeper) v.reader)) w'
-    → IsShown k (after_step s i n j (with_keeper v (g q))) w'
-kept-as k s w' i n j v g q = search arith
 
 pub law-load : LoadSteps
 law-load k s w j i v r sh here inside = record {
   can = search arith;
-  shown = read-as k s w (place_of i) (word s i) j v
-      (λ z. reader_looked z i (word s i)) r here.part
-      (looks-shown k s w sh j i v here.seated inside);
+  shown = rw here.part at (looks-shown k s w sh j i v here.seated inside);
 }
 
 pub law-pin : PinSteps
@@ -47,20 +29,15 @@ pub law-read : ReadSteps
 law-read k s w j v r id d sh here have is = let known = held-inside k s w sh j v r id here have in
     let same : (at w id.slot).descr ≡ d = search arith in search (arith, may_read, reader-notes)
 
-phase-at : (k : Shape) (s : Table) (w : WorldState) (sh : IsShown k s w) (j i : ℕ) (v : View) (q : KeeperView)
-    → KeeperAt s j v q → (at w i).phase ≡ (slot_of q.slots i).phase
-phase-at k s w sh j i v q here = let mine = keeper-at k s w sh j v q here.seated here.part in
-    search arith
-
 pub law-publish : PublishSteps
 law-publish k s w j i v q sh here inside free = record {
-  can = can-by w (Publish i) (may_publish w i (in-shape k s w sh i inside) (phase-at k s w sh j i v q here ∙ free));
+  can = (may_publish w i (in-shape k s w sh i inside) (found k s w sh j i v q here.seated here.part inside Free free).0, refl);
   shown = keeper-publishes k s w sh j i v q here.seated here.part inside free;
 }
 
 pub law-close : CloseSteps
 law-close k s w j i v q sh here inside live = record {
-  can = can-by w (CloseSlot i) (may_close w i (in-shape k s w sh i inside) (phase-at k s w sh j i v q here ∙ live));
+  can = (may_close w i (in-shape k s w sh i inside) (found k s w sh j i v q here.seated here.part inside Live live).0, refl);
   shown = keeper-closes k s w sh j i v q here.seated here.part inside live;
 }
 
@@ -72,17 +49,14 @@ law-reclaim-failed k s w j i n v q sh here inside closing miss = (
   search (arith, pinned-still),
   record {
     can = search arith;
-    shown = kept-as k s w (place_of i) (word s i) j v
-        (λ z. keeper_looked z i (word s i)) q here.part
-        (keeper-looks k s w sh j i v here.seated inside);
+    shown = rw here.part at (keeper-looks k s w sh j i v here.seated inside);
   },
 )
 
 pub law-store : StoreSteps
 law-store k s w j i v q d sh here inside free valid = record {
-  can = can-by w (StoreDescr i d) (may_store w i d (in-shape k s w sh i inside) (phase-at k s w sh j i v q here
-      ∙ free));
-  shown = search (arith, keeper-stores);
+  can = (may_store w i d (in-shape k s w sh i inside) (found k s w sh j i v q here.seated here.part inside Free free).0, refl);
+  shown = keeper-stores k s w sh j i v q here.seated here.part inside d free valid;
 }
 
 pub law-held : CopiesStay
@@ -126,12 +100,8 @@ one-world k s a b p q =
 
     copies-same : (r : ℕ) (id : Id) → copies a r id ≡ copies b r id
     copies-same r id = ⊎_elim
-        (λ (e : HoldsJust a r []). ⊎_elim
-        (search arith)
-        (λ (g : HasReader s.views (q.owner r) r). with-seat r (q.owner r) g id)
-        (q.owned r))
-        (λ (g : HasReader s.views (p.owner r) r). with-seat r (p.owner r) g id)
-        (p.owned r)
+        (λ (e : HoldsJust a r []). ⊎_elim (search arith) (λ g. with-seat r (q.owner r) g id) (q.owned r))
+        (λ g. with-seat r (p.owner r) g id) (p.owned r)
 
 -- where each slot is an opening one, nothing is held
 opening-free : (w : WorldState) (n : ℕ) → IsSafe w → w.slots ≡ replicate n opening_slot → (t : Hold) → times w t ≡ 0
@@ -141,11 +111,9 @@ opening-free w n safe is t = search (arith, opening_at, times-le-copies)
 pub shows_opening : (q : KeeperView) (k : Shape) → q ≡ keeper_gave (opening_keeper k) → ShowsOpening q
 shows_opening q k is s w j v sh here =
     let mine = keeper-at q.shape s w sh j v q here.seated here.part in
-    let slots : w.slots ≡ replicate q.shape.slots opening_slot =
-    sym mine.slots ∙ (ap (λ (z : KeeperView). z.slots) is
-    ∙ ap (λ (z : KeeperView). replicate z.shape.slots opening_slot) (sym is)) in (
+    let slots : w.slots ≡ replicate q.shape.slots opening_slot = rw (← mine.slots, is) refl in (
       sh.shape,
       slots,
-      sym mine.published ∙ ap (λ (z : KeeperView). z.published) is,
+      rw (← mine.published, is) refl,
       opening-free w q.shape.slots sh.safe slots,
     )

@@ -1,98 +1,122 @@
 -- The steps of a reader keep the rule of the table.
-use Rattle.pin_words.proofs.Cited.{nat_tests, IfSome, option_map, ◌≡◌, ◌≢◌, inl, inr, ℕ, ◌+◌, ◌-◌, ◌%◌, ◌^◌, ◌<◌, ◌==◌, eqb, eq-eqb, ne_eqb, true, List, [], ◌∷◌, ◌++◌, get_or, set, get_or-set_other, Option, Some, None, sym, refl, ap, ◌∙◌, subst, arith, IfSome_then, same_Some, none, some, ℕ_discrete, dite, get_elem?, step, Act, keeps, stepped, carried_after, Valid, Allows, set_here, exchanged, Word, Id, Descr, Live, Shape, Hold, Pin, Release, encoded, decoded, tally, weight, is_at_slot, is_copy, is_hold, with_hold, drop_first, drop_last, same_id, WorldState, at, id_at, pins, copies, last_copy, next_copy, word_at, given, given_as, refusal, after, with_holders, IsSafe, may_be_held, safe_kept, may_release, copies-le-pins, count-with_hold, Look, Note, ReaderView, View, IsPlace, place_of, descr_place, M, view, look, id_in, notes_of, reader_with, reader_got, reader_released, reader_noted, after_step, descr_word, word, Stands, Table, NotAhead, AreNoted, OfReader, IsShown, Shown, TellsReader, looked_view, got_view, released_view, LookedAt, looked, PinnedAt, pinned, ReleasedAt, released, noted}
+use Rattle.pin_words.proofs.Cited.{nat_tests, IfSome, ◌≡◌, ◌≢◌, inl, inr, ℕ, ◌+◌, ◌-◌, ◌%◌, ◌^◌, ◌<◌, ◌==◌, eqb, true, List, [], ◌∷◌, ◌++◌, get_or-set_other, Some, None, sym, refl, ap, ◌∙◌, subst, arith, IfSome_then, same_Some, none, some, ℕ_discrete, dite, get_elem?, step, Act, keeps, stepped, carried_after, Valid, Allows, set_here, exchanged, Word, Id, Descr, Live, Shape, Hold, Pin, Release, encoded, decoded, tally, weight, is_at_slot, is_copy, is_hold, with_hold, drop_first, drop_last, same_id, WorldState, at, id_at, pins, copies, last_copy, next_copy, word_at, given, given_as, refusal, after, with_holders, IsSafe, may_be_held, safe_kept, may_release, copies-le-pins, count-with_hold, Look, Note, ReaderView, View, IsPlace, place_of, descr_place, M, view, look, id_in, notes_of, reader_with, reader_got, reader_released, reader_noted, after_step, descr_word, word, Stands, Table, NotAhead, AreNoted, HoldsJust, OfReader, IsShown, Shown, TellsReader, looked_view, got_view, released_view, looked, pinned, released, noted}
 use prog.Atomic.{either}
 use Rattle.pin_core.specs.Descrs as descr_code
 use Rattle.pin_core.proofs.Holding.{release-count}
 use Rattle.pin_words.proofs.Bits.{sub_one}
 use Rattle.pin_words.proofs.Apart.{few, apart, unlike, pin-set}
 use Rattle.pin_words.proofs.Holdings.{holds-more, holds-same-more, holds-less, holds-same-less, has-copies, noted-left}
-use Rattle.pin_words.proofs.Steps.{reader-at, placed, in-list, step-shown, still-shown, found-is, in-shape, when-here, held-found, stood, told, met, reader-looks, turn-reader, turn-to, looks-agree, keeper-stays, reader-stays, behind, at-slot}
+use Rattle.pin_words.proofs.Steps.{reader-at, placed, in-list, step-shown, still-shown, found-is, in-shape, when-here, held-found, stood, told, met, past-here, turn-reader, turn-to, looks-agree, keeper-stays, reader-stays, at-slot}
 
--- the words where the holds change at the slot i alone
-hold-words : (k : Shape) (s : Table) (W : WorldState) (sh : IsShown k s W) (i n : ℕ) (hs : List Hold) → i < k.slots
-    → n ≡ encoded (word_at (with_holders W hs) i) → ((j : ℕ) → j ≢ i → tally (is_at_slot j) hs ≡ pins W j)
-    → (j : ℕ) → j < k.slots → get_or (set s.words (place_of i) n) (place_of j) 0
-    ≡ encoded (word_at (with_holders W hs) j)
-hold-words k s W sh i n hs inside is same j h =
-    let was = sh.words j h in let new = pin-set k.slots s.words i n sh.fits.1 sh.wide inside j h in
-    grind (arith, nat_tests)
-
--- a reader's step that changes its holds
-reader-goes : (k : Shape) (s : Table) (W : WorldState) (sh : IsShown k s W) (id i n : ℕ) (v : View) (r r' : ReaderView)
-    (hs : List Hold) → get_elem? s.views id ≡ some v → v.reader ≡ Some r → i < k.slots → IsSafe (with_holders W hs)
-    → n ≡ encoded (word_at (with_holders W hs) i) → ((j : ℕ) → j ≢ i → tally (is_at_slot j) hs ≡ pins W j)
-    → ((q : ℕ) → r.number ≢ q → (x : Id) → tally (is_copy q x) hs ≡ copies W q x)
-    → OfReader (with_holders W hs) sh.next sh.owner id r' → r'.number ≡ r.number
-    → IsShown k (after_step s (place_of i) n id (view v.keeper (Some r'))) (with_holders W hs)
-reader-goes k s W sh id i n v r r' hs seated is inside safe word-is pins-same parts-same new number =
-    let was = sh.each id v seated in
-    let mine = reader-at k s W sh id v r seated is in
-    step-shown k s W sh id (place_of i) n (view v.keeper (Some r')) (with_holders W hs) sh.shape safe
-    (hold-words k s W sh i n hs inside word-is pins-same)
-    (λ j h. get_or-set_other s.words (place_of i) (descr_place j) n 0 (λ e. unlike i j (sym e)) ∙ sh.descrs j h)
-    sh.given (
-      IfSome_then v.keeper was.0 (keeper-stays W hs sh.keeper sh.next id),
-      new,
-    )
-    (λ j u other a. (
-      IfSome_then u.keeper a.0 (keeper-stays W hs sh.keeper sh.next j),
-      IfSome_then u.reader a.1 (λ q b. reader-stays W hs sh.next sh.owner j q
-          (parts-same q.number (λ e. other (sym b.mine ∙ (ap sh.owner (sym e) ∙ mine.mine)))) b),
-    ))
-    (λ q later x. parts-same q (λ e. let b = mine.born in omega arith) x ∙ sh.unborn q later x)
-    v seated (turn-to v r r' is number)
-    (λ q e. dite (ℕ_discrete r.number q)
-    (λ same. inr (
-      view v.keeper (Some r'),
-      r',
-      ap (get_elem? (set s.views id (view v.keeper (Some r'))))
-          (ap sh.owner (sym same) ∙ mine.mine) ∙ set_here s.views id (view v.keeper (Some r'))
-          (in-list s.views id v seated),
-      refl,
-      number ∙ same,
-    ))
-    (λ ne. inl (λ x. parts-same q ne x ∙ e x)))
-
-with-holds : (w : WorldState) (hs : List Hold) (next : ℕ) (owner : ℕ
-    → ℕ) (id : ℕ) (r : ReaderView) (held : List Id) (notes : List Note) (looks : List Look) → OfReader w next owner id r
-    → ((x : Id) → tally (is_copy r.number x) hs ≡ tally (same_id x) held) → AreNoted w notes → NotAhead w looks
-    → OfReader (with_holders w hs) next owner id (reader_with r held notes looks)
-with-holds w hs next owner id r held notes looks mine is noted behind = grind arith
+-- a held Id is the one of its slot
+held-is : (w : WorldState) (next : ℕ) (owner : ℕ → ℕ) (id : ℕ) (r : ReaderView) (x : Id) → IsSafe w
+    → OfReader w next owner id r → 0 < tally (same_id x) r.held
+    → (x.slot < w.shape.slots) × (x.generation ≡ (at w x.slot).generation) × (may_be_held (at w x.slot).phase ≡ true)
+held-is w next owner id r x safe mine have = search arith
 
 pub may_pin_found : (k : Shape) (s : Table) (W : WorldState) (sh : IsShown k s W) (r i : ℕ) → i < k.slots
     → (decoded (word s i)).phase ≡ Live
     → (decoded (word s i)).pins ≢ k.max_pins → refusal W (Pin r i (word_at W i)) ≡ None
 may_pin_found k s a2 sh r i inside live room = grind (arith, nat_tests)
 
-pub reader-pins : (k : Shape) (s : Table) (W : WorldState) (sh : IsShown k s W) (id i : ℕ) (v : View) (r : ReaderView)
-    → get_elem? s.views id ≡ some v → v.reader ≡ Some r → i < k.slots
-    → (decoded (word s i)).phase ≡ Live
-    → (decoded (word s i)).pins ≢ k.max_pins
-    → IsShown k (after_step s (place_of i) (word s i + 1) id (view v.keeper (Some
-    (reader_got r (id_in i (word s i)) (word s i)))))
-    (after W (Pin r.number i (word_at W i)))
-reader-pins k s W sh id i v r seated at-reader inside live room =
-    let is = found-is k s W sh i inside in
-    let mine = reader-at k s W sh id v r seated at-reader in
-    let t : Hold = next_copy W r.number i in
-    let more : (j : ℕ) → tally (is_at_slot j) (with_hold t W.holders) ≡ pins W j + weight (i == j) =
-    λ j. count-with_hold (is_at_slot j) t W.holders in
-    reader-goes k s W sh id i (word s i + 1) v r
-    (reader_got r (id_in i (word s i)) (word s i))
-    (with_hold t W.holders) seated at-reader inside
-    (safe_kept W (Pin r.number i (word_at W i)) sh.safe (may_pin_found k s W sh r.number i inside live room))
-    (let one = more i in let yes : weight (i == i) ≡ 1 = ap weight (eq-eqb i i refl) in
-    let old : word s i ≡ encoded (word_at W i) = sh.words i inside in omega arith)
-    (λ j ne. let m = more j in let off : weight (i == j) ≡ 0 = ap weight (ne_eqb i j (λ e. ne (sym e))) in omega arith)
-    (λ q ne x. holds-same-more W q r.number (id_at W i) t.copy ne x)
-    (with-holds W (with_hold t W.holders) sh.next sh.owner id r (r.held
-    ++ id_in i (word s i) ∷ []) r.notes (look i (word s i) ∷ r.looks) mine
-    (λ x. holds-more W r.number r.held (id_at W i) t.copy mine.held x
-    ∙ λ c. tally (same_id x) (r.held ++ record {
-      slot = i;
-      generation = sym (ap (λ (y : Word). y.generation) is) c;
-    } ∷ []))
-    mine.notes (reader-looks k s W sh id i inside r mine).looks) refl
+-- a reader, at its seat, and a slot
+module _ (k : Shape) (s : Table) (W : WorldState) (sh : IsShown k s W) (id i : ℕ) (v : View) (r : ReaderView)
+    (seated : get_elem? s.views id ≡ some v) (is : v.reader ≡ Some r) (inside : i < k.slots) where
+  -- a step that changes its holds
+  reader-goes : (n : ℕ) (hs : List Hold) (held : List Id) (notes : List Note) (looks : List Look)
+      → IsSafe (with_holders W hs) → n ≡ encoded (word_at (with_holders W hs) i)
+      → ((j : ℕ) → j ≢ i → tally (is_at_slot j) hs ≡ pins W j)
+      → ((q : ℕ) → r.number ≢ q → (x : Id) → tally (is_copy q x) hs ≡ copies W q x)
+      → HoldsJust (with_holders W hs) r.number held → AreNoted W notes → NotAhead W looks
+      → IsShown k (after_step s (place_of i) n id (view v.keeper (Some (reader_with r held notes looks))))
+      (with_holders W hs)
+  reader-goes n hs held notes looks safe word-is pins-same parts-same holds noted looked =
+      let w' : WorldState = with_holders W hs in
+      let r' : ReaderView = reader_with r held notes looks in
+      let was = sh.each id v seated in
+      let mine = reader-at k s W sh id v r seated is in
+      step-shown k s W sh id (place_of i) n (view v.keeper (Some r')) w' sh.shape safe
+      (λ j h. let was = sh.words j h in let new = pin-set k.slots s.words i n sh.fits.1 sh.wide inside j h in
+      let same = pins-same j in grind (arith, nat_tests))
+      (λ j h. get_or-set_other s.words (place_of i) (descr_place j) n 0 (λ e. unlike i j (sym e)) ∙ sh.descrs j h)
+      sh.given
+      (IfSome_then v.keeper was.0 (keeper-stays W hs sh.keeper sh.next id), grind arith)
+      (λ j u other a. (
+        IfSome_then u.keeper a.0 (keeper-stays W hs sh.keeper sh.next j),
+        IfSome_then u.reader a.1 (λ q b. reader-stays W hs sh.next sh.owner j q
+            (parts-same q.number (λ e. other (sym b.mine ∙ (ap sh.owner (sym e) ∙ mine.mine)))) b),
+      ))
+      (λ q later x. parts-same q (λ e. let b = mine.born in omega arith) x ∙ sh.unborn q later x)
+      v seated (turn-to v r r' is refl)
+      (λ q e. dite (ℕ_discrete r.number q)
+      (λ same. inr (
+        view v.keeper (Some r'),
+        r',
+        rw (← same, mine.mine) (set_here s.views id _ (in-list s.views id v seated)),
+        refl,
+        same,
+      ))
+      (λ ne. inl (λ x. parts-same q ne x ∙ e x)))
+
+  pub reader-pins : (decoded (word s i)).phase ≡ Live → (decoded (word s i)).pins ≢ k.max_pins
+      → IsShown k (after_step s (place_of i) (word s i + 1) id
+      (view v.keeper (Some (reader_got r (id_in i (word s i)) (word s i))))) (after W (Pin r.number i (word_at W i)))
+  reader-pins live room =
+      let mine = reader-at k s W sh id v r seated is in
+      let t : Hold = next_copy W r.number i in
+      let hs : List Hold = with_hold t W.holders in
+      let more : (j : ℕ) → tally (is_at_slot j) hs ≡ pins W j + weight (i == j) =
+      λ j. count-with_hold (is_at_slot j) t W.holders in
+      let here : id_in i (word s i) ≡ id_at W i = λ c. record {
+        slot = i;
+        generation = ap (λ (y : Word). y.generation) (found-is k s W sh i inside) c;
+      } in
+      rw here (reader-goes (word s i + 1) hs (r.held ++ id_at W i ∷ []) r.notes (look i (word s i) ∷ r.looks)
+      (safe_kept W (Pin r.number i (word_at W i)) sh.safe (may_pin_found k s W sh r.number i inside live room))
+      (let one = more i in let old = sh.words i inside in grind (arith, nat_tests))
+      (λ j ne. let m = more j in grind (arith, nat_tests))
+      (λ q ne x. holds-same-more W q r.number (id_at W i) t.copy ne x)
+      (holds-more W r.number r.held (id_at W i) t.copy mine.held)
+      mine.notes (past-here k s W sh i inside, mine.looks))
+
+-- a reader, at its seat, and what it holds
+module _ (k : Shape) (s : Table) (W : WorldState) (sh : IsShown k s W) (id : ℕ) (v : View) (r : ReaderView) (x : Id)
+    (seated : get_elem? s.views id ≡ some v) (is : v.reader ≡ Some r) (inside : x.slot < k.slots)
+    (have : 0 < tally (same_id x) r.held) where
+  owned : 0 < copies W r.number x
+  owned = has-copies W r x (reader-at k s W sh id v r seated is).held have
+
+  -- a held slot has a pin
+  pub has-pin : 0 < word s x.slot
+  has-pin =
+      let own = owned in let le = copies-le-pins W r.number x in
+      let old : word s x.slot ≡ encoded (word_at W x.slot) = sh.words x.slot inside in omega arith
+
+  pub reader-releases : IsShown k (after_step s (place_of x.slot) (word s x.slot - 1) id
+      (view v.keeper (Some (reader_released r x)))) (after W (Release r.number x))
+  reader-releases =
+      let i = x.slot in
+      let mine = reader-at k s W sh id v r seated is in
+      let hs = drop_first (is_hold (last_copy W r.number x)) W.holders in
+      let held = drop_last (same_id x) r.held in
+      let less : (j : ℕ) → tally (is_at_slot j) hs + weight (i == j) ≡ pins W j =
+      λ j. release-count W r.number x sh.safe owned (is_at_slot j) in
+      reader-goes k s W sh id i v r seated is inside (word s i - 1) hs held (notes_of held r.notes) r.looks
+      (safe_kept W (Release r.number x) sh.safe (may_release W r.number x (in-shape k s W sh i inside) owned))
+      (let one = less i in let old = sh.words i inside in grind (arith, nat_tests))
+      (λ j ne. let m = less j in grind (arith, nat_tests))
+      (λ q ne y. holds-same-less W q r.number x sh.safe owned ne y)
+      (holds-less W r.number r.held x sh.safe mine.held owned) (noted-left W held r.notes mine.notes) mine.looks
+
+  pub reader-notes : IsShown k (after_step s (descr_place x.slot) (descr_word s x.slot) id
+      (view v.keeper (Some (reader_noted r x (at W x.slot).descr)))) W
+  reader-notes =
+      let was = sh.each id v seated in
+      let mine = reader-at k s W sh id v r seated is in
+      let known = held-is W sh.next sh.owner id r x sh.safe mine have in
+      let shown : given_as W (id_at W x.slot) (at W x.slot).descr ≡ 1 = search arith in
+      let own : given_as W x (at W x.slot).descr ≡ 1 = search arith in
+      still-shown k s W sh id (descr_place x.slot) _ (was.0, grind arith) v seated (turn-to v r _ is refl)
 
 tells-all : (k : Shape) (s : Table) (W : WorldState) (sh : IsShown k s W) (id i : ℕ) (v : View)
     → get_elem? s.views id ≡ some v → i < k.slots → IfSome v.reader (λ r. TellsReader r i (word s i))
@@ -115,7 +139,7 @@ loads k slots id i p me at inside = placed k slots id p (place_of i) 0 0 me (λ 
       keeps,
       tt,
       search (arith, looks-shown),
-      at-slot k i (LookedAt me n (looked_view me.0 i n, me.1)) sh.fits inside (
+      at-slot k i _ sh.fits inside (
         refl,
         tells-all k s known.0 sh id i me.0 seated inside,
         search (arith, met, sh.each),
@@ -137,61 +161,19 @@ pins-step k slots id i p old new me r at is inside up live room =
       tt,
       (
         after W (Pin r.number i (word_at W i)),
-        subst (λ (z : Option ReaderView × ℕ). IsShown k (after_step s (place_of i) z.1 id
-            (view me.0.keeper (option_map (λ y. reader_got y (id_in i n) n) z.0)))
-            (after W (Pin r.number i (word_at W i)))) (λ c. (sym is c, (ap (λ (y : ℕ). y + 1) hit ∙ sym up) c))
-            (reader-pins k s W sh id i me.0 r seated is inside (ap (λ (y : ℕ). (decoded y).phase) hit
-            ∙ live) (λ e. room (ap (λ (y : ℕ). (decoded y).pins) (sym hit) ∙ e))),
+        rw (is, up, ← hit) (reader-pins k s W sh id i me.0 r seated is inside (rw hit live) (λ e. room (rw hit at e))),
       ),
-      at-slot k i (PinnedAt old me n (got_view me.0 i n, me.1)) sh.fits inside (
-        (λ _. refl),
-        (λ miss. absurd (miss hit)),
-        tells-all k s W sh id i me.0 seated inside,
-      ),
+      at-slot k i _ sh.fits inside
+          ((λ _. refl), (λ miss. absurd (miss hit)), tells-all k s W sh id i me.0 seated inside),
     ))
     (λ miss. (
       looked_view me.0 i n,
       keeps,
       tt,
       search (arith, looks-shown),
-      at-slot k i (PinnedAt old me n (looked_view me.0 i n, me.1)) sh.fits inside (
-        (λ e. absurd (miss e)),
-        (λ _. refl),
-        tells-all k s W sh id i me.0 seated inside,
-      ),
+      at-slot k i _ sh.fits inside
+          ((λ e. absurd (miss e)), (λ _. refl), tells-all k s W sh id i me.0 seated inside),
     )))
-
--- a held slot has a pin
-pub has-pin : (k : Shape) (s : Table) (W : WorldState) (sh : IsShown k s W) (id : ℕ) (v : View) (r : ReaderView)
-    (x : Id) → get_elem? s.views id ≡ some v → v.reader ≡ Some r → x.slot < k.slots → 0 < tally (same_id x) r.held
-    → 0 < word s x.slot
-has-pin k s W sh id v r x seated at-reader inside have =
-    let mine = reader-at k s W sh id v r seated at-reader in
-    let owned : 0 < copies W r.number x = has-copies W r x mine.held have in let le = copies-le-pins W r.number x in
-    let old : word s x.slot ≡ encoded (word_at W x.slot) = sh.words x.slot inside in omega arith
-
-pub reader-releases : (k : Shape) (s : Table) (W : WorldState) (sh : IsShown k s W) (id : ℕ) (v : View) (r : ReaderView)
-    (x : Id) → get_elem? s.views id ≡ some v → v.reader ≡ Some r → x.slot < k.slots → 0 < tally (same_id x) r.held
-    → IsShown k (after_step s (place_of x.slot) (word s x.slot - 1) id (view v.keeper (Some (reader_released r x))))
-    (after W (Release r.number x))
-reader-releases k s W sh id v r x seated at-reader inside have =
-    let i = x.slot in
-    let mine = reader-at k s W sh id v r seated at-reader in
-    let owned : 0 < copies W r.number x = has-copies W r x mine.held have in
-    let can = may_release W r.number x (in-shape k s W sh i inside) owned in
-    let hs = drop_first (is_hold (last_copy W r.number x)) W.holders in
-    let held = drop_last (same_id x) r.held in
-    let less : (j : ℕ) → tally (is_at_slot j) hs + weight (i == j) ≡ pins W j =
-    λ j. release-count W r.number x sh.safe owned (is_at_slot j) in
-    let old : word s i ≡ encoded (word_at W i) = sh.words i inside in
-    let one = less i in let yes : weight (i == i) ≡ 1 = ap weight (eq-eqb i i refl) in
-    reader-goes k s W sh id i (word s i - 1) v r (reader_released r x) hs seated at-reader inside
-    (safe_kept W (Release r.number x) sh.safe can)
-    (let goal : word s i - 1 ≡ encoded (word_at (with_holders W hs) i) = omega arith in goal)
-    (λ j ne. let m = less j in let off : weight (i == j) ≡ 0 = ap weight (ne_eqb i j (λ e. ne (sym e))) in omega arith)
-    (λ q ne y. holds-same-less W q r.number x sh.safe owned ne y)
-    (with-holds W hs sh.next sh.owner id r held (notes_of held r.notes) r.looks mine
-    (holds-less W r.number r.held x sh.safe mine.held owned) (noted-left W held r.notes mine.notes) mine.looks) refl
 
 pub releases-step : (k : Shape) (slots id p : ℕ) (me : M) (r : ReaderView) (y : Id) → IsPlace place_of p y.slot
     → me.0.reader ≡ Some r → y.slot < k.slots → 0 < tally (same_id y) r.held
@@ -208,48 +190,14 @@ releases-step k slots id p me r y at is inside have =
       tt,
       (
         after W (Release r.number x),
-        subst (λ (z : Option ReaderView × ℕ). IsShown k (after_step s (place_of i) z.1 id
-            (view me.0.keeper (option_map (λ u. reader_released u x) z.0))) (after W (Release r.number x)))
-            (λ c. (sym is c, sym (sub_one n (has-pin k s W sh id me.0 r x seated is inside have') small) c))
+        rw (is, sub_one n (has-pin k s W sh id me.0 r x seated is inside have') small)
             (reader-releases k s W sh id me.0 r x seated is inside have'),
       ),
-      at-slot k i (ReleasedAt me n (released_view me.0 i n, me.1)) sh.fits inside
-          (refl, tells-all k s W sh id i me.0 seated inside),
+      at-slot k i _ sh.fits inside (refl, tells-all k s W sh id i me.0 seated inside),
     ))
-
--- a held Id is the one of its slot
-held-is : (w : WorldState) (next : ℕ) (owner : ℕ → ℕ) (id : ℕ) (r : ReaderView) (x : Id) → IsSafe w
-    → OfReader w next owner id r → 0 < tally (same_id x) r.held
-    → (x.slot < w.shape.slots) × (x.generation ≡ (at w x.slot).generation) × (may_be_held (at w x.slot).phase ≡ true)
-held-is w next owner id r x safe mine have = search arith
 
 pub descr_found : (d : Descr) (n : ℕ) → descr_code.IsGiven d → n ≡ descr_code.encoded d → descr_code.decoded n ≡ Some d
 descr_found d n given is = search arith
-
-pub reader-notes : (k : Shape) (s : Table) (W : WorldState) (sh : IsShown k s W) (id : ℕ) (v : View) (r : ReaderView)
-    (x : Id) → get_elem? s.views id ≡ some v → v.reader ≡ Some r → x.slot < k.slots → 0 < tally (same_id x) r.held
-    → IsShown k (after_step s (descr_place x.slot) (descr_word s x.slot) id
-    (view v.keeper (Some (reader_noted r x (at W x.slot).descr)))) W
-reader-notes k s W sh id v r x seated is inside have =
-    let was = sh.each id v seated in
-    let mine = reader-at k s W sh id v r seated is in
-    let known = held-is W sh.next sh.owner id r x sh.safe mine have in
-    let shown : given_as W (id_at W x.slot) (at W x.slot).descr ≡ 1 =
-    search arith in
-    let own : given_as W x (at W x.slot).descr ≡ 1 =
-    search arith in
-    still-shown k s W sh id (descr_place x.slot) (view v.keeper (Some (reader_noted r x (at W x.slot).descr))) (
-      was.0,
-      record {
-        shape = mine.shape;
-        born = mine.born;
-        mine = mine.mine;
-        held = mine.held;
-        notes = ((let p = own in omega arith), mine.notes);
-        looks = mine.looks;
-      },
-    ) v seated
-    (turn-to v r (reader_noted r x (at W x.slot).descr) is refl)
 
 pub notes-step : (k : Shape) (slots id i : ℕ) (me : M) (r : ReaderView) (y : Id) → me.0.reader ≡ Some r → y.slot ≡ i
     → i < k.slots → 0 < tally (same_id y) r.held

@@ -36,11 +36,8 @@ opens k slots words fits begins are = (
     keeper = 0;
     next = 1;
     owner = λ _. 0;
-    each = λ j u e. ⊎_elim (λ (t : (j ≡ 0) × (view_with_slots k slots ≡ u)). subst (λ (z : ℕ
-        × View). Agrees (opened_with k slots) 0 1 (λ _. 0) z.0 z.1) (λ c. (sym t.0 c, t.1 c))
-        (search arith, tt))
-        (λ (t : (j ≢ 0) × (get_elem? (view_with_slots k slots ∷ []) j ≡ some u)). absurd (beyond j u t.0 t.1))
-        (search arith);
+    each = each-push (Agrees (opened_with k slots) 0 1 (λ _. 0)) [] (view_with_slots k slots) (search arith, tt)
+        (λ j u e. absurd (some-ne-none u (sym e)));
     unborn = λ r later x. refl;
     kept = (view_with_slots k slots, keeper_with_slots k slots, refl, refl);
     owned = λ r. inl (λ x. refl);
@@ -49,10 +46,6 @@ opens k slots words fits begins are = (
   where
     inside : (i : ℕ) → i < k.slots → i < length slots
     inside i h = search arith
-
-    beyond : (j : ℕ) (u : View) → j ≢ 0 → get_elem? (view_with_slots k slots ∷ []) j ≡ some u → ⊥
-    beyond zero u other e = other refl
-    beyond (suc j) u other e = some-ne-none u (sym e)
 
 -- slots of which nothing was asked
 pub fresh_opens : (k : Shape) (slots : List Slot) → IsWithinLimits k → slots ≡ replicate k.slots opening_slot
@@ -84,8 +77,7 @@ reseated k s W sh next owner views each unborn kept moves =
       each = each;
       unborn = unborn;
       kept = kept;
-      owned = λ r. ⊎_elim (λ (e : HoldsJust W r []). inl e) (search arith)
-          (sh.owned r);
+      owned = λ r. ⊎_elim (λ (e : HoldsJust W r []). inl e) (search arith) (sh.owned r);
     }
 
 -- the parts of a seat that stays, where the reader n gets another seat
@@ -184,10 +176,6 @@ joins_shown k s W sh id other kv rv seated apart seated' =
     (λ r ne h. still-reader vs other (sh.owner r) r (view None (Some rv)) spent seated' (λ e. ne (sym e))
     (still-reader s.views id (sh.owner r) r (view (Some kv) None) one seated tt h)))
 
-pub joins : (k : Shape) (id other : ℕ) (kv : KeeperView) (rv : ReaderView)
-    → Joins (Shown k) id (view (Some kv) None) other (view None (Some rv)) (view (Some kv) (Some rv)) spent
-joins k id other kv rv s a6 seated apart seated' = search (arith, joins_shown)
-
 -- a joined seat in two
 pub parts-shown : (k : Shape) (s : Table) (W : WorldState) (sh : IsShown k s W) (id : ℕ) (kv : KeeperView)
     (rv : ReaderView) → get_elem? s.views id ≡ some (view (Some kv) (Some rv))
@@ -212,16 +200,10 @@ parts-shown k s W sh id kv rv seated =
     (λ r ne h. longer-reader vs (view None (Some rv) ∷ []) (sh.owner r) r
     (still-reader s.views id (sh.owner r) r one (view (Some kv) None) seated (λ e. ne (sym e)) h)))
 
-pub parts : (k : Shape) (id : ℕ) (kv : KeeperView) (rv : ReaderView)
-    → Splits (Shown k) id (view (Some kv) (Some rv)) (view (Some kv) None) (view None (Some rv))
-parts k id kv rv s a5 seated = search (arith, parts-shown)
-
 pub joins-any : (k : Shape) (id other : ℕ) (me me' : View) (kv : KeeperView) (rv : ReaderView)
     → me ≡ view (Some kv) None → me' ≡ view None (Some rv) → Joins (Shown k) id me other me' (joined me me') spent
-joins-any k id other me me' kv rv a b = subst (λ (z : View
-    × View). Joins (Shown k) id z.0 other z.1 (joined z.0 z.1) spent) (λ c. (sym a c, sym b c)) (joins k id other kv rv)
+joins-any k id other me me' kv rv a b = rw (a, b) (λ s shown seated apart seated'. search (arith, joins_shown))
 
 pub parts-any : (k : Shape) (id : ℕ) (me : View) (kv : KeeperView) (rv : ReaderView) → me ≡ view (Some kv) (Some rv)
     → Splits (Shown k) id me (keeper_part me) (reader_part me)
-parts-any k id me kv rv a = subst (λ (z : View). Splits (Shown k) id z (keeper_part z) (reader_part z)) (sym a)
-    (parts k id kv rv)
+parts-any k id me kv rv a = rw a (λ s shown seated. search (arith, parts-shown))

@@ -1,5 +1,5 @@
 -- What the steps of a reader were, by what they told it.
-use Rattle.pin_words.proofs.Cited.{⊎_elim, ◌≤◌, length, ◌≡◌, ℕ, ◌+◌, ◌-◌, ◌<◌, Some, sym, refl, ap, ◌∙◌, subst, arith, Id, Load, Pin, Release, ReadDescr, Event, slice_index, decoded, tally, same_id, Unborn, Stale, PinsFull, Go, FollowsLook, TriesPin, cases_lt, ℕ_discrete, dite, ReaderView, IsPlace, place_of, descr_place, verdict_of, M, IsReaders, reader_of, id_in, reader_looked, reader_got, reader_released, reader_noted, View, IfSome, Ok, none, step, Descr, StepsBy, Stands, Stepped, LoadStep, PinStep, ReleaseStep, DescrStep, Pinned, IsHold, TellsReader, released, set_here}
+use Rattle.pin_words.proofs.Cited.{⊎_elim, ◌≤◌, length, ◌≡◌, ℕ, ◌+◌, ◌-◌, ◌<◌, Some, refl, ap, ◌∙◌, subst, arith, Id, Load, Pin, Release, ReadDescr, Event, slice_index, decoded, tally, same_id, Unborn, Stale, PinsFull, Go, FollowsLook, TriesPin, cases_lt, ℕ_discrete, dite, ReaderView, IsPlace, place_of, descr_place, verdict_of, M, IsReaders, reader_of, id_in, reader_looked, reader_got, reader_released, reader_noted, Ok, none, step, Descr, StepsBy, Stands, Stepped, LoadStep, PinStep, ReleaseStep, DescrStep, Pinned, IsHold, TellsReader, released, set_here}
 use Rattle.pin_words.specs.declared.fault.Verdict.{Verdict}
 use Rattle.pin_core.specs.Descrs as descr_code
 use Rattle.pin_words.specs.Stepped.{ReaderAt, with_reader, after_step}
@@ -15,8 +15,7 @@ stepped : (r : ReaderView) (e : ℕ → Event) (p n : ℕ) (m : ℕ → ℕ) (r'
     → Stepped r (e n) p n (m n) (r' n)
 stepped r e p n m r' st steps = record {
   stands = st;
-  steps = subst (λ (z : ℕ). StepsBy r.shape st.world (e z) (after_step st.table p (m z) st.seat
-      (with_reader st.view (r' z)))) st.found steps;
+  steps = rw st.found at steps;
 }
 
 pub load-step : (r : ReaderView) (s n : ℕ) → s < r.shape.slots → TellsReader r s n → LoadStep r s n
@@ -72,8 +71,7 @@ pub released-step : (n p : ℕ) (m m' : M) (id : Id) → IsPlace place_of p id.s
     → released (step 0 p 1 0 none) m n m' → 0 < tally (same_id id) (reader_of m.0).held
     → ReleaseStep (reader_of m.0) id
 released-step n p m m' id at reads does have = release-step (reader_of m.0) id n have
-    (subst (λ (v : View). IfSome v.reader (λ r. TellsReader r id.slot n)) (ap (λ (z : M). z.0) reads)
-    (does id.slot at).1)
+    (rw reads at (does id.slot at).1)
 
 pub descr-step : (r : ReaderView) (id : Id) (n : ℕ) (d : Descr) → 0 < tally (same_id id) r.held
     → descr_code.decoded n ≡ Some d → Stands r (descr_place id.slot) n → DescrStep r id d
@@ -86,8 +84,7 @@ descr-step r id n d have is st = (
 )
 
 pub pinned-held : (r r' : ReaderView) (id : Id) → Pinned r id r' → IsHold r' id
-pinned-held r r' id p = subst (λ (z : ReaderView). IsHold z id) (sym p.now)
-    (hold-after (reader_looked r id.slot p.word_found) id p.word_found p.pins)
+pinned-held r r' id p = rw p.now (hold-after (reader_looked r id.slot p.word_found) id p.word_found p.pins)
 
 pub tries-pin : TriesPin
 tries-pin r r' id t = let did = both in (did, pinned-held r r' id did)
@@ -101,9 +98,8 @@ tries-pin r r' id t = let did = both in (did, pinned-held r r' id did)
         (λ same. record {
           word_found = n;
           loads = load-step r id.slot n inside told;
-          pins = pin-step (reader_looked r id.slot n) id n inside is
-              (subst (λ (z : ℕ). TellsReader (reader_looked r id.slot n) id.slot z) same a.1);
-          now = (a.2 same).1 ∙ ap (λ (z : ℕ). reader_got (reader_looked r id.slot n) id z) same;
+          pins = pin-step (reader_looked r id.slot n) id n inside is (rw same at a.1);
+          now = rw same at (a.2 same).1;
         })
         (λ other. absurd (let e = (a.3 other).0 in cc))
 

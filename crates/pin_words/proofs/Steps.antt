@@ -1,5 +1,5 @@
 -- What a step of one seat owes the rule of the table.
-use Rattle.pin_words.proofs.Cited.{IfSome, option_map, ◌≡◌, ◌≢◌, ◌⊎◌, inl, inr, ⊎_elim, ℕ, ◌<◌, ◌≤◌, List, [], ◌∷◌, length, get_or, set, length-set, zero, suc, Option, Some, None, sym, refl, ap, ◌∙◌, subst, arith, true, none, some, some-ne-none, ℕ_discrete, dite, get_elem?, Allows, step, at_set, set_here, set_else, Word, Id, Descr, Shape, Hold, IsWithinLimits, encoded, decoded, tally, is_copy, same_id, WorldState, at, pins, copies, word_at, given, given_as, with_holders, IsSafe, may_be_held, age, Look, Note, KeeperView, ReaderView, View, place_of, descr_place, AtSlot, M, view, look, reader_looked, Table, word_age, IsPast, NotAhead, AreNoted, HoldsJust, OfKeeper, OfReader, Agrees, HasKeeper, HasReader, IsShown, Shown, Stands, Behind, TellsReader, AreListed, Show, MeetsBoth, looked_view}
+use Rattle.pin_words.proofs.Cited.{IfSome, option_map, ◌≡◌, ◌≢◌, ◌⊎◌, inl, inr, ⊎_elim, ℕ, ◌<◌, ◌≤◌, List, [], ◌∷◌, length, get_or, set, length-set, zero, suc, Option, Some, None, sym, refl, ap, ◌∙◌, subst, arith, true, none, some, some-ne-none, ℕ_discrete, dite, get_elem?, Allows, step, at_set, set_here, set_else, Word, Id, Descr, Shape, Hold, IsWithinLimits, encoded, decoded, tally, is_copy, same_id, WorldState, at, pins, copies, word_at, given, given_as, with_holders, IsSafe, may_be_held, age, Look, Note, KeeperView, ReaderView, View, place_of, descr_place, AtSlot, M, view, look, Table, word_age, IsPast, NotAhead, AreNoted, HoldsJust, OfKeeper, OfReader, Agrees, HasKeeper, HasReader, IsShown, Shown, Stands, Behind, TellsReader, AreListed, Show, MeetsBoth, looked_view}
 use lib.Seq.{set-get_or}
 use Rattle.atomic_table.specs.Table.{Step}
 use Rattle.pin_core.specs.Descrs as descr_code
@@ -15,22 +15,12 @@ pub when-here : {A : Type 0} (P Q : A → Type 0) (x : Option A) → ((a : A) �
 when-here P Q None f h = tt
 when-here P Q (Some a) f h = f a refl h
 
--- a seat's part as the world has it
-pub keeper-at : (k : Shape) (s : Table) (W : WorldState) (sh : IsShown k s W) (id : ℕ) (v : View) (kv : KeeperView)
-    → get_elem? s.views id ≡ some v → v.keeper ≡ Some kv → OfKeeper W sh.keeper sh.next id kv
-keeper-at k s W sh id v kv seated is = of-here (OfKeeper W sh.keeper sh.next id) v.keeper kv is (sh.each id v seated).0
-
-pub reader-at : (k : Shape) (s : Table) (W : WorldState) (sh : IsShown k s W) (id : ℕ) (v : View) (r : ReaderView)
-    → get_elem? s.views id ≡ some v → v.reader ≡ Some r → OfReader W sh.next sh.owner id r
-reader-at k s W sh id v r seated is = of-here (OfReader W sh.next sh.owner id) v.reader r is (sh.each id v seated).1
-
 -- what holds of each seat, after one was written
 pub each-set : (P : ℕ → View → Type 0) (vs : List View) (i : ℕ) (a : View) → P i a
     → ((j : ℕ) (u : View) → j ≢ i → get_elem? vs j ≡ some u → P j u)
     → (j : ℕ) (u : View) → get_elem? (set vs i a) j ≡ some u → P j u
-each-set P vs i a new old j u e = ⊎_elim
-    (λ (t : (j ≡ i) × (a ≡ u)). subst (λ (z : ℕ × View). P z.0 z.1) (λ c. (sym t.0 c, t.1 c)) new)
-    (λ (t : (j ≢ i) × (get_elem? vs j ≡ some u)). old j u t.0 t.1) (at_set vs i j a u e)
+each-set P vs i a new old j u e =
+    ⊎_elim (λ t. rw (t.0, ← t.1) new) (λ t. old j u t.0 t.1) (at_set vs i j a u e)
 
 -- the view keeps its parts, and its reader's number
 pub record Turns (v v' : View) : Type 0 where
@@ -69,104 +59,10 @@ pub placed : (k : Shape) (slots id p q first second : ℕ) (me : M) (f : ℕ →
     → Allows (Shown k) slots id me p f (then_is (step slots p first second none) me)
 placed k slots id p q first second me f then_is at = search arith
 
--- a step of one seat, after which the world is w'
-pub step-shown : (k : Shape) (s : Table) (W : WorldState) (sh : IsShown k s W) (id i n : ℕ) (v' : View)
-    (w' : WorldState) → w'.shape ≡ k → IsSafe w'
-    → ((j : ℕ) → j < k.slots → get_or (set s.words i n) (place_of j) 0 ≡ encoded (word_at w' j))
-    → ((j : ℕ) → j < k.slots → get_or (set s.words i n) (descr_place j) 0 ≡ descr_code.encoded (at w' j).descr)
-    → ((j : ℕ) → j < k.slots → descr_code.IsGiven (at w' j).descr)
-    → Agrees w' sh.keeper sh.next sh.owner id v'
-    → ((j : ℕ) (u : View) → j ≢ id → Agrees W sh.keeper sh.next sh.owner j u → Agrees w' sh.keeper sh.next sh.owner j u)
-    → ((r : ℕ) → sh.next ≤ r → HoldsJust w' r [])
-    → (v : View) → get_elem? s.views id ≡ some v → Turns v v'
-    → ((r : ℕ) → HoldsJust W r [] → (HoldsJust w' r []) ⊎ HasReader (set s.views id v') (sh.owner r) r)
-    → IsShown k (after_step s i n id v') w'
-step-shown k s W sh id i n v' w' shape safe words descrs given mine others unborn v seated turn parts = record {
-  fits = sh.fits;
-  shape = shape;
-  wide = length-set s.words i n ∙ sh.wide;
-  safe = safe;
-  words = words;
-  descrs = descrs;
-  given = given;
-  keeper = sh.keeper;
-  next = sh.next;
-  owner = sh.owner;
-  each = each-set (Agrees w' sh.keeper sh.next sh.owner) s.views id v' mine
-      (λ j u other e. others j u other (sh.each j u e));
-  unborn = unborn;
-  kept = has-keeper s.views id sh.keeper v v' seated turn sh.kept;
-  owned = λ r. ⊎_elim (λ (e : HoldsJust W r []). parts r e)
-      (λ (h : HasReader s.views (sh.owner r) r). inr (has-reader s.views id (sh.owner r) r v v' seated turn h))
-      (sh.owned r);
-}
-
--- a step that leaves the world and the words
-pub still-shown : (k : Shape) (s : Table) (W : WorldState) (sh : IsShown k s W) (id i : ℕ) (v' : View)
-    → Agrees W sh.keeper sh.next sh.owner id v' → (v : View) → get_elem? s.views id ≡ some v → Turns v v'
-    → IsShown k (after_step s i (get_or s.words i 0) id v') W
-still-shown k s W sh id i v' mine v seated turn = let same = set-get_or s.words i 0 in
-    step-shown k s W sh id i (get_or s.words i 0) v' W sh.shape sh.safe
-    (search arith)
-    (search arith) sh.given mine (λ j u n a. a) sh.unborn v seated turn (λ r e. inl e)
-
-pub few-pins : (k : Shape) (s : Table) (W : WorldState) (sh : IsShown k s W) (i : ℕ) → pins W i < 1073741824
-few-pins k s a2 sh i = search arith
-
--- what the word that is found says
-pub found-is : (k : Shape) (s : Table) (W : WorldState) (sh : IsShown k s W) (i : ℕ) → i < k.slots
-    → decoded (word s i) ≡ word_at W i
-found-is k s a2 sh i inside = grind arith
-
-pub found-age : (k : Shape) (s : Table) (W : WorldState) (sh : IsShown k s W) (i : ℕ) → i < k.slots
-    → word_age (word s i) ≡ age (at W i)
-found-age k s a2 sh i inside = search arith
-
-pub in-shape : (k : Shape) (s : Table) (W : WorldState) (sh : IsShown k s W) (i : ℕ) → i < k.slots → i < W.shape.slots
-in-shape k s a2 sh i inside = search arith
-
 pub behind : (w : WorldState) (ls : List Look) (s n : ℕ) → word_age n ≡ age (at w s)
     → (decoded n).phase ≡ (at w s).phase → (at w s).generation ≤ w.shape.max_gen → NotAhead w ls → Behind ls s n
 behind w [] s n is phase bounded h = tt
 behind w (l ∷ ls) s n is phase bounded h = search (arith, behind w ls s n is phase bounded h.1)
-
-pub held-found : (k : Shape) (s : Table) (W : WorldState) (sh : IsShown k s W) (id i : ℕ) (r : ReaderView) → i < k.slots
-    → OfReader W sh.next sh.owner id r → (x : Id) → 0 < tally (same_id x) r.held → x.slot ≡ i
-    → ((decoded (word s i)).generation ≡ x.generation) × (may_be_held (decoded (word s i)).phase ≡ true)
-held-found k s W sh id i r inside mine x have here = let is = found-is k s W sh i inside in
-    let h = sh.safe.held r.number x (has-copies W r x mine.held have) in (
-      ap (λ (y : Word). y.generation) is ∙ (ap (λ (z : ℕ). (at W z).generation) (sym here) ∙ h.1),
-      ap (λ (y : Word). may_be_held y.phase) is ∙ (ap (λ (z : ℕ). may_be_held (at W z).phase) (sym here) ∙ h.2),
-    )
-
--- what stood at a place of the table is in sight of each of its readers
-pub stood : (k : Shape) (s : Table) (W : WorldState) (sh : IsShown k s W) (id p : ℕ) (v : View) (r : ReaderView)
-    → get_elem? s.views id ≡ some v → v.reader ≡ Some r → Stands r p (get_or s.words p 0)
-stood k s W sh id p v r seated is = record {
-  table = s;
-  world = W;
-  seat = id;
-  view = v;
-  shown = subst (λ (z : Shape). IsShown z s W) (sym ((reader-at k s W sh id v r seated is).shape ∙ sh.shape)) sh;
-  here = record { seated = seated; part = is };
-  found = refl;
-}
-
-pub told : (k : Shape) (s : Table) (W : WorldState) (sh : IsShown k s W) (id i : ℕ) (v : View) (r : ReaderView)
-    → get_elem? s.views id ≡ some v → v.reader ≡ Some r → i < k.slots
-    → OfReader W sh.next sh.owner id r → TellsReader r i (word s i)
-told k s W sh id i v r seated at-reader inside mine = let is = found-is k s W sh i inside in record {
-  pins = let le = held-le-pins W r.number i r.held sh.safe mine.held in
-      let count : (decoded (word s i)).pins ≡ pins W i = ap (λ (x : Word). x.pins) is in
-      omega arith;
-  room = let le = sh.safe.room i in let count : (decoded (word s i)).pins ≡ pins W i =
-      ap (λ (x : Word). x.pins) is in let max : r.shape.max_pins ≡ W.shape.max_pins =
-      ap (λ (z : Shape). z.max_pins) mine.shape in omega arith;
-  held = held-found k s W sh id i r inside mine;
-  looks = behind W r.looks i (word s i) (found-age k s W sh i inside)
-      (ap (λ (x : Word). x.phase) is) (sh.safe.slots i (in-shape k s W sh i inside)).bounded mine.looks;
-  stands = stood k s W sh id (place_of i) v r seated at-reader;
-}
 
 listed : (w : WorldState) (ps : List (Id × Descr)) (xs : List Note) → ps ≡ w.published → AreNoted w xs → AreListed ps xs
 listed w ps [] same h = tt
@@ -177,22 +73,111 @@ shows : (w : WorldState) (id : Id) (d : Descr) (xs : List Note) → IsSafe w →
 shows w id d [] safe have h = tt
 shows w id d (x ∷ xs) safe have h = search (arith, one-descr, shows w id d xs safe have h.1)
 
-pub met : (k : Shape) (s : Table) (W : WorldState) (sh : IsShown k s W) (id i : ℕ) (v : View) → i < k.slots
-    → Agrees W sh.keeper sh.next sh.owner id v → MeetsBoth v.keeper v.reader i (word s i)
-met k s a2 sh id i v inside a = search (arith, listed, shows)
+-- what the seats of a table know, and what its words say
+module _ (k : Shape) (s : Table) (W : WorldState) (sh : IsShown k s W) where
+  -- a seat's part as the world has it
+  pub keeper-at : (id : ℕ) (v : View) (kv : KeeperView) → get_elem? s.views id ≡ some v → v.keeper ≡ Some kv
+      → OfKeeper W sh.keeper sh.next id kv
+  keeper-at id v kv seated is = of-here (OfKeeper W sh.keeper sh.next id) v.keeper kv is (sh.each id v seated).0
 
-pub past-here : (k : Shape) (s : Table) (W : WorldState) (sh : IsShown k s W) (i : ℕ) → i < k.slots
-    → IsPast W (look i (word s i))
-past-here k s a2 sh i inside = grind arith
+  pub reader-at : (id : ℕ) (v : View) (r : ReaderView) → get_elem? s.views id ≡ some v → v.reader ≡ Some r
+      → OfReader W sh.next sh.owner id r
+  reader-at id v r seated is = of-here (OfReader W sh.next sh.owner id) v.reader r is (sh.each id v seated).1
 
-pub reader-looks : (k : Shape) (s : Table) (W : WorldState) (sh : IsShown k s W) (id i : ℕ) → i < k.slots
-    → (r : ReaderView) → OfReader W sh.next sh.owner id r
-    → OfReader W sh.next sh.owner id (reader_looked r i (word s i))
-reader-looks k s a2 sh id i inside r mine = search arith
+  -- a step of one seat, after which the world is w'
+  pub step-shown : (id i n : ℕ) (v' : View) (w' : WorldState) → w'.shape ≡ k → IsSafe w'
+      → ((j : ℕ) → j < k.slots → get_or (set s.words i n) (place_of j) 0 ≡ encoded (word_at w' j))
+      → ((j : ℕ) → j < k.slots → get_or (set s.words i n) (descr_place j) 0 ≡ descr_code.encoded (at w' j).descr)
+      → ((j : ℕ) → j < k.slots → descr_code.IsGiven (at w' j).descr)
+      → Agrees w' sh.keeper sh.next sh.owner id v'
+      → ((j : ℕ) (u : View) → j ≢ id → Agrees W sh.keeper sh.next sh.owner j u
+      → Agrees w' sh.keeper sh.next sh.owner j u)
+      → ((r : ℕ) → sh.next ≤ r → HoldsJust w' r [])
+      → (v : View) → get_elem? s.views id ≡ some v → Turns v v'
+      → ((r : ℕ) → HoldsJust W r [] → (HoldsJust w' r []) ⊎ HasReader (set s.views id v') (sh.owner r) r)
+      → IsShown k (after_step s i n id v') w'
+  step-shown id i n v' w' shape safe words descrs given mine others unborn v seated turn parts = record {
+    fits = sh.fits;
+    shape = shape;
+    wide = length-set s.words i n ∙ sh.wide;
+    safe = safe;
+    words = words;
+    descrs = descrs;
+    given = given;
+    keeper = sh.keeper;
+    next = sh.next;
+    owner = sh.owner;
+    each = each-set (Agrees w' sh.keeper sh.next sh.owner) s.views id v' mine
+        (λ j u other e. others j u other (sh.each j u e));
+    unborn = unborn;
+    kept = has-keeper s.views id sh.keeper v v' seated turn sh.kept;
+    owned = λ r. ⊎_elim (parts r) (λ h. inr (has-reader s.views id (sh.owner r) r v v' seated turn h)) (sh.owned r);
+  }
 
-pub of-on : {A : Type 0} (P : A → Type 0) (f : A → A) (x : Option A) → ((a : A) → P a → P (f a)) → IfSome x P
-    → IfSome (option_map f x) P
-of-on a0 a1 a2 a3 a4 = search arith
+  -- a step that leaves the world and the words
+  pub still-shown : (id i : ℕ) (v' : View) → Agrees W sh.keeper sh.next sh.owner id v' → (v : View)
+      → get_elem? s.views id ≡ some v → Turns v v' → IsShown k (after_step s i (get_or s.words i 0) id v') W
+  still-shown id i v' mine v seated turn = let same = set-get_or s.words i 0 in
+      step-shown id i (get_or s.words i 0) v' W sh.shape sh.safe (search arith) (search arith) sh.given mine
+      (λ j u n a. a) sh.unborn v seated turn (λ r e. inl e)
+
+  pub few-pins : (i : ℕ) → pins W i < 1073741824
+  few-pins i = search arith
+
+  -- what the word that is found says
+  pub found-is : (i : ℕ) → i < k.slots → decoded (word s i) ≡ word_at W i
+  found-is i inside = grind arith
+
+  pub found-age : (i : ℕ) → i < k.slots → word_age (word s i) ≡ age (at W i)
+  found-age i inside = search (arith, found-is)
+
+  pub in-shape : (i : ℕ) → i < k.slots → i < W.shape.slots
+  in-shape i inside = search arith
+
+  pub held-found : (id i : ℕ) (r : ReaderView) → i < k.slots → OfReader W sh.next sh.owner id r → (x : Id)
+      → 0 < tally (same_id x) r.held → x.slot ≡ i
+      → ((decoded (word s i)).generation ≡ x.generation) × (may_be_held (decoded (word s i)).phase ≡ true)
+  held-found id i r inside mine x have here = let is = found-is i inside in
+      let h = sh.safe.held r.number x (has-copies W r x mine.held have) in (
+        ap (λ (y : Word). y.generation) is ∙ rw (← here) h.1,
+        ap (λ (y : Word). may_be_held y.phase) is ∙ rw (← here) h.2,
+      )
+
+  -- what stood at a place of the table is in sight of each of its readers
+  pub stood : (id p : ℕ) (v : View) (r : ReaderView) → get_elem? s.views id ≡ some v → v.reader ≡ Some r
+      → Stands r p (get_or s.words p 0)
+  stood id p v r seated is = record {
+    table = s;
+    world = W;
+    seat = id;
+    view = v;
+    shown = rw ((reader-at id v r seated is).shape ∙ sh.shape) sh;
+    here = record { seated = seated; part = is };
+    found = refl;
+  }
+
+  pub told : (id i : ℕ) (v : View) (r : ReaderView) → get_elem? s.views id ≡ some v → v.reader ≡ Some r → i < k.slots
+      → OfReader W sh.next sh.owner id r → TellsReader r i (word s i)
+  told id i v r seated at-reader inside mine = let is = found-is i inside in
+      let count = ap (λ (x : Word). x.pins) is in record {
+        pins = let le = held-le-pins W r.number i r.held sh.safe mine.held in omega arith;
+        room = let le = sh.safe.room i in let max = ap (λ (z : Shape). z.max_pins) mine.shape in omega arith;
+        held = held-found id i r inside mine;
+        looks = behind W r.looks i (word s i) (found-age i inside) (ap (λ (x : Word). x.phase) is)
+            (sh.safe.slots i (in-shape i inside)).bounded mine.looks;
+        stands = stood id (place_of i) v r seated at-reader;
+      }
+
+  pub met : (id i : ℕ) (v : View) → i < k.slots → Agrees W sh.keeper sh.next sh.owner id v
+      → MeetsBoth v.keeper v.reader i (word s i)
+  met id i v inside a = search (arith, listed, shows)
+
+  pub past-here : (i : ℕ) → i < k.slots → IsPast W (look i (word s i))
+  past-here i inside = grind arith
+
+  pub looks-agree : (id i : ℕ) (v : View) → i < k.slots → Agrees W sh.keeper sh.next sh.owner id v
+      → Agrees W sh.keeper sh.next sh.owner id (looked_view v i (word s i))
+  looks-agree id i v inside a = grind arith
 
 pub turn-reader : (v : View) (g : ReaderView → ReaderView) → ((x : ReaderView) → (g x).number ≡ x.number)
     → Turns v (view v.keeper (option_map g v.reader))
@@ -207,11 +192,6 @@ turn-to v r r' is same = search arith
 
 pub turn-keeper-to : (v : View) (k' : KeeperView) → Turns v (view (Some k') v.reader)
 turn-keeper-to v k' = search arith
-
-pub looks-agree : (k : Shape) (s : Table) (W : WorldState) (sh : IsShown k s W) (id i : ℕ) (v : View) → i < k.slots
-    → Agrees W sh.keeper sh.next sh.owner id v → Agrees W sh.keeper sh.next sh.owner id
-    (looked_view v i (word s i))
-looks-agree k s a2 sh id i v inside a = grind arith
 
 -- looks stay behind as slots get older
 pub looks-stay : (w w' : WorldState) (ls : List Look) → w'.shape ≡ w.shape → ((j : ℕ) → age (at w j) ≤ age (at w' j))

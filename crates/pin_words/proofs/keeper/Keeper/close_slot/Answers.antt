@@ -1,4 +1,4 @@
-use Rattle.pin_words.proofs.Cited.{rules, sym, ap, subst, ◌<◌, Shape, in_phase, keeper_of, keeper_closed, Closing}
+use Rattle.pin_words.proofs.Cited.{rules, ap, ◌<◌, in_phase, keeper_of, keeper_closed, Closing}
 use Rattle.pin_words.proofs.KeeperSteps.{closes-step}
 use Rattle.pin_words.proofs.Calls.{kept-one, slot-changed}
 use Rattle.pin_words.proofs.Owned.{key_at, pin_at}
@@ -10,7 +10,7 @@ fetch_or-requires c = let lt : c.args.slot < c.self.inside.shape.slots = search 
   pin_at c.self.inside.shape _ _ c.deref.ensures c.self.inside.wide c.self.inside.within c.place_of.ensures lt,
   closes-step _ _ _ _ _ _ (keeper_of c.self.inside.seat.me.0) c.place_of.ensures
       (ap (λ m. m.0.keeper) c.self.inside.keeps)
-      (subst (λ (k : Shape). c.args.slot < k.slots) (sym (key_at c.deref.ensures c.self.inside.keyed)) lt)
+      (rw (key_at c.deref.ensures c.self.inside.keyed) lt)
       (search rules),
 )
 

@@ -1,4 +1,4 @@
-use Rattle.pin_words.proofs.Cited.{rules, sym, ap, subst, ◌<◌, ◌∙◌, Some, None, ◌≡◌, Shape, keeper_of, reader_of, reader_looked, view, looked_view, joined}
+use Rattle.pin_words.proofs.Cited.{rules, sym, ap, ◌<◌, ◌∙◌, Some, None, ◌≡◌, keeper_of, reader_of, reader_looked, view, looked_view, joined}
 use Rattle.pin_words.proofs.ReaderSteps.{loads}
 use Rattle.pin_words.proofs.Reseated.{joins-any, parts-any}
 use Rattle.pin_words.proofs.Owned.{key_at, pin_at, some_at, id_at}
@@ -23,7 +23,7 @@ load-requires c = let lt : c.args.slot < c.self.inside.shape.slots = search rule
   search rules,
   pin_at c.self.inside.shape _ _ c.deref-2.ensures c.self.inside.wide c.self.inside.within c.place_of.ensures lt,
   loads _ _ _ _ _ _ c.place_of.ensures
-      (subst (λ (k : Shape). c.args.slot < k.slots) (sym (key_at c.deref-2.ensures c.self.inside.keyed)) lt),
+      (rw (key_at c.deref-2.ensures c.self.inside.keyed) lt),
 )
 
 pub split_seat-parted-requires : goal.split_seat-parted-requires

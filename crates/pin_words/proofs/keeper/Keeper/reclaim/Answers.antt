@@ -1,4 +1,4 @@
-use Rattle.pin_words.proofs.Cited.{rules, sym, ap, subst, ◌<◌, ◌≡◌, ◌∙◌, List, length, set, arith, Shape, Slot, ℕ_discrete, dite, Word, code_of, decoded, packed, reclaimed, slot_of, keeper_of, keeper_reclaimed, closing_word, next_word}
+use Rattle.pin_words.proofs.Cited.{rules, sym, ap, ◌<◌, ◌≡◌, ◌∙◌, length, set, arith, Shape, Slot, ℕ_discrete, dite, Word, code_of, packed, reclaimed, slot_of, keeper_of, keeper_reclaimed, closing_word, next_word}
 use Rattle.pin_words.proofs.KeeperSteps.{reclaims-step}
 use Rattle.pin_words.proofs.Calls.{kept-one, reclaimed-kept, slot-known, slot-changed}
 use Rattle.pin_words.proofs.Owned.{key_at, pin_at}
@@ -13,7 +13,7 @@ compare_exchange-found-requires c = let lt : c.args.slot < c.self.inside.shape.s
       pin_at c.self.inside.shape _ _ c.deref.ensures c.self.inside.wide c.self.inside.within c.place_of.ensures lt,
       reclaims-step _ _ _ _ _ _ _ _ (keeper_of c.self.inside.seat.me.0) c.place_of.ensures
           (ap (λ m. m.0.keeper) c.self.inside.keeps)
-          (subst (λ (k : Shape). c.args.slot < k.slots) (sym (key_at c.deref.ensures c.self.inside.keyed)) lt)
+          (rw (key_at c.deref.ensures c.self.inside.keyed) lt)
           (search rules)
           (c.encode.ensures ∙ ap closing_word was)
           (c.encode-2.ensures ∙ (ap (λ (y : Slot). packed y.generation (code_of y.phase) 0) c.reclaimed-next.ensures
@@ -33,9 +33,8 @@ pub invariant_of-self-inside-2 : goal.invariant_of-self-inside-2
 invariant_of-self-inside-2 c = let played = c.compare_exchange-found.ensures.2 c.args.slot c.place_of.ensures in
     let hit : c.compare_exchange-found.result ≡ c.encode.result =
     dite (ℕ_discrete c.compare_exchange-found.result c.encode.result) (λ hit. hit)
-    (λ miss. absurd (let some = (played.1 miss).1 in
-    let found : c.decode-pins.result.pins ≡ (decoded c.compare_exchange-found.result).pins =
-    ap (λ (w : Word). w.pins) c.decode-pins.ensures in let none = c.if-pins-gt0.false in omega arith)) in
+    (λ miss. absurd (let some = (played.1 miss).1 in let found = ap (λ (w : Word). w.pins) c.decode-pins.ensures in
+    let none = c.if-pins-gt0.false in omega arith)) in
     let one = kept-one (λ k. keeper_reclaimed k c.args.slot c.compare_exchange-found.result) c.self.inside.seat.me
     c.compare_exchange-found.new.seat.me c.self.inside.keeps (played.0 hit) in
     let max : c.self.inside.shape.max_gen ≡ (keeper_of c.self.inside.seat.me.0).shape.max_gen =
@@ -55,17 +54,9 @@ invariant_of-self-inside-2 c = let played = c.compare_exchange-found.ensures.2 c
       descr = c.index_mut-kept.result.now.descr;
     }) ≡ set c.self.inside.slots.items c.args.slot
     (reclaimed (keeper_of c.self.inside.seat.me.0).shape.max_gen c.index-was.result.now) =
-    ap (λ (y : Slot). set c.self.inside.slots.items c.args.slot (record {
-      generation = y.generation;
-      phase = y.phase;
-      descr = c.index_mut-kept.result.now.descr;
-    })) next
-    ∙ ap (λ (y : Slot). set c.self.inside.slots.items c.args.slot y)
-    (reclaimed-kept (keeper_of c.self.inside.seat.me.0).shape.max_gen c.index-was.result.now
-    c.index_mut-kept.result.now same) in
-    let kept = subst (λ (xs : List Slot). ((keeper_of c.compare_exchange-found.new.seat.me.0).shape
-    ≡ c.self.inside.shape) × ((keeper_of c.compare_exchange-found.new.seat.me.0).slots ≡ xs)
-    × (length xs ≡ c.self.inside.shape.slots)) (sym written) changed in search rules
+    rw next (ap (set c.self.inside.slots.items c.args.slot) (reclaimed-kept
+    (keeper_of c.self.inside.seat.me.0).shape.max_gen c.index-was.result.now c.index_mut-kept.result.now same)) in
+    let kept = rw (← written) at changed in search rules
 
 pub returns-clause-reclaims : goal.returns-clause-reclaims
 returns-clause-reclaims c = let played = c.compare_exchange-found.ensures.2 c.args.slot c.place_of.ensures in

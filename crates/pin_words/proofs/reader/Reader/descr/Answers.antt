@@ -1,4 +1,4 @@
-use Rattle.pin_words.proofs.Cited.{rules, ap, ◌<◌, tally, same_id, reader_of, ◌≡◌, Some, subst, ReaderView, DescrStep}
+use Rattle.pin_words.proofs.Cited.{rules, ap, ◌<◌, tally, same_id, reader_of, ◌≡◌, Some, ReaderView}
 use Rattle.pin_words.proofs.Calls.{notes-there}
 use Rattle.pin_words.proofs.Owned.{key_at, descr_at}
 use Rattle.pin_core.specs.Descrs as descr_code
@@ -20,5 +20,4 @@ returns-clause-steps c = let r : ReaderView = reader_of c.self.inside.seat.me.0 
     let have : 0 < tally (same_id c.args.id) r.held = search rules in
     let did = c.load-word.ensures.2 r c.args.id (ap (λ m. m.0.reader) c.self.inside.reads) have c.descr_place.ensures in
     let is : descr_code.decoded c.load-word.result ≡ Some c.in-Some.descr = search rules in
-    subst (λ (z : ReaderView). DescrStep z c.args.id c.in-Some.descr) (ap (λ w. w.view) c.self.view_is)
-    (descr-step r c.args.id c.load-word.result c.in-Some.descr have is did.3)
+    rw (← c.self.view_is) (descr-step r c.args.id c.load-word.result c.in-Some.descr have is did.3)

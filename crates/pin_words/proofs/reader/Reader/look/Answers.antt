@@ -1,4 +1,4 @@
-use Rattle.pin_words.proofs.Cited.{rules, sym, subst, ◌<◌, Shape}
+use Rattle.pin_words.proofs.Cited.{rules, ◌<◌}
 use Rattle.pin_words.proofs.ReaderSteps.{loads}
 use Rattle.pin_words.proofs.Owned.{key_at, pin_at}
 use Rattle.pin_words.proofs.reader.Reader.look.Goals as goal
@@ -8,7 +8,7 @@ load-requires c = let lt : c.args.slot < c.self.inside.shape.slots = search rule
   search rules,
   pin_at c.self.inside.shape _ _ c.deref.ensures c.self.inside.wide c.self.inside.within c.place_of.ensures lt,
   loads _ _ _ _ _ _ c.place_of.ensures
-      (subst (λ (k : Shape). c.args.slot < k.slots) (sym (key_at c.deref.ensures c.self.inside.keyed)) lt),
+      (rw (key_at c.deref.ensures c.self.inside.keyed) lt),
 )
 
 pub invariant_of-self-inside : goal.invariant_of-self-inside

@@ -1,4 +1,4 @@
-use Rattle.pin_words.proofs.Cited.{rules, sym, ap, subst, ◌<◌, Shape, tally, same_id, reader_of, ReaderView, ReleaseStep}
+use Rattle.pin_words.proofs.Cited.{rules, ap, ◌<◌, tally, same_id, reader_of}
 use Rattle.pin_words.proofs.ReaderSteps.{releases-step}
 use Rattle.pin_words.proofs.Calls.{inside-less, released-one}
 use Rattle.pin_words.proofs.Owned.{key_at, pin_at}
@@ -13,7 +13,7 @@ fetch_sub-requires c = let have : 0 < tally (same_id c.args.id) (reader_of c.sel
       pin_at c.self.inside.shape _ _ c.deref.ensures c.self.inside.wide c.self.inside.within c.place_of.ensures lt,
       releases-step _ _ _ _ _ (reader_of c.self.inside.seat.me.0) c.args.id c.place_of.ensures
           (ap (λ m. m.0.reader) c.self.inside.reads)
-          (subst (λ (k : Shape). c.args.id.slot < k.slots) (sym (key_at c.deref.ensures c.self.inside.keyed)) lt) have,
+          (rw (key_at c.deref.ensures c.self.inside.keyed) lt) have,
     )
 
 pub invariant_of-self-inside : goal.invariant_of-self-inside
@@ -28,6 +28,6 @@ returns-clause-view c = let one = released-one c.fetch_sub.result c.place_of.res
     search rules
 
 pub returns-clause-steps : goal.returns-clause-steps
-returns-clause-steps c = subst (λ (z : ReaderView). ReleaseStep z c.args.id) (ap (λ w. w.view) c.self.view_is)
-    (released-step c.fetch_sub.result c.place_of.result c.self.inside.seat.me c.fetch_sub.new.seat.me c.args.id
-    c.place_of.ensures c.self.inside.reads c.fetch_sub.ensures.2 (search rules))
+returns-clause-steps c = rw (← c.self.view_is) (released-step c.fetch_sub.result c.place_of.result
+    c.self.inside.seat.me c.fetch_sub.new.seat.me c.args.id c.place_of.ensures c.self.inside.reads c.fetch_sub.ensures.2
+    (search rules))

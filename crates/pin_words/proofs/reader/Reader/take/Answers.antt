@@ -1,4 +1,4 @@
-use Rattle.pin_words.proofs.Cited.{rules, ◌≡◌, ◌∙◌, sym, ap, subst, ◌<◌, ◌≢◌, refl, ℕ, ◌+◌, ◌-◌, length, arith, Shape, decoded, reader_of, reader_looked}
+use Rattle.pin_words.proofs.Cited.{rules, ◌≡◌, ◌∙◌, ap, ◌<◌, refl, ℕ, ◌+◌, ◌-◌, length, arith, decoded, reader_of, reader_looked}
 use Rattle.std.proofs.Math.Seq.{take-append_seam}
 use Rattle.pin_words.proofs.ReaderSteps.{pins-step}
 use Rattle.pin_words.proofs.Calls.{go-means, read-one, got-one, inside-more}
@@ -13,9 +13,8 @@ compare_exchange-seen-requires c =
       pin_at c.self.inside.shape _ _ c.deref.ensures c.self.inside.wide c.self.inside.within c.place_of.ensures lt,
       pins-step _ _ _ _ _ _ _ _ (reader_of c.self.inside.seat.me.0) c.place_of.ensures
           (ap (λ m. m.0.reader) c.self.inside.reads)
-          (subst (λ (k : Shape). c.args.id.slot < k.slots) (sym (key_at c.deref.ensures c.self.inside.keyed)) lt) refl
-          go.0 (subst (λ (k : Shape). (decoded c.args.found).pins ≢ k.max_pins)
-          (sym (key_at c.deref.ensures c.self.inside.keyed)) go.2),
+          (rw (key_at c.deref.ensures c.self.inside.keyed) lt) refl
+          go.0 (rw (key_at c.deref.ensures c.self.inside.keyed) go.2),
     )
 
 pub invariant_of-self-inside-else-seen-found : goal.invariant_of-self-inside-else-seen-found

@@ -1,12 +1,11 @@
-use Rattle.pin_words.proofs.Cited.{rules, ◌≡◌, ◌<◌, ◌∙◌, sym, ap, subst, List, ℕ, Id, decoded, tally, same_id, ReaderView, verdict_of, reader_looked, reader_got, IsHold, TellsReader}
+use Rattle.pin_words.proofs.Cited.{rules, ◌≡◌, ◌<◌, ℕ, Id, decoded, ReaderView, verdict_of, reader_looked, TellsReader}
 use Rattle.pin_words.specs.declared.fault.Verdict.TheVariants as verdict
 use Rattle.pin_words.proofs.Holdings.{got-held}
 use Rattle.pin_words.proofs.Stepping.{load-step, pin-step, hold-after}
 use Rattle.pin_words.proofs.reader.Reader.try_pin.Goals as goal
 
 pub returns-then-seen-found-clause-held : goal.returns-then-seen-found-clause-held
-returns-then-seen-found-clause-held c = let won = c.take-seen.ensures.won c.if-seen-found.true in
-    subst (λ (z : List Id). 0 < tally (same_id c.args.id) z) (ap (λ r. r.held) (sym won)) (got-held c.args.id _)
+returns-then-seen-found-clause-held c = rw (c.take-seen.ensures.won c.if-seen-found.true) (got-held c.args.id _)
 
 pub returns-then-seen-found-clause-pinned : goal.returns-then-seen-found-clause-pinned
 returns-then-seen-found-clause-pinned c =
@@ -17,14 +16,13 @@ returns-then-seen-found-clause-pinned c =
     let go : verdict_of r.shape.max_pins id (decoded n) ≡ verdict.Go = search rules in
     let looked : c.look-found.new.self.view ≡ reader_looked r id.slot n = c.look-found.ensures.view in
     let told : TellsReader (reader_looked r id.slot n) id.slot n =
-    subst (λ (z : ReaderView × ℕ). TellsReader z.0 id.slot z.1) (λ i. (looked i, c.if-seen-found.true i))
-    c.take-seen.ensures.tells in record {
+    rw (looked, c.if-seen-found.true) at c.take-seen.ensures.tells in record {
       word_found = n;
       loads = load-step r id.slot n inside c.look-found.ensures.tells;
       pins = pin-step (reader_looked r id.slot n) id n inside go told;
-      now = c.take-seen.ensures.won c.if-seen-found.true ∙ ap (λ (z : ReaderView). reader_got z id n) looked;
+      now = rw looked at (c.take-seen.ensures.won c.if-seen-found.true);
     }
 
 pub returns-then-seen-found-clause-hold : goal.returns-then-seen-found-clause-hold
 returns-then-seen-found-clause-hold c = let did = returns-then-seen-found-clause-pinned c in
-    subst (λ (z : ReaderView). IsHold z c.args.id) (sym did.now) (hold-after _ c.args.id did.word_found did.pins)
+    rw did.now (hold-after _ c.args.id did.word_found did.pins)
