@@ -26,7 +26,6 @@ last_decides x y m n l same low all whole last = by l last
     by true is = sym (whole ∙ ap (λ (k : ℕ). bytes_eq (drop k x) (drop k y)) (omega arith) ∙ rest)
       where
         rest : bytes_eq (drop (n + (m - n)) x) (drop (n + (m - n)) y) ≡ true
-        rest = ap (λ (z : List ℕ). bytes_eq z (drop (n + (m - n)) y)) (sym (drop-drop (m - n) n x))
-            ∙ ap (λ (z : List ℕ). bytes_eq (drop (m - n) (drop n x)) z) (sym (drop-drop (m - n) n y))
-            ∙ left_same (m - n) (drop n x) (drop n y) (is ∙ ends)
+        rest = rw (← drop-drop (m - n) n x, ← drop-drop (m - n) n y)
+            (left_same (m - n) (drop n x) (drop n y) (is ∙ ends))
     by false is = other (bytes_eq x y) refl is

@@ -13,8 +13,7 @@ moved : (c : After-order-1) → IsMoved c.args.ids.now.entries
     c.args.from c.args.to
 moved c = moves c.args.ids.now.entries c.args.order.now.items c.args.from c.args.to c.index-index.result.now
     (c.in-Some.field-0-0.now, c.in-Some.entered.now) (record { id = c.in-Some.entered.now.id; place = c.args.to })
-    c.requires.ordered c.requires.low c.requires.gap
-    (search (arith, slice_get_read))
+    c.requires.ordered c.requires.low c.requires.gap (search (arith, slice_get_read))
     (sym c.in-Some.ensures.entry) c.if-entered-from.false refl refl
 
 pub returns-clause-ordered : goal.returns-clause-ordered
