@@ -17,25 +17,17 @@ one_if b = cond b 1 0
 counted_first : (p : ℕ → Bool) (x : Bool) (taken : List Bool) (a : ℕ) → p a ≡ not x
     → count_by p (range_with_len (a + 1) (length taken)) + taken_count taken ≡ length taken
     → count_by p (range_with_len a (suc (length taken))) + taken_count (x ∷ taken) ≡ suc (length taken)
-counted_first p true taken a here rest =
-    let none = ap one_if here in
-    search (arith, sum_by-cons)
-counted_first p false taken a here rest =
-    let one = ap one_if here in
-    search (arith, sum_by-cons)
-
-at_first : (a : ℕ) → a ≡ a + 0
-at_first a = omega arith
-
-behind_first : (a k : ℕ) → a + 1 + k ≡ a + suc k
-behind_first a k = omega arith
+counted_first p true taken a here rest = let none = ap one_if here in search (arith, sum_by-cons)
+counted_first p false taken a here rest = let one = ap one_if here in search (arith, sum_by-cons)
 
 counted_range : (p : ℕ → Bool) (taken : List Bool) (a : ℕ)
     → ((k : ℕ) → k < length taken → p (a + k) ≡ not (get_or taken k false))
     → count_by p (range_with_len a (length taken)) + taken_count taken ≡ length taken
 counted_range p [] a same = refl
-counted_range p (x ∷ taken) a same = counted_first p x taken a (ap p (at_first a) ∙ same 0 (omega arith))
-    (counted_range p taken (a + 1) (λ k lt. ap p (behind_first a k) ∙ same (suc k) (omega arith)))
+counted_range p (x ∷ taken) a same =
+    let here : a ≡ a + 0 = omega arith in
+    counted_first p x taken a (ap p here ∙ same 0 (omega arith)) (counted_range p taken (a + 1)
+    (λ k lt. let behind : a + 1 + k ≡ a + suc k = omega arith in ap p behind ∙ same (suc k) (omega arith)))
 
 module _ {B : Type 0} (ss : List (Option B)) (ps : List Phase) (taken : List Bool) (tied : ArenaInvariant ss ps taken) where
   pub length_phases : length ps ≡ length ss
@@ -45,8 +37,7 @@ module _ {B : Type 0} (ss : List (Option B)) (ps : List Phase) (taken : List Boo
   length-taken = search (arith, length-map)
 
   pub occupied_at : (k : ℕ) → is_occupied (get_or ps k Vacant) ≡ is_some (get_or ss k None)
-  occupied_at k = sym (get_or-map is_occupied ps k Vacant) ∙ ap (λ (l : List Bool). get_or l k false) tied.occupied
-      ∙ get_or-map is_some ss k None
+  occupied_at k = rw (← get_or-map is_occupied ps k Vacant, tied.occupied) (get_or-map is_some ss k None)
 
   by_phase : (p : Phase) (s : Option B) → is_occupied p ≡ is_some s → (is_none s && not (is_retired p)) ≡ is_vacant p
   by_phase = search arith
@@ -73,9 +64,12 @@ module _ {B : Type 0} (ss : List (Option B)) (ps : List Phase) (taken : List Boo
     pub phase : get_or ps k Vacant ≡ Vacant
     pub free : slice_get taken k ≡ Some false
 
+  in_use_at : (k : ℕ) → get_or taken k false ≡ is_in_use (get_or ps k Vacant)
+  in_use_at k = rw tied.in_use (get_or-map is_in_use ps k Vacant)
+
   free_at : (k : ℕ) → k < length ss → slice_get taken k ≡ Some (is_in_use (get_or ps k Vacant))
   free_at k lt = slice_get-get_or taken k false (let n = length-taken in omega arith)
-      ∙ ap Some (ap (λ (l : List Bool). get_or l k false) tied.in_use ∙ get_or-map is_in_use ps k Vacant)
+      ∙ ap Some (in_use_at k)
 
   pub free_slot : (k : ℕ) → is_vacant_at (slots_shown ss ps) k ≡ true → IsFree k
   free_slot k h = search (arith, vacant_phase, free_at)
@@ -140,9 +134,8 @@ module _ {B : Type 0} (ss : List (Option B)) (ps : List Phase) (taken : List Boo
   free_is_vacant = search arith
 
   vacant_taken : (k : ℕ) → k < length ss → is_vacant_at (slots_shown ss ps) k ≡ not (get_or taken k false)
-  vacant_taken k lt = vacant_phase k ∙ ap (λ (b : Bool). b && is_vacant (get_or ps k Vacant)) (lt-ltb k (length ss) lt)
-      ∙ sym (free_is_vacant (get_or ps k Vacant)) ∙ ap not
-      (sym (ap (λ (l : List Bool). get_or l k false) tied.in_use ∙ get_or-map is_in_use ps k Vacant))
+  vacant_taken k lt = rw (vacant_phase k, lt-ltb k (length ss) lt, in_use_at k)
+      (sym (free_is_vacant (get_or ps k Vacant)))
 
   -- the numbers that aren't taken are those of the vacant slots
   vacant_and_taken : count_by (is_vacant_at (slots_shown ss ps)) (range_with_len 0 (length ss)) + taken_count taken
@@ -183,12 +176,8 @@ pub map-replicate : {X Y : Type 0} (f : X → Y) (x : X) (n : ℕ) → map f (re
 map-replicate f x zero = refl
 map-replicate f x (suc n) = ap (λ l. f x ∷ l) (map-replicate f x n)
 
--- a new arena, and what is equal to the parts of one
+-- a new arena
 module _ {B : Type 0} where
-  pub retied : (ss ss' : List (Option B)) (ps ps' : List Phase) (taken taken' : List Bool) → ss' ≡ ss → ps' ≡ ps
-      → taken' ≡ taken → ArenaInvariant ss ps taken → ArenaInvariant ss' ps' taken'
-  retied ss ss' ps ps' taken taken' es ep et tied = search arith
-
   pub tied_new : (n : ℕ) → n ≤ 65536
       → ArenaInvariant {B = B} (replicate n None) (replicate n Vacant) (replicate n false)
   tied_new n few = search (arith, map-replicate, length-replicate)

@@ -1,22 +1,21 @@
 -- What the proofs of the functions with a pointer cite, passed on.
 pub use mathlib.Core.Path.{◌≡◌, refl, sym, ap, subst, ◌∙◌}
-pub use Prim.Native.Nat.{ℕ, zero, suc, ◌+◌, ◌*◌, ◌<◌, ◌≤◌, ◌^◌}
+pub use Prim.Native.Nat.{ℕ, zero, suc, ◌+◌, ◌*◌, ◌<◌, ◌^◌}
 pub use native.Mathlib.Omega.{arith}
-pub use native.Mathlib.Nat.{zero-mul, suc-mul}
+pub use native.Mathlib.Nat.{zero-mul}
 pub use mathlib.Core.Bool.{true, false}
-pub use mathlib.Core.List.{List, [], ◌∷◌, ◌++◌, map}
+pub use mathlib.Core.List.{List, [], ◌∷◌, ◌++◌}
 pub use lib.Dec.{T, lit<}
-pub use lib.ListN.{length, take, drop, set, get_or, replicate, take-append-drop, length-take, length-set, length-replicate}
-pub use lib.Seq.{drop-cons, set_split}
+pub use lib.ListN.{length, set, get_or, replicate, length-set, length-replicate}
 pub use seplogic.Ra.Ura.{Ura}
 pub use base.Fraction.{full_share}
-pub use base.Logic.{fst∗, SProp, ent, sep, emp, ex, guard, via, snd∗, never, id⊢}
+pub use base.Logic.{fst∗, SProp, ent, sep, emp, ex, guard, via, never, id⊢}
 pub use base.Fml.{Lft, GName, Share, Fml, Incl, Incl-trans, ftrue, ffalse, fsep, fat, froom, flft, fobs, fbor}
 pub use mir.Syntax.{Ty, Fn, Body, Args, named, w64, a_type, ty_unit, ty_array, dcons, dnil}
 pub use mir.MapTy.{inst_fn}
 pub use mir.Raw.{raw as bare}
 pub use mir.Val.{Val, has_ty, WT, vptr, vint, vunit, vstruct, vcons, vnil, of_list}
-pub use prog.Capped.{capped_is, capped_fits}
+pub use prog.Capped.{capped_fits}
 pub use prog.Memory.{Memory, size, align, capped}
 pub use prog.RawLaws.{size-raw, align-raw}
 pub use prog.Routine.{Routine}
@@ -50,7 +49,7 @@ pub use denote.Shadow.{makes_shadow}
 pub use denote.Shares.{Shares-less}
 pub use denote.Sharing.{ShrLaws, said}
 pub use denote.SharingLaws.{beside_shr_laws, nothing_shr_laws, said_shr_laws}
-pub use denote.Signature.{plain, mut_ref_to}
+pub use denote.Signature.{plain}
 pub use denote.Steps.{nothing, opens, closes, owned, peeks}
 pub use denote.Struct.Laws.{field_copy}
 pub use denote.Struct.Lending.{Lends, Lends-both, Lends-nothing, Lends-said, Lends-false, of_Lends}

@@ -1,6 +1,6 @@
 -- The storage of slots as memory: a slot is taken out of it, put back, or seen; and what values of no bytes, of one
 -- pointer and of three parts are to the machine.
-use Rattle.ob_arena.proofs.Steps.{◌≡◌, refl, sym, ap, subst, ◌∙◌, ℕ, zero, suc, ◌+◌, ◌*◌, ◌<◌, ◌^◌, arith, zero-mul, List, [], ◌∷◌, ◌++◌, length, set, get_or, replicate, Ura, full_share, SProp, ent, sep, emp, ex, guard, via, Fml, Lft, ftrue, fsep, fat, froom, Ty, Args, a_type, ty_array, dcons, dnil, bare, Val, vstruct, vcons, vnil, of_list, size, align, capped, size-raw, align-raw, Logic, sem, fact, fact_i, Item, Goal, Seq, Step, step, prop, ‵, raw, some, ◌⊛◌, ◌$◌, ◌∵◌, !, qed, by, move, keep, skip, use0, use1, use2, pick, split, check, show, frame, fsplit, fjoin, fpick, fpack, feq_i, feq_l, rewrite, done, RattleType, Valss, Typed, Is, shows, param, bounded, layout, Laws, param_laws, part_at, Ptr, RawPtr, ptr_val, makes_shadow, nothing, peeks, Shape, Struct, within, shape, Tuple, tuple_type, part_in, part_out, Option, Some, None, type_size, El, R, el_x, elτ, Good, word}
+use Rattle.ob_arena.proofs.Steps.{◌≡◌, refl, sym, ap, subst, ◌∙◌, ℕ, zero, suc, ◌+◌, ◌*◌, ◌<◌, ◌^◌, arith, zero-mul, List, [], ◌∷◌, ◌++◌, length, set, get_or, replicate, Ura, full_share, SProp, ent, sep, emp, ex, guard, via, Fml, Lft, ftrue, fsep, fat, froom, Ty, Args, a_type, ty_array, dcons, dnil, bare, Val, vstruct, vcons, vnil, of_list, size, align, capped, size-raw, align-raw, Logic, sem, fact, fact_i, Item, Goal, Seq, Step, step, prop, ‵, raw, some, ◌⊛◌, ◌$◌, ◌∵◌, !, qed, by, move, keep, skip, use0, use1, use2, pick, split, check, show, frame, fsplit, fjoin, fpick, fpack, feq_i, feq_l, rewrite, done, RattleType, Valss, Typed, Is, shows, param, bounded, layout, Laws, param_laws, part_at, Ptr, RawPtr, ptr_val, makes_shadow, nothing, peeks, Shape, Struct, within, shape, Tuple, tuple_type, part_in, part_out, Option, Some, None, type_size, El, R, el_x, elτ, Good, word, times_below, one_below}
 use denote.Struct.Declared as Declared
 use Rattle.ob_arena.proofs.Cited.{Al, slot, slots, slot_lent, slots_lent}
 use Rattle.ob_arena.specs.contracts.storage.Storage as StorageType
@@ -129,6 +129,13 @@ filled_within (s ∷ ss) (suc i) x e = omega (arith, filled_within ss i x e)
 pub uncapped : (n k : ℕ) → n * k < 2 ^ 64 → n * capped k ≡ n * k
 uncapped zero k h = zero-mul (capped k) ∙ sym (zero-mul k)
 uncapped (suc n) k h = search arith
+
+-- so do those of a slot, and those before it
+pub slot_bytes : (at n s : ℕ) → at < n → n * s < 2 ^ 63 → (s < 2 ^ 64) × (at * s < 2 ^ 64)
+slot_bytes at n s within small = (
+  omega (arith, one_below n s (2 ^ 63) (omega arith) small),
+  omega (arith, times_below at n s (2 ^ 63) (omega arith) small),
+)
 
 -- the layout that memory for n slots is taken with
 module _ (E : El) where

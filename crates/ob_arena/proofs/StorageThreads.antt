@@ -28,8 +28,7 @@ module _ (B : RattleType) where
   pub storage_send : IsSend B → IsSend (StorageType.the_row B)
   storage_send s =
       let O = StorageType.the_type B in let all : AllSend (fields O) = (search sendable, tt) in
-      owning_send O all (λ d. storage_keyless s d.front d.slots)
-      (search arith)
+      owning_send O all (λ d. storage_keyless s d.front d.slots) (search arith)
 
   pub storage_sync : IsSync B → IsSync (StorageType.the_row B)
   storage_sync y = search (arith, storage_common)
@@ -38,8 +37,7 @@ module _ (B : RattleType) where
     pub title_send : Frees g g.dealloc_token → IsSend (TitleType.the_row B A g)
     title_send f =
         let O = TitleType.the_type B A g in let all : AllSend (fields O) = (search sendable, tt) in
-        owning_send O all (λ d. f.frees d.alloc _ d.front)
-        (search arith)
+        owning_send O all (λ d. f.frees d.alloc _ d.front) (search arith)
 
     pub title_sync : IsSync (TitleType.the_row B A g)
     title_sync = search arith

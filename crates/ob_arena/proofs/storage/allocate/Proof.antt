@@ -25,10 +25,7 @@ module _ (E : El) (Z : Al) where
   TitleOf = TitleType.the_row (R E) (Heap E Z) Z.g
 
   abbrev stayed : Stays ended.signature.params ended.kept
-  stayed = (
-    stay_dropped (RefOf (0 ∷ []) tt (plain (λ _. Heap E Z)) (λ _. tt)) yes,
-    (stay_dropped (plain (λ _. usize)) yes, tt),
-  )
+  stayed = (stay_dropped _ yes, (stay_dropped _ yes, tt))
 
   abbrev Three : RattleType
   Three = Tuple (FrontOf E ∷ StorageOf E ∷ TitleOf ∷ [])

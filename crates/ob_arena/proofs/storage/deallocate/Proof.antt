@@ -23,14 +23,8 @@ module _ (E : El) (Z : Al) where
 
   abbrev stayed : Stays ended.signature.params ended.kept
   stayed = (
-    stay_dropped (RefOf (0 ∷ []) tt (plain (λ _. Heap E Z)) (λ _. tt)) yes,
-    (
-      stay_dropped (plain (λ _. FrontOf E)) no,
-      (
-        stay_dropped (plain (λ _. usize)) yes,
-        (stay_dropped (plain (λ _. StorageOf E)) no, (stay_dropped (plain (λ _. TitleOf)) no, tt)),
-      ),
-    ),
+    stay_dropped _ yes,
+    (stay_dropped _ no, (stay_dropped _ yes, (stay_dropped _ no, (stay_dropped _ no, tt)))),
   )
 
   abbrev Asks : Z.row.Denot → (FrontOf E).Denot → ℕ → (StorageOf E).Denot → TitleOf.Denot → Type 0

@@ -1,7 +1,7 @@
 -- `fill` writes a body into a slot that is empty.
-use Rattle.ob_arena.proofs.Steps.{◌≡◌, refl, sym, subst, ◌∙◌, ℕ, ◌+◌, ◌*◌, ◌<◌, ◌^◌, arith, List, [], ◌∷◌, ◌++◌, length, set, get_or, length-set, Ura, full_share, SProp, ent, never, id⊢, Lft, GName, Share, ftrue, fat, flft, fobs, fbor, Fn, named, w64, inst_fn, Val, vptr, vint, vunit, Env, Calls, Loops, WpFn, Tables, Logic, fact, tables, tables_of, WpFn-mono, Borrowed, Item, at_ret, ⋆, ‵, ◌⊛◌, ◌$◌, ◌∵◌, !, qed, by, move, keep, use1, use2, split, join, rewrite, fsplit, fsplit3, fjoin, fjoin3, feq_i, feq_l, flt_l, flt_i, suffices, frame, done, whole, sub, init, stop, fld, unit_lit, of_opd, bin, size_lit, assigns_last, first, blocks, exec, returns, enter, alloc_all, pass_all, free_all, look_at, get, get_in, through, sets, take_at, give_at, env, RefMutOf, unit, usize, yes, no, mem, layout, owns, Ptr, in_a_block, MutBor, MutRef, plain, nothing, opens, closes, spared, Clauses, Ended, closing, on_entry, Meets, triple_of, entered, run_framed, says, needs, Stays, stay_dropped, stay_ref, walk_of, ends_at, Goes-dropped, Goes-ref, walk_Meets, Some, None, El, R, args, elτ, times_below, one_below, as_written, Good, word, word-Good, after}
+use Rattle.ob_arena.proofs.Steps.{◌≡◌, refl, sym, subst, ◌∙◌, ℕ, ◌+◌, ◌*◌, ◌<◌, ◌^◌, List, [], ◌∷◌, ◌++◌, length, set, get_or, length-set, Ura, full_share, SProp, ent, never, id⊢, Lft, GName, Share, ftrue, fat, flft, fobs, fbor, Fn, named, w64, inst_fn, Val, vptr, vint, vunit, Env, Calls, Loops, WpFn, Tables, Logic, fact, tables, tables_of, WpFn-mono, Borrowed, Item, at_ret, ⋆, ‵, ◌⊛◌, ◌$◌, ◌∵◌, !, qed, by, move, keep, use1, use2, split, join, rewrite, fsplit, fsplit3, fjoin, fjoin3, feq_i, feq_l, flt_l, flt_i, suffices, frame, done, whole, sub, init, stop, fld, unit_lit, of_opd, bin, size_lit, assigns_last, first, blocks, exec, returns, enter, alloc_all, pass_all, free_all, look_at, get, get_in, through, sets, take_at, give_at, env, RefMutOf, unit, usize, yes, no, mem, layout, owns, Ptr, in_a_block, MutBor, MutRef, plain, nothing, opens, closes, spared, Clauses, Ended, closing, on_entry, Meets, triple_of, entered, run_framed, says, needs, Stays, stay_dropped, stay_ref, walk_of, ends_at, Goes-dropped, Goes-ref, walk_Meets, Some, None, El, R, args, elτ, as_written, Good, word, word-Good, after}
 use Rattle.ob_arena.specs.Memory.{slot, slots, storage_owns}
-use Rattle.ob_arena.proofs.StorageMemory.{StorageOf, FrontOf, sz, Slot, pointer_had, body_in, body_had, Others, slot_out, slot_in}
+use Rattle.ob_arena.proofs.StorageMemory.{StorageOf, FrontOf, sz, Slot, pointer_had, body_in, body_had, Others, slot_out, slot_in, slot_bytes}
 use Rattle.ob_arena.specs.contracts.storage.Storage.fill.Key.{name as #self}
 use Rattle.ob_arena.proofs.storage.Storage.fill.Statement as stated
 use Rattle.ob_arena.proofs.storage.Storage.fill.Code as code
@@ -23,16 +23,7 @@ module _ (E : El) where
   }
 
   abbrev stayed : Stays ended.signature.params ended.kept
-  stayed = (
-    stay_ref (0 ∷ []) tt (plain (λ _. StorageOf E)),
-    (
-      stay_dropped (plain (λ _. FrontOf E)) no,
-      (
-        stay_dropped (plain (λ _. usize)) no,
-        (stay_dropped (plain (λ _. R E)) no, tt),
-      ),
-    ),
-  )
+  stayed = (stay_ref (0 ∷ []) tt (plain (λ _. StorageOf E)), (stay_dropped _ no, (stay_dropped _ no, (stay_dropped _ no, tt))))
 
   abbrev Asks : (StorageOf E).Denot → (FrontOf E).Denot → ℕ → Type 0
   Asks storage front at = (front.first ≡ storage.front) × (at < length storage.slots)
@@ -95,18 +86,12 @@ module _ (E : El) {M : Type 1} {𝓤 : Ura M} (𝓛 : Logic 𝓤) (C : Calls �
       opens ! tt (StorageOf E) {h = storage} rb ro (λ vs. move ! (1 ∷ []) $ fsplit ! $ move ! (1 ∷ []) $
       in_a_block ! storage.front (λ p. storage_owns (R E) p storage.slots) (id⊢ 𝓤 (never 𝓤)) (λ b o e. fsplit ! $
       flt_l ! (λ small.
-      let s = sz E in let tiny : s < 2 ^ 64 = omega (
-        arith,
-        one_below (length storage.slots) s (2 ^ 63) (omega arith) small,
-      ) in
-      let far : at * s < 2 ^ 64 = omega (arith, times_below at (length storage.slots) s (2 ^ 63) (omega arith) small) in
+      let s = sz E in let bytes = slot_bytes at (length storage.slots) s within small in
       -- the pointer, at the slot
       take_at ! 2 $ rewrite ! 0 (λ (p : Ptr). ‵ (fat full_share (layout (FrontOf E)) (l 2) 0 (word p))) (asked.0
       ∙ e) refl $ give_at ! 2 $ first ! $ blocks ! $
-      sets ! (bin ! (get ! refl) (size_lit ! (record { fits = tiny })) (record { fits = far })) refl (
-        tt,
-        record { fits = far },
-      ) $
+      sets ! (bin ! (get ! refl) (size_lit ! (record { fits = bytes.0 })) (record { fits = bytes.1 })) refl
+      (tt, record { fits = bytes.1 }) $
       sets ! (bin ! (get_in ! (fld ! refl (stop !)) (sub ! 0 refl (whole !))) (get ! refl) tt) refl (tt, tt) $
       -- the room of the slot, and the write
       use1 𝓛 (‵ (slot (R E) b (at * s + o) (get_or storage.slots at None)) ⊛ ‵ (Others E 𝓛 b o storage.slots at))

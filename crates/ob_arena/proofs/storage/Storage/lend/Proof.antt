@@ -1,8 +1,8 @@
 -- `lend` gives a `&mut` to a body, and the storage follows what is written there.
-use Rattle.ob_arena.proofs.Steps.{◌≡◌, refl, sym, subst, ◌∙◌, ℕ, ◌+◌, ◌*◌, ◌<◌, ◌^◌, arith, List, [], ◌∷◌, ◌++◌, length, set, get_or, length-set, Ura, full_share, SProp, ent, sep, never, id⊢, Lft, GName, Share, Fml, ftrue, fsep, fat, flft, fobs, fbor, Fn, named, w64, inst_fn, Val, vptr, vint, Env, Calls, Loops, WpFn, Tables, Logic, sem, fact, tables, tables_of, WpFn-mono, Borrowed, Item, at_ret, ⋆, ‵, raw, ◌⊛◌, some, later, await, pick, group, ◌$◌, ◌∵◌, !, qed, by, move, keep, use1, use2, split, join, rewrite, fsplit, fsplit3, fjoin, fjoin3, fpack, feq_l, flt_l, flt_i, suffices, frame, done, whole, sub, stop, fld, of_opd, bin, size_lit, addr, first, blocks, exec, returns, enter, alloc_all, pass_all, free_all, look_at, get, get_in, through, sets, sets_last, take_at, give_at, env, RefMutOf, usize, no, mem, cell_at, part_of, layout, owns, Ptr, block_ptr, in_a_block, MutBor, MutRef, plain, mut_ref_to, nothing, opens, spared, follows, Part, lends_Part, Clauses, Ended, closing, on_entry, Meets, triple_of, entered, run_framed, says, needs, Stays, stay_dropped, walk_of, ends_at, Goes-dropped, Goes-spent_ref, walk_Meets, Some, None, El, R, args, el_x, times_below, one_below, word, word-Good, after}
+use Rattle.ob_arena.proofs.Steps.{◌≡◌, refl, sym, subst, ◌∙◌, ℕ, ◌+◌, ◌*◌, ◌<◌, ◌^◌, List, [], ◌∷◌, ◌++◌, length, set, get_or, length-set, Ura, full_share, SProp, ent, sep, never, id⊢, Lft, GName, Share, Fml, ftrue, fsep, fat, flft, fobs, fbor, Fn, named, w64, inst_fn, Val, vptr, vint, Env, Calls, Loops, WpFn, Tables, Logic, sem, fact, tables, tables_of, WpFn-mono, Borrowed, Item, at_ret, ⋆, ‵, raw, ◌⊛◌, some, later, await, pick, group, ◌$◌, ◌∵◌, !, qed, by, move, keep, use1, use2, split, join, rewrite, fsplit, fsplit3, fjoin, fjoin3, fpack, feq_l, flt_l, flt_i, suffices, frame, done, whole, sub, stop, fld, of_opd, bin, size_lit, addr, first, blocks, exec, returns, enter, alloc_all, pass_all, free_all, look_at, get, get_in, through, sets, sets_last, take_at, give_at, env, RefMutOf, usize, no, mem, cell_at, part_of, layout, owns, Ptr, block_ptr, in_a_block, MutBor, MutRef, plain, nothing, opens, spared, follows, Part, lends_Part, Clauses, Ended, closing, on_entry, Meets, triple_of, entered, run_framed, says, needs, Stays, stay_dropped, walk_of, ends_at, Goes-dropped, Goes-spent_ref, walk_Meets, Some, None, El, R, args, el_x, word, word-Good, after}
 use Rattle.ob_arena.proofs.Cited.{IsFilled, slot, slots, storage_owns}
 use Rattle.ob_arena.specs.StorageLends.{with_slots}
-use Rattle.ob_arena.proofs.StorageMemory.{StorageOf, FrontOf, Mark, sz, Slot, pointer_had, filled_within, Others, slot_out, slot_in}
+use Rattle.ob_arena.proofs.StorageMemory.{StorageOf, FrontOf, Mark, sz, Slot, pointer_had, filled_within, Others, slot_out, slot_in, slot_bytes}
 use Rattle.ob_arena.specs.contracts.storage.Storage.lend.Key.{name as #self}
 use Rattle.ob_arena.proofs.storage.Storage.lend.Statement as stated
 use Rattle.ob_arena.proofs.storage.Storage.lend.Code as code
@@ -24,10 +24,7 @@ module _ (E : El) where
   }
 
   abbrev stayed : Stays ended.signature.params ended.kept
-  stayed = (
-    stay_dropped (mut_ref_to (0 ∷ []) tt (plain (λ _. StorageOf E))) no,
-    (stay_dropped (plain (λ _. FrontOf E)) no, (stay_dropped (plain (λ _. usize)) no, tt)),
-  )
+  stayed = (stay_dropped _ no, (stay_dropped _ no, (stay_dropped _ no, tt)))
 
   abbrev Asks : (StorageOf E).Denot → (FrontOf E).Denot → ℕ → Type 0
   Asks storage front at = (front.first ≡ storage.front) × IsFilled storage.slots at
@@ -107,18 +104,12 @@ module _ (E : El) {M : Type 1} {𝓤 : Ura M} (𝓛 : Logic 𝓤) (C : Calls �
       opens ! tt (StorageOf E) {h = storage} rb ro (λ vs. move ! (1 ∷ []) $ fsplit ! $ move ! (1 ∷ []) $
       in_a_block ! storage.front (λ p. storage_owns (R E) p storage.slots) (id⊢ 𝓤 (never 𝓤)) (λ b o e. fsplit ! $
       flt_l ! (λ small.
-      let s = sz E in let tiny : s < 2 ^ 64 = omega (
-        arith,
-        one_below (length storage.slots) s (2 ^ 63) (omega arith) small,
-      ) in
-      let far : at * s < 2 ^ 64 = omega (arith, times_below at (length storage.slots) s (2 ^ 63) (omega arith) small) in
+      let s = sz E in let bytes = slot_bytes at (length storage.slots) s within small in
       -- the pointer, at the slot
       take_at ! 2 $ rewrite ! 0 (λ (p : Ptr). ‵ (fat full_share (layout (FrontOf E)) (l 2) 0 (word p))) (asked.0
       ∙ e) refl $ give_at ! 2 $ first ! $ blocks ! $
-      sets ! (bin ! (get ! refl) (size_lit ! (record { fits = tiny })) (record { fits = far })) refl (
-        tt,
-        record { fits = far },
-      ) $
+      sets ! (bin ! (get ! refl) (size_lit ! (record { fits = bytes.0 })) (record { fits = bytes.1 })) refl
+      (tt, record { fits = bytes.1 }) $
       sets ! (bin ! (get_in ! (fld ! refl (stop !)) (sub ! 0 refl (whole !))) (get ! refl) tt) refl (tt, tt) $
       -- the body of the slot, and the loan
       use1 𝓛 (‵ (slot (R E) b (at * s + o) (get_or storage.slots at None)) ⊛ ‵ (Others E 𝓛 b o storage.slots at))

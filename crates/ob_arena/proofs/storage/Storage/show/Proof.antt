@@ -1,7 +1,7 @@
 -- `show` gives a `&` to the body that the storage lends.
-use Rattle.ob_arena.proofs.Steps.{◌≡◌, refl, sym, subst, ◌∙◌, ℕ, ◌+◌, ◌*◌, ◌<◌, ◌^◌, arith, List, [], ◌∷◌, ◌++◌, length, get_or, Ura, full_share, SProp, ent, never, id⊢, Lft, Share, ftrue, fat, flft, Fn, named, w64, inst_fn, Val, vptr, vint, Env, Calls, Loops, WpFn, Tables, Logic, fact, tables, tables_of, WpFn-mono, Item, at_ret, ⋆, ‵, ◌⊛◌, ◌$◌, ◌∵◌, !, qed, by, move, keep, skip, use1, split, join, rewrite, fsplit, fjoin, feq_i, feq_l, flt_l, suffices, frame, done, whole, sub, stop, fld, of_opd, bin, size_lit, addr, first, blocks, exec, returns, enter, alloc_all, pass_all, free_all, look_at, get, get_in, through, sets, sets_last, take_at, give_at, env, RefOf, usize, yes, no, hidden_shr, hide, unhide, layout, owns, Ptr, in_a_block, Bor, ShrRef, plain, nothing, spared, Clauses, Ended, closing, on_entry, Meets, triple_of, entered, run_framed, says, needs, Stays, stay_dropped, walk_of, ends_at, Goes-dropped, walk_Meets, Some, None, El, R, args, el_x, times_below, one_below, word, word-Good, after}
+use Rattle.ob_arena.proofs.Steps.{◌≡◌, refl, sym, subst, ◌∙◌, ℕ, ◌+◌, ◌*◌, ◌<◌, ◌^◌, List, [], ◌∷◌, ◌++◌, length, get_or, Ura, full_share, SProp, ent, never, id⊢, Lft, Share, ftrue, fat, flft, Fn, named, w64, inst_fn, Val, vptr, vint, Env, Calls, Loops, WpFn, Tables, Logic, fact, tables, tables_of, WpFn-mono, Item, at_ret, ⋆, ‵, ◌⊛◌, ◌$◌, ◌∵◌, !, qed, by, move, keep, skip, use1, split, join, rewrite, fsplit, fjoin, feq_i, feq_l, flt_l, suffices, frame, done, whole, sub, stop, fld, of_opd, bin, size_lit, addr, first, blocks, exec, returns, enter, alloc_all, pass_all, free_all, look_at, get, get_in, through, sets, sets_last, take_at, give_at, env, RefOf, usize, yes, no, hidden_shr, hide, unhide, layout, owns, Ptr, in_a_block, Bor, ShrRef, plain, nothing, spared, Clauses, Ended, closing, on_entry, Meets, triple_of, entered, run_framed, says, needs, Stays, stay_dropped, walk_of, ends_at, Goes-dropped, walk_Meets, Some, None, El, R, args, el_x, word, word-Good, after}
 use Rattle.ob_arena.proofs.Cited.{IsFilled, slot_lent, storage_lends}
-use Rattle.ob_arena.proofs.StorageMemory.{StorageOf, FrontOf, sz, Slot, pointer_had, filled_within, slot_seen}
+use Rattle.ob_arena.proofs.StorageMemory.{StorageOf, FrontOf, sz, Slot, pointer_had, filled_within, slot_seen, slot_bytes}
 use Rattle.ob_arena.specs.contracts.storage.Storage.show.Key.{name as #self}
 use Rattle.ob_arena.proofs.storage.Storage.show.Statement as stated
 use Rattle.ob_arena.proofs.storage.Storage.show.Code as code
@@ -23,10 +23,7 @@ module _ (E : El) where
   }
 
   abbrev stayed : Stays ended.signature.params ended.kept
-  stayed = (
-    stay_dropped (RefOf (0 ∷ []) tt (plain (λ _. StorageOf E)) (λ _. tt)) yes,
-    (stay_dropped (plain (λ _. FrontOf E)) no, (stay_dropped (plain (λ _. usize)) no, tt)),
-  )
+  stayed = (stay_dropped _ yes, (stay_dropped _ no, (stay_dropped _ no, tt)))
 
   abbrev Asks : (StorageOf E).Denot → (FrontOf E).Denot → ℕ → Type 0
   Asks storage front at = (front.first ≡ storage.front) × IsFilled storage.slots at
@@ -75,18 +72,12 @@ module _ (E : El) {M : Type 1} {𝓤 : Ura M} (𝓛 : Logic 𝓤) (C : Calls �
       let En : Env 𝓤 H = env (function E).locals l in
       unhide ! $ fsplit ! $ skip ! $ in_a_block ! storage.front (λ p. storage_lends (R E) p storage.slots κ)
       (id⊢ 𝓤 (never 𝓤)) (λ b o e. fsplit ! $ flt_l ! (λ small.
-      let s = sz E in let tiny : s < 2 ^ 64 = omega (
-        arith,
-        one_below (length storage.slots) s (2 ^ 63) (omega arith) small,
-      ) in
-      let far : at * s < 2 ^ 64 = omega (arith, times_below at (length storage.slots) s (2 ^ 63) (omega arith) small) in
+      let s = sz E in let bytes = slot_bytes at (length storage.slots) s within small in
       -- the pointer, at the slot
       take_at ! 2 $ rewrite ! 0 (λ (p : Ptr). ‵ (fat full_share (layout (FrontOf E)) (l 2) 0 (word p))) (asked.0
       ∙ e) refl $ give_at ! 2 $ first ! $ blocks ! $
-      sets ! (bin ! (get ! refl) (size_lit ! (record { fits = tiny })) (record { fits = far })) refl (
-        tt,
-        record { fits = far },
-      ) $
+      sets ! (bin ! (get ! refl) (size_lit ! (record { fits = bytes.0 })) (record { fits = bytes.1 })) refl
+      (tt, record { fits = bytes.1 }) $
       sets ! (bin ! (get_in ! (fld ! refl (stop !)) (sub ! 0 refl (whole !))) (get ! refl) tt) refl (tt, tt) $
       -- the body that is lent
       use1 𝓛 (‵ (slot_lent (R E) b (at * s + o) (get_or storage.slots at None) κ))
