@@ -4,9 +4,6 @@ use Rattle.std.proofs.lemmas.Grind.{common_steps}
 use Rattle.pin_core.specs.Descrs.{same_descr}
 use Rattle.pin_core.proofs.Holding.{release-count}
 
-same_of_id : (id x : Id) → same_id id x ≡ true → x ≡ id
-same_of_id id x e = search arith
-
 -- a copy more
 pub holds-more : (w : WorldState) (r : ℕ) (held : List Id) (id : Id) (k : ℕ) → HoldsJust w r held → (x : Id)
     → tally (is_copy r x) (with_hold (hold_of r id k) w.holders) ≡ tally (same_id x) (held ++ id ∷ [])
@@ -21,11 +18,10 @@ pub holds-less : (w : WorldState) (r : ℕ) (held : List Id) (id : Id) → IsSaf
     → (x : Id) → tally (is_copy r x) (drop_first (is_hold (last_copy w r id)) w.holders)
     ≡ tally (same_id x) (drop_last (same_id id) held)
 holds-less w r held id safe h have x = let c = release-count w r id safe have (is_copy r x) in
-    let same : weight (is_copy r x (last_copy w r id)) ≡ weight (same_id x id) =
-    search arith in
+    let same : weight (is_copy r x (last_copy w r id)) ≡ weight (same_id x id) = search arith in
     let some_there : 0 < tally (same_id id) held = (let e = h id in omega arith) in
     let d = count-drop_last (same_id x) (same_id id) (same_id x id) held
-    (λ y e. ap (same_id x) (same_of_id id y e)) some_there in
+    (λ y e. let same : y ≡ id = search arith in ap (same_id x) same) some_there in
     let e = h x in omega arith
 
 pub holds-same-less : (w : WorldState) (q r : ℕ) (id : Id) → IsSafe w → 0 < copies w r id → r ≢ q → (x : Id)
@@ -40,9 +36,6 @@ count-in : (p q : Id → Bool) (xs : List Id) → ((x : Id) → 0 < tally (same_
 count-in p q [] h = omega arith
 count-in p q (y ∷ ys) h = search (arith, count-in p q ys (λ x have. h x (omega arith)))
 
-is-there : (s g : ℕ) (x : Id) → x.slot ≡ s → g ≡ x.generation → same_id record { slot = s; generation = g } x ≡ true
-is-there s g x a b = search arith
-
 -- a reader has no more copies at a slot than the slot has pins
 pub held-le-pins : (w : WorldState) (r s : ℕ) (held : List Id) → IsSafe w → HoldsJust w r held
     → tally (is_of_slot s) held ≤ pins w s
@@ -50,7 +43,8 @@ held-le-pins w r s held safe h =
     let all : tally (is_of_slot s) held ≤ tally (same_id (id_at w s)) held = count-in (is_of_slot s)
     (same_id (id_at w s)) held
     (λ x have e. let there = eqb-true x.slot s e in let known = safe.held r x (let c = h x in omega arith) in
-    is-there s (at w s).generation x there (ap (λ (z : ℕ). (at w z).generation) (sym there) ∙ known.1)) in
+    let gen : (at w s).generation ≡ x.generation = ap (λ (z : ℕ). (at w z).generation) (sym there) ∙ known.1 in
+    search arith) in
     let own = h (id_at w s) in let le = copies-le-pins w r (id_at w s) in omega arith
 
 pub has-copies : (w : WorldState) (r : ReaderView) (x : Id) → HoldsJust w r.number r.held → 0 < tally (same_id x) r.held

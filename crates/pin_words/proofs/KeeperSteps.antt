@@ -5,7 +5,7 @@ use Rattle.pin_core.specs.declared.word.Phase.{Phase}
 use Rattle.pin_core.specs.Descrs as descr_code
 use Rattle.pin_words.proofs.Bits.{publish-or, close-or}
 use Rattle.pin_words.proofs.Apart.{few, apart, unlike, pin-set, descr-set}
-use Rattle.pin_words.proofs.Steps.{keeper-at, placed, step-shown, still-shown, few-pins, found-is, past-here, in-shape, turn-keeper, turn-keeper-to, looks-stay, notes-stay, at-slot}
+use Rattle.pin_words.proofs.Steps.{keeper-at, step-shown, still-shown, few-pins, found-is, past-here, in-shape, turn-keeper, turn-keeper-to, looks-stay, notes-stay, at-slot}
 
 -- the keeper, at its seat, and a slot
 module _ (k : Shape) (s : Table) (W : WorldState) (sh : IsShown k s W) (id i : ℕ) (v : View) (kv : KeeperView)
@@ -25,7 +25,8 @@ module _ (k : Shape) (s : Table) (W : WorldState) (sh : IsShown k s W) (id i : �
       → ((j : ℕ) → j < k.slots → get_or (set s.words wi n) (descr_place j) 0
       ≡ descr_code.encoded (get_or (set W.slots i x) j opening_slot).descr)
       → descr_code.IsGiven x.descr → NotAhead W ls
-      → IsShown k (after_step s wi n id (view (Some (keeper_with kv (set W.slots i x) ps ls)) v.reader)) (moved W i x ps)
+      → IsShown k (after_step s wi n id (view (Some (keeper_with kv (set W.slots i x) ps ls)) v.reader))
+      (moved W i x ps)
   keeper-goes wi n e x ps ls can becomes more words descrs descr-given looks =
       let w' : WorldState = moved W i x ps in
       let mine = keeper-at k s W sh id v kv seated is in
@@ -35,8 +36,8 @@ module _ (k : Shape) (s : Table) (W : WorldState) (sh : IsShown k s W) (id i : �
       let up : (j : ℕ) → age (at W j) ≤ age (at w' j) = grind (arith, nat_tests, at_place) in
       let readers : (j : ℕ) (r : ReaderView) → OfReader W sh.next sh.owner j r → OfReader w' sh.next sh.owner j r =
       λ j r a. search (arith, looks-stay, notes-stay) in
-      step-shown k s W sh id wi n _ w' sh.shape (subst IsSafe becomes (safe_kept W e sh.safe can)) words descrs given-still
-      (search (arith, looks-stay), IfSome_then v.reader (sh.each id v seated).1 (readers id))
+      step-shown k s W sh id wi n _ w' sh.shape (subst IsSafe becomes (safe_kept W e sh.safe can)) words descrs
+      given-still (search (arith, looks-stay), IfSome_then v.reader (sh.each id v seated).1 (readers id))
       (λ j u other a. (
         IfSome_then u.keeper a.0 (λ q b. absurd (other (b.mine ∙ sym mine.mine))),
         IfSome_then u.reader a.1 (readers j),
@@ -89,8 +90,8 @@ module _ (k : Shape) (s : Table) (W : WorldState) (sh : IsShown k s W) (id i : �
       let x : ℕ = descr_code.encoded d in
       let wide : length W.slots ≡ W.shape.slots = sh.safe.wide in
       let fit : i < W.shape.slots = in-shape k s W sh i inside in
-      rw (mine.slots, mine.published) (keeper-goes (descr_place i) _ (StoreDescr i d) (with_descr (at W i) d) W.published
-      kv.looks (may_store W i d fit (found Free free).0) refl (λ y d. omega arith)
+      rw (mine.slots, mine.published) (keeper-goes (descr_place i) _ (StoreDescr i d) (with_descr (at W i) d)
+      W.published kv.looks (may_store W i d fit (found Free free).0) refl (λ y d. omega arith)
       (λ j h. let was = sh.words j h in
       let new = get_or-set_other s.words (descr_place i) (place_of j) x 0 (unlike j i) in
       grind (arith, nat_tests, at_place))
@@ -129,8 +130,7 @@ sets-bit : (k : Shape) (slots id i p bit : ℕ) (me : M) (v : KeeperView) (f : K
     → IsShown k (after_step s (place_of i) (bit_or (word s i) bit) id (view (Some (f v i)) me.0.reader)) (after W e))
     → Allows (Shown k) slots id me p (λ n. bit_or n bit) (λ n m'. AtSlot p (KeptAs f me m'))
 sets-bit k slots id i p bit me v f e at is inside shown =
-    placed k slots id p (place_of i) bit 0 me (λ n. bit_or n bit) (λ st m n m'. AtSlot st.word (KeptAs f m m')) at.is
-    (λ s known deep seated small. (
+    rw at.is (λ s known deep seated small. (
       view (option_map (λ z. f z i) me.0.keeper) me.0.reader,
       keeps,
       tt,
@@ -138,19 +138,17 @@ sets-bit k slots id i p bit me v f e at is inside shown =
       at-slot k i _ known.1.fits inside refl,
     ))
 
-pub publishes-step : (k : Shape) (slots id i p : ℕ) (me : M) (v : KeeperView) → IsPlace place_of p i → me.0.keeper ≡ Some v
-    → i < k.slots → (slot_of v.slots i).phase ≡ Free
+pub publishes-step : (k : Shape) (slots id i p : ℕ) (me : M) (v : KeeperView) → IsPlace place_of p i
+    → me.0.keeper ≡ Some v → i < k.slots → (slot_of v.slots i).phase ≡ Free
     → Allows (Shown k) slots id me p (λ n. bit_or n 1073741824) (published (step slots p 1073741824 0 none) me)
 publishes-step k slots id i p me v at is inside free =
-    sets-bit k slots id i p 1073741824 me v keeper_published (Publish i) at is inside
-    (search (arith, keeper-publishes))
+    sets-bit k slots id i p 1073741824 me v keeper_published (Publish i) at is inside (search (arith, keeper-publishes))
 
 pub closes-step : (k : Shape) (slots id i p : ℕ) (me : M) (v : KeeperView) → IsPlace place_of p i → me.0.keeper ≡ Some v
     → i < k.slots → (slot_of v.slots i).phase ≡ Live
     → Allows (Shown k) slots id me p (λ n. bit_or n 2147483648) (closed (step slots p 2147483648 0 none) me)
 closes-step k slots id i p me v at is inside live =
-    sets-bit k slots id i p 2147483648 me v keeper_closed (CloseSlot i) at is inside
-    (search (arith, keeper-closes))
+    sets-bit k slots id i p 2147483648 me v keeper_closed (CloseSlot i) at is inside (search (arith, keeper-closes))
 
 pub stores-step : (k : Shape) (slots id i x : ℕ) (me : M) (v : KeeperView) (d : Descr) → me.0.keeper ≡ Some v
     → i < k.slots → (slot_of v.slots i).phase ≡ Free → descr_code.IsGiven d → x ≡ descr_code.encoded d
@@ -191,8 +189,7 @@ pub reclaims-step : (k : Shape) (slots id i p old new : ℕ) (me : M) (v : Keepe
     → new ≡ next_word k.max_gen (slot_of v.slots i)
     → Allows (Shown k) slots id me p (λ n. either (eqb n old) new n) (reclaiming (step slots p old new none) me)
 reclaims-step k slots id i p old new me v at is inside closing old-is new-is =
-    placed k slots id p (place_of i) old new me (λ n. either (eqb n old) new n) reclaiming at.is
-    (λ s (W, sh) deep seated small. let n : ℕ = word s i in
+    rw at.is (λ s (W, sh) deep seated small. let n : ℕ = word s i in
     exchanged n old new
     (λ x. (w : View) × (a : Act (Unit {0})) × Valid s.homes me.1 a × Shown k (stepped s (place_of i) x id me.1 w a)
     × reclaiming (step slots (place_of i) old new none) me n (w, carried_after me.1 a))

@@ -17,29 +17,31 @@ law-pin k s w j i v r sh here inside live room = grind (arith, nat_tests, reader
 
 held-inside : (k : Shape) (s : Table) (w : WorldState) (sh : IsShown k s w) (j : ℕ) (v : View) (r : ReaderView)
     (id : Id) → ReaderAt s j v r → 0 < tally (same_id id) r.held → (id.slot < k.slots) × (0 < copies w r.number id)
-held-inside k s w sh j v r id here have = let mine =
-    reader-at k s w sh j v r here.seated here.part in
-    let c = has-copies w r id mine.held have in
+held-inside k s w sh j v r id here have =
+    let c = has-copies w r id (reader-at k s w sh j v r here.seated here.part).held have in
     (subst (λ (z : Shape). id.slot < z.slots) sh.shape (sh.safe.held r.number id c).0, c)
 
 pub law-release : ReleaseSteps
-law-release k s w j v r id sh here have = let known = held-inside k s w sh j v r id here have in search (arith, reader-releases)
+law-release k s w j v r id sh here have = let known = held-inside k s w sh j v r id here have in
+    search (arith, reader-releases)
 
 pub law-read : ReadSteps
 law-read k s w j v r id d sh here have is = let known = held-inside k s w sh j v r id here have in
     let same : (at w id.slot).descr ≡ d = search arith in search (arith, may_read, reader-notes)
 
 pub law-publish : PublishSteps
-law-publish k s w j i v q sh here inside free = record {
-  can = (may_publish w i (in-shape k s w sh i inside) (found k s w sh j i v q here.seated here.part inside Free free).0, refl);
-  shown = keeper-publishes k s w sh j i v q here.seated here.part inside free;
-}
+law-publish k s w j i v q sh here inside free =
+    let there = found k s w sh j i v q here.seated here.part inside Free free in record {
+      can = (may_publish w i (in-shape k s w sh i inside) there.0, refl);
+      shown = keeper-publishes k s w sh j i v q here.seated here.part inside free;
+    }
 
 pub law-close : CloseSteps
-law-close k s w j i v q sh here inside live = record {
-  can = (may_close w i (in-shape k s w sh i inside) (found k s w sh j i v q here.seated here.part inside Live live).0, refl);
-  shown = keeper-closes k s w sh j i v q here.seated here.part inside live;
-}
+law-close k s w j i v q sh here inside live =
+    let there = found k s w sh j i v q here.seated here.part inside Live live in record {
+      can = (may_close w i (in-shape k s w sh i inside) there.0, refl);
+      shown = keeper-closes k s w sh j i v q here.seated here.part inside live;
+    }
 
 pub law-reclaim : ReclaimSteps
 law-reclaim k s w j i v q sh here inside closing hit = search (arith, keeper-reclaims)
@@ -54,17 +56,16 @@ law-reclaim-failed k s w j i n v q sh here inside closing miss = (
 )
 
 pub law-store : StoreSteps
-law-store k s w j i v q d sh here inside free valid = record {
-  can = (may_store w i d (in-shape k s w sh i inside) (found k s w sh j i v q here.seated here.part inside Free free).0, refl);
-  shown = keeper-stores k s w sh j i v q here.seated here.part inside d free valid;
-}
+law-store k s w j i v q d sh here inside free valid =
+    let there = found k s w sh j i v q here.seated here.part inside Free free in record {
+      can = (may_store w i d (in-shape k s w sh i inside) there.0, refl);
+      shown = keeper-stores k s w sh j i v q here.seated here.part inside d free valid;
+    }
 
 pub law-held : CopiesStay
-law-held k s w j v r id n sh here first last = let mine =
-    reader-at k s w sh j v r here.seated here.part in
-    let own = mine.held id in
-    let once : times w (hold_of r.number id n) ≡ 1 =
-    search arith in
+law-held k s w j v r id n sh here first last =
+    let own = (reader-at k s w sh j v r here.seated here.part).held id in
+    let once : times w (hold_of r.number id n) ≡ 1 = search arith in
     (once, kept_while_held w sh.safe (hold_of r.number id n) (omega arith))
 
 published-once : (w : WorldState) (xs : List Note) → IsSafe w → AreNoted w xs → ArePublished w xs

@@ -1,23 +1,17 @@
 -- The steps of a reader keep the rule of the table.
-use Rattle.pin_words.proofs.Cited.{nat_tests, IfSome, ◌≡◌, ◌≢◌, inl, inr, ℕ, ◌+◌, ◌-◌, ◌%◌, ◌^◌, ◌<◌, ◌==◌, eqb, true, List, [], ◌∷◌, ◌++◌, get_or-set_other, Some, None, sym, refl, ap, ◌∙◌, subst, arith, IfSome_then, same_Some, none, some, ℕ_discrete, dite, get_elem?, step, Act, keeps, stepped, carried_after, Valid, Allows, set_here, exchanged, Word, Id, Descr, Live, Shape, Hold, Pin, Release, encoded, decoded, tally, weight, is_at_slot, is_copy, is_hold, with_hold, drop_first, drop_last, same_id, WorldState, at, id_at, pins, copies, last_copy, next_copy, word_at, given, given_as, refusal, after, with_holders, IsSafe, may_be_held, safe_kept, may_release, copies-le-pins, count-with_hold, Look, Note, ReaderView, View, IsPlace, place_of, descr_place, M, view, look, id_in, notes_of, reader_with, reader_got, reader_released, reader_noted, after_step, descr_word, word, Stands, Table, NotAhead, AreNoted, HoldsJust, OfReader, IsShown, Shown, TellsReader, looked_view, got_view, released_view, looked, pinned, released, noted}
+use Rattle.pin_words.proofs.Cited.{nat_tests, IfSome, ◌≡◌, ◌≢◌, inl, inr, ℕ, ◌+◌, ◌-◌, ◌%◌, ◌^◌, ◌<◌, ◌==◌, eqb, true, List, [], ◌∷◌, ◌++◌, get_or-set_other, Some, sym, refl, ap, ◌∙◌, subst, arith, IfSome_then, same_Some, none, some, ℕ_discrete, dite, get_elem?, step, Act, keeps, stepped, carried_after, Valid, Allows, set_here, exchanged, Word, Id, Descr, Live, Shape, Hold, Pin, Release, encoded, decoded, tally, weight, is_at_slot, is_copy, is_hold, with_hold, drop_first, drop_last, same_id, WorldState, at, id_at, pins, copies, last_copy, next_copy, word_at, given, given_as, after, with_holders, IsSafe, may_be_held, safe_kept, may_release, copies-le-pins, count-with_hold, Look, Note, ReaderView, View, IsPlace, place_of, descr_place, M, view, look, id_in, notes_of, reader_with, reader_got, reader_released, reader_noted, after_step, descr_word, word, Stands, Table, NotAhead, AreNoted, HoldsJust, OfReader, IsShown, Shown, TellsReader, looked_view, got_view, released_view, looked, pinned, released, noted}
 use prog.Atomic.{either}
-use Rattle.pin_core.specs.Descrs as descr_code
 use Rattle.pin_core.proofs.Holding.{release-count}
 use Rattle.pin_words.proofs.Bits.{sub_one}
 use Rattle.pin_words.proofs.Apart.{few, apart, unlike, pin-set}
 use Rattle.pin_words.proofs.Holdings.{holds-more, holds-same-more, holds-less, holds-same-less, has-copies, noted-left}
-use Rattle.pin_words.proofs.Steps.{reader-at, placed, in-list, step-shown, still-shown, found-is, in-shape, when-here, held-found, stood, told, met, past-here, turn-reader, turn-to, looks-agree, keeper-stays, reader-stays, at-slot}
+use Rattle.pin_words.proofs.Steps.{reader-at, in-list, step-shown, still-shown, found-is, in-shape, when-here, held-found, stood, told, met, past-here, turn-reader, turn-to, looks-agree, keeper-stays, reader-stays, at-slot}
 
 -- a held Id is the one of its slot
 held-is : (w : WorldState) (next : ℕ) (owner : ℕ → ℕ) (id : ℕ) (r : ReaderView) (x : Id) → IsSafe w
     → OfReader w next owner id r → 0 < tally (same_id x) r.held
     → (x.slot < w.shape.slots) × (x.generation ≡ (at w x.slot).generation) × (may_be_held (at w x.slot).phase ≡ true)
 held-is w next owner id r x safe mine have = search arith
-
-pub may_pin_found : (k : Shape) (s : Table) (W : WorldState) (sh : IsShown k s W) (r i : ℕ) → i < k.slots
-    → (decoded (word s i)).phase ≡ Live
-    → (decoded (word s i)).pins ≢ k.max_pins → refusal W (Pin r i (word_at W i)) ≡ None
-may_pin_found k s a2 sh r i inside live room = grind (arith, nat_tests)
 
 -- a reader, at its seat, and a slot
 module _ (k : Shape) (s : Table) (W : WorldState) (sh : IsShown k s W) (id i : ℕ) (v : View) (r : ReaderView)
@@ -72,7 +66,7 @@ module _ (k : Shape) (s : Table) (W : WorldState) (sh : IsShown k s W) (id i : �
         generation = ap (λ (y : Word). y.generation) (found-is k s W sh i inside) c;
       } in
       rw here (reader-goes (word s i + 1) hs (r.held ++ id_at W i ∷ []) r.notes (look i (word s i) ∷ r.looks)
-      (safe_kept W (Pin r.number i (word_at W i)) sh.safe (may_pin_found k s W sh r.number i inside live room))
+      (safe_kept W (Pin r.number i (word_at W i)) sh.safe (grind (arith, nat_tests)))
       (let one = more i in let old = sh.words i inside in grind (arith, nat_tests))
       (λ j ne. let m = more j in grind (arith, nat_tests))
       (λ q ne x. holds-same-more W q r.number (id_at W i) t.copy ne x)
@@ -127,31 +121,24 @@ pub looks-shown : (k : Shape) (s : Table) (W : WorldState) (sh : IsShown k s W) 
     → get_elem? s.views id ≡ some v → i < k.slots
     → IsShown k (after_step s (place_of i) (word s i) id (looked_view v i (word s i))) W
 looks-shown k s W sh id i v seated inside = still-shown k s W sh id (place_of i)
-    (looked_view v i (word s i))
-    (search (arith, looks-agree, sh.each)) v seated
-    (search (arith, turn-reader))
+    (looked_view v i (word s i)) (search (arith, looks-agree, sh.each)) v seated (search (arith, turn-reader))
 
 pub loads : (k : Shape) (slots id i p : ℕ) (me : M) → IsPlace place_of p i → i < k.slots
     → Allows (Shown k) slots id me p (λ n. n) (looked (step slots p 0 0 none) me)
-loads k slots id i p me at inside = placed k slots id p (place_of i) 0 0 me (λ n. n) looked at.is
-    (λ s known deep seated small. let sh = known.1 in let n : ℕ = word s i in (
-      looked_view me.0 i n,
-      keeps,
-      tt,
-      search (arith, looks-shown),
-      at-slot k i _ sh.fits inside (
-        refl,
-        tells-all k s known.0 sh id i me.0 seated inside,
-        search (arith, met, sh.each),
-      ),
-    ))
+loads k slots id i p me at inside = rw at.is (λ s known deep seated small. let sh = known.1 in let n : ℕ = word s i in (
+  looked_view me.0 i n,
+  keeps,
+  tt,
+  search (arith, looks-shown),
+  at-slot k i _ sh.fits inside
+      (refl, tells-all k s known.0 sh id i me.0 seated inside, search (arith, met, sh.each)),
+))
 
-pub pins-step : (k : Shape) (slots id i p old new : ℕ) (me : M) (r : ReaderView) → IsPlace place_of p i → me.0.reader ≡ Some r
-    → i < k.slots → new ≡ old + 1 → (decoded old).phase ≡ Live → (decoded old).pins ≢ k.max_pins
+pub pins-step : (k : Shape) (slots id i p old new : ℕ) (me : M) (r : ReaderView) → IsPlace place_of p i
+    → me.0.reader ≡ Some r → i < k.slots → new ≡ old + 1 → (decoded old).phase ≡ Live → (decoded old).pins ≢ k.max_pins
     → Allows (Shown k) slots id me p (λ n. either (eqb n old) new n) (pinned (step slots p old new none) me)
 pins-step k slots id i p old new me r at is inside up live room =
-    placed k slots id p (place_of i) old new me (λ n. either (eqb n old) new n) pinned at.is
-    (λ s known deep seated small. let W = known.0 in let sh = known.1 in let n : ℕ = word s i in
+    rw at.is (λ s known deep seated small. let W = known.0 in let sh = known.1 in let n : ℕ = word s i in
     exchanged n old new
     (λ x. (w : View) × (a : Act (Unit {0})) × Valid s.homes me.1 a × Shown k (stepped s (place_of i) x id me.1 w a)
     × pinned (step slots (place_of i) old new none) me n (w, carried_after me.1 a))
@@ -179,12 +166,10 @@ pub releases-step : (k : Shape) (slots id p : ℕ) (me : M) (r : ReaderView) (y 
     → me.0.reader ≡ Some r → y.slot < k.slots → 0 < tally (same_id y) r.held
     → Allows (Shown k) slots id me p (λ n. (n + (2 ^ 64 - 1)) % 2 ^ 64) (released (step slots p 1 0 none) me)
 releases-step k slots id p me r y at is inside have =
-    placed k slots id p (place_of y.slot) 1 0 me (λ n. (n + (2 ^ 64 - 1)) % 2 ^ 64) released at.is
-    (λ s known deep seated small. let W = known.0 in let sh = known.1 in let i = y.slot in let n : ℕ = word s i in
+    rw at.is (λ s (W, sh) deep seated small. let i = y.slot in let n : ℕ = word s i in
     let gen = (held-found k s W sh id i r inside (reader-at k s W sh id me.0 r seated is) y have refl).0 in
     let x : Id = id_in i n in
-    let have' : 0 < tally (same_id x) r.held =
-    search arith in (
+    let have' : 0 < tally (same_id x) r.held = search arith in (
       released_view me.0 i n,
       keeps,
       tt,
@@ -195,9 +180,6 @@ releases-step k slots id p me r y at is inside have =
       ),
       at-slot k i _ sh.fits inside (refl, tells-all k s W sh id i me.0 seated inside),
     ))
-
-pub descr_found : (d : Descr) (n : ℕ) → descr_code.IsGiven d → n ≡ descr_code.encoded d → descr_code.decoded n ≡ Some d
-descr_found d n given is = search arith
 
 pub notes-step : (k : Shape) (slots id i : ℕ) (me : M) (r : ReaderView) (y : Id) → me.0.reader ≡ Some r → y.slot ≡ i
     → i < k.slots → 0 < tally (same_id y) r.held
@@ -219,7 +201,7 @@ notes-step k slots id i me r y is here inside have s (W, sh) deep seated small =
           let known' = held-is W sh.next sh.owner id r y' sh.safe mine
           (subst (λ (z : ReaderView). 0 < tally (same_id y') z.held) (sym same) have'') in (
             d,
-            descr_found d n (sh.given i inside) (sh.descrs i inside),
+            search (arith, sh.given, sh.descrs),
             λ c. (
               view me.0.keeper (Some (reader_noted (same c) record {
                 slot = index c;

@@ -1,5 +1,5 @@
 -- Seats that are split and joined leave the world as it is.
-use Rattle.pin_words.proofs.Cited.{nat_tests, IfSome, ◌≡◌, ◌≢◌, inl, ⊎_elim, ℕ, ◌+◌, ◌<◌, ◌≤◌, ◌==◌, cond, List, [], ◌∷◌, ◌++◌, length, replicate, set, zero, suc, Some, None, sym, refl, ◌∙◌, subst, arith, some, some-ne-none, some-injective, ℕ_discrete, dite, get_elem?, length-replicate, IfSome_then, Splits, Joins, opening, set_here, set_else, set_again, at_longer, at_last, Shape, Slot, IsWithinLimits, WorldState, opening_slot, opened_with, Opens, opening_at, KeeperView, ReaderView, View, AreLaid, view, keeper_gave, opening_keeper, keeper_with_slots, view_with_slots, with_views, Table, HoldsJust, OfReader, Agrees, HasKeeper, HasReader, IsShown, Shown, gave, spent, joined, keeper_part, reader_part}
+use Rattle.pin_words.proofs.Cited.{nat_tests, IfSome, ◌≡◌, ◌≢◌, inl, inr, ⊎_elim, ℕ, ◌+◌, ◌<◌, ◌≤◌, ◌==◌, cond, List, [], ◌∷◌, ◌++◌, length, replicate, set, zero, suc, Some, None, sym, refl, ◌∙◌, subst, arith, some, some-ne-none, some-injective, ℕ_discrete, dite, get_elem?, length-replicate, IfSome_then, Splits, Joins, opening, set_here, set_else, set_again, at_longer, at_last, Shape, Slot, IsWithinLimits, WorldState, opening_slot, opened_with, Opens, opening_at, KeeperView, ReaderView, View, AreLaid, view, keeper_gave, opening_keeper, keeper_with_slots, view_with_slots, with_views, Table, HoldsJust, OfReader, Agrees, HasKeeper, HasReader, IsShown, Shown, gave, spent, joined, keeper_part, reader_part}
 use Rattle.pin_core.proofs.Openings.{opened-safe, opening-is}
 use Rattle.pin_words.specs.Plays as play
 use Rattle.pin_words.proofs.Steps.{each-set, keeper-at, reader-at, in-list, has-keeper, has-reader, turn-keeper}
@@ -56,30 +56,6 @@ pub fresh_keeper : (k : Shape) (slots : List Slot) → slots ≡ replicate k.slo
     → keeper_with_slots k slots ≡ opening_keeper k
 fresh_keeper k slots are = search (arith, opening-is)
 
--- the same world under other views
-reseated : (k : Shape) (s : Table) (W : WorldState) (sh : IsShown k s W) (next : ℕ) (owner : ℕ → ℕ) (views : List View)
-    → ((j : ℕ) (u : View) → get_elem? views j ≡ some u → Agrees W sh.keeper next owner j u)
-    → ((r : ℕ) → next ≤ r → HoldsJust W r [])
-    → HasKeeper views sh.keeper → ((r : ℕ) → HasReader s.views (sh.owner r) r → HasReader views (owner r) r)
-    → IsShown k (with_views s views) W
-reseated k s W sh next owner views each unborn kept moves =
-    record {
-      fits = sh.fits;
-      shape = sh.shape;
-      wide = sh.wide;
-      safe = sh.safe;
-      words = sh.words;
-      descrs = sh.descrs;
-      given = sh.given;
-      keeper = sh.keeper;
-      next = next;
-      owner = owner;
-      each = each;
-      unborn = unborn;
-      kept = kept;
-      owned = λ r. ⊎_elim (λ (e : HoldsJust W r []). inl e) (search arith) (sh.owned r);
-    }
-
 -- the parts of a seat that stays, where the reader n gets another seat
 stays : (w : WorldState) (keeper next : ℕ) (owner : ℕ → ℕ) (n q j : ℕ) (u : View) → j ≢ owner n
     → Agrees w keeper next owner j u → Agrees w keeper next (moved-owner n q owner) j u
@@ -103,102 +79,121 @@ still-reader vs id j r v v' seated another h = dite (ℕ_discrete j id)
     (λ e. absurd (let same : v ≡ h.0 = search arith in search arith))
     (λ ne. (h.0, h.1, set_else vs id j v' ne ∙ h.2, h.3, h.4))
 
--- a new reader
-pub gives-shown : (k : Shape) (s : Table) (W : WorldState) (sh : IsShown k s W) (id : ℕ) (me : View) (v : KeeperView)
-    → get_elem? s.views id ≡ some me → me.keeper ≡ Some v
-    → IsShown k (with_views s (set s.views id (gave me) ++ play.given me ∷ [])) W
-gives-shown k s W sh id me v seated is =
-    let was = sh.each id me seated in
-    let mine = keeper-at k s W sh id me v seated is in
-    let vs = set s.views id (gave me) in
-    let owner' = moved-owner sh.next (length vs) sh.owner in
-    let old-reader : (j : ℕ) (r : ReaderView) → OfReader W sh.next sh.owner j r
-    → OfReader W (sh.next + 1) owner' j r = λ j r a. grind (arith, nat_tests) in
-    let agree = Agrees W sh.keeper (sh.next + 1) owner' in
-    reseated k s W sh (sh.next + 1) owner' (vs ++ play.given me ∷ [])
-    (each-push agree vs (play.given me)
-    (tt, search arith)
-    (each-set agree s.views id (gave me)
-    (search arith, IfSome_then me.reader was.1 (old-reader id))
-    (λ j u other e. let a = sh.each j u e in (
-      IfSome_then u.keeper a.0 (λ q b. absurd (other (b.mine ∙ sym mine.mine))),
-      IfSome_then u.reader a.1 (old-reader j),
-    ))))
-    (λ r later. sh.unborn r (omega arith))
-    (longer-keeper vs (play.given me ∷ []) sh.keeper
-    (has-keeper s.views id sh.keeper me (gave me) seated (turn-keeper me keeper_gave) sh.kept))
-    (by-owner (λ q r. HasReader s.views (sh.owner r) r → HasReader (vs ++ play.given me ∷ []) q r) sh.next (length vs)
-    sh.owner (λ h. absurd (let b = reader-at k s W sh (sh.owner sh.next) h.0 h.1 h.2 h.3 in search arith))
-    (λ r ne h. longer-reader vs (play.given me ∷ []) (sh.owner r) r
-    (has-reader s.views id (sh.owner r) r me (gave me) seated (turn-keeper me keeper_gave) h)))
+module _ (k : Shape) (s : Table) (W : WorldState) (sh : IsShown k s W) where
+  -- the same world under other views
+  reseated : (next : ℕ) (owner : ℕ → ℕ) (views : List View)
+      → ((j : ℕ) (u : View) → get_elem? views j ≡ some u → Agrees W sh.keeper next owner j u)
+      → ((r : ℕ) → next ≤ r → HoldsJust W r []) → HasKeeper views sh.keeper
+      → ((r : ℕ) → HasReader s.views (sh.owner r) r → HasReader views (owner r) r)
+      → IsShown k (with_views s views) W
+  reseated next owner views each unborn kept moves = record {
+    fits = sh.fits;
+    shape = sh.shape;
+    wide = sh.wide;
+    safe = sh.safe;
+    words = sh.words;
+    descrs = sh.descrs;
+    given = sh.given;
+    keeper = sh.keeper;
+    next = next;
+    owner = owner;
+    each = each;
+    unborn = unborn;
+    kept = kept;
+    owned = λ r. ⊎_elim inl (λ h. inr (moves r h)) (sh.owned r);
+  }
+
+  -- a new reader
+  pub gives-shown : (id : ℕ) (me : View) (v : KeeperView) → get_elem? s.views id ≡ some me → me.keeper ≡ Some v
+      → IsShown k (with_views s (set s.views id (gave me) ++ play.given me ∷ [])) W
+  gives-shown id me v seated is =
+      let was = sh.each id me seated in
+      let mine = keeper-at k s W sh id me v seated is in
+      let vs = set s.views id (gave me) in
+      let owner' = moved-owner sh.next (length vs) sh.owner in
+      let old-reader : (j : ℕ) (r : ReaderView) → OfReader W sh.next sh.owner j r
+      → OfReader W (sh.next + 1) owner' j r = λ j r a. grind (arith, nat_tests) in
+      let agree = Agrees W sh.keeper (sh.next + 1) owner' in
+      reseated (sh.next + 1) owner' (vs ++ play.given me ∷ [])
+      (each-push agree vs (play.given me) (tt, search arith)
+      (each-set agree s.views id (gave me) (search arith, IfSome_then me.reader was.1 (old-reader id))
+      (λ j u other e. let a = sh.each j u e in (
+        IfSome_then u.keeper a.0 (λ q b. absurd (other (b.mine ∙ sym mine.mine))),
+        IfSome_then u.reader a.1 (old-reader j),
+      ))))
+      (λ r later. sh.unborn r (omega arith))
+      (longer-keeper vs (play.given me ∷ []) sh.keeper
+      (has-keeper s.views id sh.keeper me (gave me) seated (turn-keeper me keeper_gave) sh.kept))
+      (by-owner (λ q r. HasReader s.views (sh.owner r) r → HasReader (vs ++ play.given me ∷ []) q r) sh.next (length vs)
+      sh.owner
+      (λ h. absurd (let b = reader-at k s W sh (sh.owner sh.next) h.0 h.1 h.2 h.3 in search arith))
+      (λ r ne h. longer-reader vs (play.given me ∷ []) (sh.owner r) r
+      (has-reader s.views id (sh.owner r) r me (gave me) seated (turn-keeper me keeper_gave) h)))
+
+  -- a seat that knows nothing
+  pub blanks-shown : (id : ℕ) (me : View) → get_elem? s.views id ≡ some me
+      → IsShown k (with_views s (set s.views id me ++ spent ∷ [])) W
+  blanks-shown id me seated =
+      rw (set_again s.views id me seated) (reseated sh.next sh.owner (s.views ++ spent ∷ [])
+      (each-push (Agrees W sh.keeper sh.next sh.owner) s.views spent (tt, tt) sh.each) sh.unborn
+      (longer-keeper s.views (spent ∷ []) sh.keeper sh.kept) (λ r. longer-reader s.views (spent ∷ []) (sh.owner r) r))
+
+  -- two seats in one
+  pub joins_shown : (id other : ℕ) (kv : KeeperView) (rv : ReaderView)
+      → get_elem? s.views id ≡ some (view (Some kv) None) → other ≢ id
+      → get_elem? (set s.views id (view (Some kv) (Some rv))) other ≡ some (view None (Some rv))
+      → IsShown k (with_views s (set (set s.views id (view (Some kv) (Some rv))) other spent)) W
+  joins_shown id other kv rv seated apart seated' =
+      let one = view (Some kv) (Some rv) in
+      let vs = set s.views id one in
+      let a = sh.each id (view (Some kv) None) seated in
+      let b = sh.each other (view None (Some rv)) (sym (set_else s.views id other one apart) ∙ seated') in
+      let owner' = moved-owner rv.number id sh.owner in
+      let agree = Agrees W sh.keeper sh.next owner' in
+      let there : get_elem? (set vs other spent) id ≡ some one = set_else vs other id spent (λ e. apart (sym e))
+      ∙ set_here s.views id one (in-list s.views id (view (Some kv) None) seated) in
+      reseated sh.next owner' (set vs other spent)
+      (each-set agree vs other spent (tt, tt)
+      (λ j u away e. each-set (λ j u. j ≢ other → agree j u) s.views id one
+      (λ _. (a.0, moves W sh.next sh.owner other id rv b.1))
+      (λ j u _ e away. stays W sh.keeper sh.next sh.owner rv.number id j u (λ e. away (e ∙ b.1.mine)) (sh.each j u e))
+      j u e away))
+      sh.unborn (rw (← a.0.mine) (one, kv, there, refl))
+      (by-owner (λ q r. HasReader s.views (sh.owner r) r → HasReader (set vs other spent) q r) rv.number id sh.owner
+      (λ _. (one, rv, there, refl, refl))
+      (λ r ne h. still-reader vs other (sh.owner r) r (view None (Some rv)) spent seated' (λ e. ne (sym e))
+      (still-reader s.views id (sh.owner r) r (view (Some kv) None) one seated tt h)))
+
+  -- a joined seat in two
+  pub parts-shown : (id : ℕ) (kv : KeeperView) (rv : ReaderView)
+      → get_elem? s.views id ≡ some (view (Some kv) (Some rv))
+      → IsShown k (with_views s (set s.views id (view (Some kv) None) ++ view None (Some rv) ∷ [])) W
+  parts-shown id kv rv seated =
+      let one = view (Some kv) (Some rv) in
+      let vs = set s.views id (view (Some kv) None) in
+      let a = sh.each id one seated in
+      let owner' = moved-owner rv.number (length vs) sh.owner in
+      let agree = Agrees W sh.keeper sh.next owner' in
+      let all = vs ++ view None (Some rv) ∷ [] in
+      reseated sh.next owner' all
+      (each-push agree vs (view None (Some rv)) (tt, moves W sh.next sh.owner id (length vs) rv a.1)
+      (each-set agree s.views id (view (Some kv) None) (a.0, tt)
+      (λ j u away e. stays W sh.keeper sh.next sh.owner rv.number (length vs) j u (λ e. away (e ∙ a.1.mine))
+      (sh.each j u e))))
+      sh.unborn
+      (longer-keeper vs (view None (Some rv) ∷ []) sh.keeper
+      (rw (← a.0.mine) (view (Some kv) None, kv, set_here s.views id _ (in-list s.views id one seated), refl)))
+      (by-owner (λ q r. HasReader s.views (sh.owner r) r → HasReader all q r) rv.number (length vs) sh.owner
+      (λ _. (view None (Some rv), rv, at_last vs (view None (Some rv)) (length vs) refl, refl, refl))
+      (λ r ne h. longer-reader vs (view None (Some rv) ∷ []) (sh.owner r) r
+      (still-reader s.views id (sh.owner r) r one (view (Some kv) None) seated (λ e. ne (sym e)) h)))
 
 pub gives : (k : Shape) (id : ℕ) (me : View) (v : KeeperView) → me.keeper ≡ Some v
     → Splits (Shown k) id me (gave me) (play.given me)
 gives k id me v is s a6 seated = search (arith, gives-shown)
 
--- a seat that knows nothing
-pub blanks-shown : (k : Shape) (s : Table) (W : WorldState) (sh : IsShown k s W) (id : ℕ) (me : View)
-    → get_elem? s.views id ≡ some me → IsShown k (with_views s (set s.views id me ++ spent ∷ [])) W
-blanks-shown k s W sh id me seated =
-    let same = set_again s.views id me seated in
-    rw same (reseated k s W sh sh.next sh.owner (s.views ++ spent ∷ [])
-    (each-push (Agrees W sh.keeper sh.next sh.owner) s.views spent (tt, tt) sh.each) sh.unborn
-    (longer-keeper s.views (spent ∷ []) sh.keeper sh.kept) (λ r. longer-reader s.views (spent ∷ []) (sh.owner r) r))
-
 pub blanks : (k : Shape) (id : ℕ) (me : View) → Splits (Shown k) id me me spent
 blanks k id me s a4 seated = search (arith, blanks-shown)
-
--- two seats in one
-pub joins_shown : (k : Shape) (s : Table) (W : WorldState) (sh : IsShown k s W) (id other : ℕ) (kv : KeeperView)
-    (rv : ReaderView) → get_elem? s.views id ≡ some (view (Some kv) None) → other ≢ id
-    → get_elem? (set s.views id (view (Some kv) (Some rv))) other ≡ some (view None (Some rv))
-    → IsShown k (with_views s (set (set s.views id (view (Some kv) (Some rv))) other spent)) W
-joins_shown k s W sh id other kv rv seated apart seated' =
-    let one = view (Some kv) (Some rv) in
-    let vs = set s.views id one in
-    let a = sh.each id (view (Some kv) None) seated in
-    let b = sh.each other (view None (Some rv)) (sym (set_else s.views id other one apart) ∙ seated') in
-    let owner' = moved-owner rv.number id sh.owner in
-    let agree = Agrees W sh.keeper sh.next owner' in
-    let there : get_elem? (set vs other spent) id ≡ some one =
-    set_else vs other id spent (λ e. apart (sym e)) ∙ set_here s.views id one
-    (in-list s.views id (view (Some kv) None) seated) in
-    reseated k s W sh sh.next owner' (set vs other spent)
-    (each-set agree vs other spent (tt, tt)
-    (λ j u away e. each-set (λ j u. j ≢ other → agree j u) s.views id one
-    (λ _. (a.0, moves W sh.next sh.owner other id rv b.1))
-    (λ j u _ e away. stays W sh.keeper sh.next sh.owner rv.number id j u (λ e. away (e ∙ b.1.mine)) (sh.each j u e))
-    j u e away))
-    sh.unborn
-    (rw (← a.0.mine) (one, kv, there, refl))
-    (by-owner (λ q r. HasReader s.views (sh.owner r) r → HasReader (set vs other spent) q r) rv.number id sh.owner
-    (λ _. (one, rv, there, refl, refl))
-    (λ r ne h. still-reader vs other (sh.owner r) r (view None (Some rv)) spent seated' (λ e. ne (sym e))
-    (still-reader s.views id (sh.owner r) r (view (Some kv) None) one seated tt h)))
-
--- a joined seat in two
-pub parts-shown : (k : Shape) (s : Table) (W : WorldState) (sh : IsShown k s W) (id : ℕ) (kv : KeeperView)
-    (rv : ReaderView) → get_elem? s.views id ≡ some (view (Some kv) (Some rv))
-    → IsShown k (with_views s (set s.views id (view (Some kv) None) ++ view None (Some rv) ∷ [])) W
-parts-shown k s W sh id kv rv seated =
-    let one = view (Some kv) (Some rv) in
-    let vs = set s.views id (view (Some kv) None) in
-    let a = sh.each id one seated in
-    let owner' = moved-owner rv.number (length vs) sh.owner in
-    let agree = Agrees W sh.keeper sh.next owner' in
-    let all = vs ++ view None (Some rv) ∷ [] in
-    reseated k s W sh sh.next owner' all
-    (each-push agree vs (view None (Some rv)) (tt, moves W sh.next sh.owner id (length vs) rv a.1)
-    (each-set agree s.views id (view (Some kv) None) (a.0, tt)
-    (λ j u away e. stays W sh.keeper sh.next sh.owner rv.number (length vs) j u (λ e. away (e ∙ a.1.mine))
-    (sh.each j u e))))
-    sh.unborn
-    (longer-keeper vs (view None (Some rv) ∷ []) sh.keeper
-    (rw (← a.0.mine) (view (Some kv) None, kv, set_here s.views id _ (in-list s.views id one seated), refl)))
-    (by-owner (λ q r. HasReader s.views (sh.owner r) r → HasReader all q r) rv.number (length vs) sh.owner
-    (λ _. (view None (Some rv), rv, at_last vs (view None (Some rv)) (length vs) refl, refl, refl))
-    (λ r ne h. longer-reader vs (view None (Some rv) ∷ []) (sh.owner r) r
-    (still-reader s.views id (sh.owner r) r one (view (Some kv) None) seated (λ e. ne (sym e)) h)))
 
 pub joins-any : (k : Shape) (id other : ℕ) (me me' : View) (kv : KeeperView) (rv : ReaderView)
     → me ≡ view (Some kv) None → me' ≡ view None (Some rv) → Joins (Shown k) id me other me' (joined me me') spent

@@ -1,7 +1,6 @@
 -- What a step of one seat owes the rule of the table.
-use Rattle.pin_words.proofs.Cited.{IfSome, option_map, ◌≡◌, ◌≢◌, ◌⊎◌, inl, inr, ⊎_elim, ℕ, ◌<◌, ◌≤◌, List, [], ◌∷◌, length, get_or, set, length-set, zero, suc, Option, Some, None, sym, refl, ap, ◌∙◌, subst, arith, true, none, some, some-ne-none, ℕ_discrete, dite, get_elem?, Allows, step, at_set, set_here, set_else, Word, Id, Descr, Shape, Hold, IsWithinLimits, encoded, decoded, tally, is_copy, same_id, WorldState, at, pins, copies, word_at, given, given_as, with_holders, IsSafe, may_be_held, age, Look, Note, KeeperView, ReaderView, View, place_of, descr_place, AtSlot, M, view, look, Table, word_age, IsPast, NotAhead, AreNoted, HoldsJust, OfKeeper, OfReader, Agrees, HasKeeper, HasReader, IsShown, Shown, Stands, Behind, TellsReader, AreListed, Show, MeetsBoth, looked_view}
+use Rattle.pin_words.proofs.Cited.{IfSome, option_map, ◌≡◌, ◌≢◌, ◌⊎◌, inl, inr, ⊎_elim, ℕ, ◌<◌, ◌≤◌, List, [], ◌∷◌, length, get_or, set, length-set, zero, suc, Option, Some, None, sym, refl, ap, ◌∙◌, subst, arith, true, some, some-ne-none, ℕ_discrete, dite, get_elem?, at_set, set_here, set_else, Word, Id, Descr, Shape, Hold, IsWithinLimits, encoded, decoded, tally, is_copy, same_id, WorldState, at, pins, copies, word_at, given, given_as, with_holders, IsSafe, may_be_held, age, Look, Note, KeeperView, ReaderView, View, place_of, descr_place, AtSlot, view, look, Table, word_age, IsPast, NotAhead, AreNoted, HoldsJust, OfKeeper, OfReader, Agrees, HasKeeper, HasReader, IsShown, Stands, Behind, TellsReader, AreListed, Show, MeetsBoth, looked_view}
 use lib.Seq.{set-get_or}
-use Rattle.atomic_table.specs.Table.{Step}
 use Rattle.pin_core.specs.Descrs as descr_code
 use Rattle.pin_words.specs.Stepped.{after_step, word}
 use Rattle.pin_words.proofs.Holdings.{held-le-pins, has-copies, one-descr}
@@ -51,13 +50,6 @@ has-reader vs id j r v v' seated turn h = dite (ℕ_discrete j id)
 -- a slot is told by its place
 pub at-slot : (k : Shape) (i : ℕ) (P : ℕ → Type 0) → IsWithinLimits k → i < k.slots → P i → AtSlot (place_of i) P
 at-slot k i P fits inside have s is = subst P (apart i s (few i k.slots fits.1 inside) is.few is.is) have
-
--- a step at the place of a slot
-pub placed : (k : Shape) (slots id p q first second : ℕ) (me : M) (f : ℕ → ℕ)
-    (then_is : Step (Unit {0}) → M → ℕ → M → Type 0) → p ≡ q
-    → Allows (Shown k) slots id me q f (then_is (step slots q first second none) me)
-    → Allows (Shown k) slots id me p f (then_is (step slots p first second none) me)
-placed k slots id p q first second me f then_is at = search arith
 
 pub behind : (w : WorldState) (ls : List Look) (s n : ℕ) → word_age n ≡ age (at w s)
     → (decoded n).phase ≡ (at w s).phase → (at w s).generation ≤ w.shape.max_gen → NotAhead w ls → Behind ls s n

@@ -9,9 +9,7 @@ fetch_or-requires c = let lt : c.args.slot < c.self.inside.shape.slots = search 
   search rules,
   pin_at c.self.inside.shape _ _ c.deref.ensures c.self.inside.wide c.self.inside.within c.place_of.ensures lt,
   closes-step _ _ _ _ _ _ (keeper_of c.self.inside.seat.me.0) c.place_of.ensures
-      (ap (λ m. m.0.keeper) c.self.inside.keeps)
-      (rw (key_at c.deref.ensures c.self.inside.keyed) lt)
-      (search rules),
+      (ap (λ m. m.0.keeper) c.self.inside.keeps) (rw (key_at c.deref.ensures c.self.inside.keyed) lt) (search rules),
 )
 
 pub invariant_of-self-inside : goal.invariant_of-self-inside

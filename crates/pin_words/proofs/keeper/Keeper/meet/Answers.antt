@@ -22,8 +22,7 @@ pub load-requires : goal.load-requires
 load-requires c = let lt : c.args.slot < c.self.inside.shape.slots = search rules in (
   search rules,
   pin_at c.self.inside.shape _ _ c.deref-2.ensures c.self.inside.wide c.self.inside.within c.place_of.ensures lt,
-  loads _ _ _ _ _ _ c.place_of.ensures
-      (rw (key_at c.deref-2.ensures c.self.inside.keyed) lt),
+  loads _ _ _ _ _ _ c.place_of.ensures (rw (key_at c.deref-2.ensures c.self.inside.keyed) lt),
 )
 
 pub split_seat-parted-requires : goal.split_seat-parted-requires

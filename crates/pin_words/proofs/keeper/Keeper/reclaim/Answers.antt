@@ -12,9 +12,7 @@ compare_exchange-found-requires c = let lt : c.args.slot < c.self.inside.shape.s
       search rules,
       pin_at c.self.inside.shape _ _ c.deref.ensures c.self.inside.wide c.self.inside.within c.place_of.ensures lt,
       reclaims-step _ _ _ _ _ _ _ _ (keeper_of c.self.inside.seat.me.0) c.place_of.ensures
-          (ap (λ m. m.0.keeper) c.self.inside.keeps)
-          (rw (key_at c.deref.ensures c.self.inside.keyed) lt)
-          (search rules)
+          (ap (λ m. m.0.keeper) c.self.inside.keeps) (rw (key_at c.deref.ensures c.self.inside.keyed) lt) (search rules)
           (c.encode.ensures ∙ ap closing_word was)
           (c.encode-2.ensures ∙ (ap (λ (y : Slot). packed y.generation (code_of y.phase) 0) c.reclaimed-next.ensures
           ∙ λ k. next_word (ap (λ (z : Shape). z.max_gen) (sym (key_at c.deref.ensures c.self.inside.keyed)) k)
@@ -46,8 +44,7 @@ invariant_of-self-inside-2 c = let played = c.compare_exchange-found.ensures.2 c
     c.self.inside.length_is (search rules) c.index-was.ensures in
     let inside : c.args.slot < length c.self.inside.slots.items = let long = c.self.inside.length_is in
     let lt : c.args.slot < c.self.inside.shape.slots = search rules in omega arith in
-    let same : c.index_mut-kept.result.now ≡ c.index-was.result.now =
-    search (arith, slot-known) in
+    let same : c.index_mut-kept.result.now ≡ c.index-was.result.now = search (arith, slot-known) in
     let written : set c.self.inside.slots.items c.args.slot (record {
       generation = c.reclaimed-next.result.generation;
       phase = c.reclaimed-next.result.phase;

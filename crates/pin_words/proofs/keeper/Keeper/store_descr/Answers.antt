@@ -9,8 +9,7 @@ store-requires c = let lt : c.args.slot < c.self.inside.shape.slots = search rul
   descr_at c.self.inside.shape _ _ c.deref.ensures c.self.inside.wide c.self.inside.within c.descr_place.ensures lt,
   stores-there _ _ _ c.args.slot _ _ _ (keeper_of c.self.inside.seat.me.0) c.args.descr c.self.inside.shape
       c.descr_place.ensures (key_at c.deref.ensures c.self.inside.keyed)
-      (ap (λ m. m.0.keeper) c.self.inside.keeps) lt
-      (search rules)
+      (ap (λ m. m.0.keeper) c.self.inside.keeps) lt (search rules)
       c.requires.given c.encode.ensures,
 )
 

@@ -1,5 +1,4 @@
 use Rattle.pin_words.proofs.Cited.{◌≡◌, ◌∙◌, ap, arith, keeper_gave, opening_keeper}
-use Rattle.pin_words.specs.Seats.{TableState}
 use Rattle.pin_words.proofs.LawOfSteps.{shows_opening}
 use Rattle.pin_words.proofs.Reseated.{fresh_keeper}
 use Rattle.pin_words.proofs.pins.Opening.start.Goals as goal
@@ -7,8 +6,8 @@ use Rattle.pin_words.proofs.pins.Opening.start.Goals as goal
 known : (c : goal.In-Ok) → c.in-Ok.started.0.view ≡ keeper_gave (opening_keeper c.args.self.shape)
 known c =
     let over = c.self.inside.over in
-    c.in-Ok.ensures.keeper.1 ∙ (ap keeper_gave (fresh_keeper over.table.shape over.slots c.self.inside.fresh)
-    ∙ ap (λ (t : TableState). keeper_gave (opening_keeper t.shape)) c.self.view_is)
+    rw (← c.self.view_is) (c.in-Ok.ensures.keeper.1
+    ∙ ap keeper_gave (fresh_keeper over.table.shape over.slots c.self.inside.fresh))
 
 pub returns-in-Ok-clause-opens : goal.returns-in-Ok-clause-opens
 returns-in-Ok-clause-opens c = search (arith, known, shows_opening, c.args.self.shape)

@@ -7,8 +7,7 @@ pub load-requires : goal.load-requires
 load-requires c = let lt : c.args.slot < c.self.inside.shape.slots = search rules in (
   search rules,
   pin_at c.self.inside.shape _ _ c.deref.ensures c.self.inside.wide c.self.inside.within c.place_of.ensures lt,
-  loads _ _ _ _ _ _ c.place_of.ensures
-      (rw (key_at c.deref.ensures c.self.inside.keyed) lt),
+  loads _ _ _ _ _ _ c.place_of.ensures (rw (key_at c.deref.ensures c.self.inside.keyed) lt),
 )
 
 pub invariant_of-self-inside : goal.invariant_of-self-inside

@@ -30,11 +30,9 @@ pub invariant_of-self-inside : goal.invariant_of-self-inside
 invariant_of-self-inside c = let played = c.compare_exchange-seen.ensures.2 c.args.id.slot c.place_of.ensures in
     let one = read-one (λ r. reader_looked r c.args.id.slot c.compare_exchange-seen.result) c.self.inside.seat.me
     c.compare_exchange-seen.new.seat.me c.self.inside.reads (played.1 c.if-seen-found.true) in
-    let counted : length c.push.new.self.items ≡ length c.self.inside.held.items + 1 =
-    search arith in
+    let counted : length c.push.new.self.items ≡ length c.self.inside.held.items + 1 = search arith in
     let less : length c.push.new.self.items - 1 ≡ length c.self.inside.held.items = omega arith in
-    let popped : c.pop.new.self.items ≡ c.self.inside.held.items =
-    search (arith, take-append_seam) in search rules
+    let popped : c.pop.new.self.items ≡ c.self.inside.held.items = search (arith, take-append_seam) in search rules
 
 pub returns-then-seen-found : goal.returns-then-seen-found
 returns-then-seen-found c = let played = c.compare_exchange-seen.ensures.2 c.args.id.slot c.place_of.ensures in
