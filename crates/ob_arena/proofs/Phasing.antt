@@ -29,7 +29,8 @@ counted_range p (x ∷ taken) a same =
     counted_first p x taken a (ap p here ∙ same 0 (omega arith)) (counted_range p taken (a + 1)
     (λ k lt. let behind : a + 1 + k ≡ a + suc k = omega arith in ap p behind ∙ same (suc k) (omega arith)))
 
-module _ {B : Type 0} (ss : List (Option B)) (ps : List Phase) (taken : List Bool) (tied : ArenaInvariant ss ps taken) where
+module _ {B : Type 0} (ss : List (Option B)) (ps : List Phase) (taken : List Bool)
+    (tied : ArenaInvariant ss ps taken) where
   pub length_phases : length ps ≡ length ss
   length_phases = search (arith, length-map)
 

@@ -23,7 +23,10 @@ module _ (E : El) where
   }
 
   abbrev stayed : Stays ended.signature.params ended.kept
-  stayed = (stay_ref (0 ∷ []) tt (plain (λ _. StorageOf E)), (stay_dropped _ no, (stay_dropped _ no, (stay_dropped _ no, tt))))
+  stayed = (
+    stay_ref (0 ∷ []) tt (plain (λ _. StorageOf E)),
+    (stay_dropped _ no, (stay_dropped _ no, (stay_dropped _ no, tt))),
+  )
 
   abbrev Asks : (StorageOf E).Denot → (FrontOf E).Denot → ℕ → Type 0
   Asks storage front at = (front.first ≡ storage.front) × (at < length storage.slots)
