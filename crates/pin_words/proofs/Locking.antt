@@ -1,7 +1,5 @@
 -- What the calls under a lock need.
 use Rattle.pin_words.proofs.Cited.{◌≢◌, ℕ, ◌≤◌, List, [], ◌∷◌, ◌++◌, arith, Id, tally, drop_last, same_id, count-snoc, count-drop_last-le, is_of_slot}
-use Rattle.pin_words.specs.declared.pin_keeper.Reclaim.{Reclaim}
-use Rattle.pin_words.specs.Keepers.{KeeperState, Reclaims, ReclaimsLocked}
 
 pub room-more : (most : ℕ) (held : List Id) (id : Id) → ((s : ℕ) → tally (is_of_slot s) held ≤ most)
     → tally (is_of_slot id.slot) held ≢ most → (s : ℕ) → tally (is_of_slot s) (held ++ id ∷ []) ≤ most
@@ -10,7 +8,3 @@ room-more most held id room free s = search (arith, count-snoc)
 pub room-less : (most : ℕ) (held : List Id) (id : Id) → ((s : ℕ) → tally (is_of_slot s) held ≤ most) → (s : ℕ)
     → tally (is_of_slot s) (drop_last (same_id id) held) ≤ most
 room-less most held id room s = search (arith, count-drop_last-le)
-
--- what a reclaim under a lock answers is what one of any keeper does
-pub as-any : (k k' : KeeperState) (s : ℕ) (r : Reclaim) → ReclaimsLocked k s r k' → Reclaims k s r k'
-as-any a0 a1 a2 a3 a4 = search arith
