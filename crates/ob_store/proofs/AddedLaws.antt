@@ -1,32 +1,13 @@
 -- A new object with its first entry comes to a vacant slot.
-use Rattle.std.proofs.Common.{◌≡◌, ℕ, ◌+◌, ◌<◌, List, [], ◌∷◌, ◌++◌, length, Some, None, refl, subst, arith, get_or, set, map, true}
+use Rattle.ob_store.proofs.Cited.{◌≡◌, ℕ, ◌+◌, ◌<◌, List, [], ◌∷◌, ◌++◌, length, Some, None, refl, subst, arith, get_or, set, map, true, map-set_same, length-set, Id, Slot, opening_slot, id_of, HandleFlags, is_vacant_at, Body, owner_of, ObjectName, Rows, find_name, Entry, with_entry_of, form_of, ObjectsState, ObjectAttributes, object_in, places_in, vacancy, IsAgreed, ObjectsInvariant, PartsState, state_of, State, generation_of, IsLive, StoreInvariant, IsCounted, IsListing, form_in}
 use Rattle.std.proofs.Math.ListN.{get_or-map}
-use Rattle.std.proofs.Math.Seq.{map-set_same}
-use Rattle.std.proofs.lemmas.List.{length-set}
-use Rattle.pin_core.specs.declared.id.Id.{Id}
-use Rattle.pin_core.specs.declared.world.Slot.{Slot}
-use Rattle.pin_core.specs.Worlds.{opening_slot}
-use Rattle.pin_words.specs.Views.{id_of}
-use Rattle.ob_rights.specs.declared.handle_flags.HandleFlags.{HandleFlags}
 use Rattle.ob_rights.specs.declared.rights.Rights.{Rights}
-use Rattle.ob_arena.specs.Slots.{is_vacant_at}
 use Rattle.ob_arena.proofs.SlotLemmas.{vacant_within, vacant_empty}
-use Rattle.ob_body.specs.declared.body.Body.{Body}
-use Rattle.ob_body.specs.Body.{owner_of}
-use Rattle.ob_name.specs.Names.{ObjectName}
-use Rattle.ob_name.specs.Listing.{Rows, find_name}
-use Rattle.ob_tables.specs.declared.entry.Entry.{Entry}
-use Rattle.ob_tables.specs.Tables.{with_entry_of}
-use Rattle.ob_waits.specs.Form.{form_of}
 use Rattle.ob_waits.proofs.Room.{room_unnamed}
 use Rattle.ob_waits.proofs.Settled.{settled_unnamed}
-use Rattle.ob_store.specs.Objects.{ObjectsState, ObjectAttributes, object_in, places_in, vacancy, with_object}
-use Rattle.ob_store.specs.Agreement.{IsAgreed, ObjectsInvariant}
+use Rattle.ob_store.specs.Objects.{with_object}
 use Rattle.ob_store.specs.State as state
-use Rattle.ob_store.specs.Parts.{PartsState, state_of}
-use Rattle.ob_store.specs.State.{State, generation_of, id_at}
-use Rattle.ob_tables.specs.Processes.{IsLive}
-use Rattle.ob_store.specs.Kept.{StoreInvariant, IsCounted, IsListing, form_in}
+use Rattle.ob_store.specs.State.{id_at}
 use Rattle.ob_store.proofs.AgreeLaws.{object_at, body_at}
 use Rattle.ob_store.proofs.CountedLaws.{blocks_at, counted_added}
 use Rattle.ob_store.proofs.NamedLaws.{named_added}

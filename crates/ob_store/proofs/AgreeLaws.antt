@@ -1,16 +1,8 @@
 -- How the objects go on agreeing with the keeper, slot by slot.
-use Rattle.std.proofs.Common.{◌≡◌, ℕ, ◌≢◌, ◌<◌, List, length, Option, None, arith, get_or, set, Bool, true, false}
-use Rattle.std.specs.Prelude.{is_some}
-use Rattle.std.proofs.Math.Seq.{map-set_same}
-use Rattle.std.proofs.lemmas.List.{get_or_past}
-use Rattle.pin_core.specs.declared.world.Slot.{Slot}
+use Rattle.ob_store.proofs.Cited.{◌≡◌, ℕ, ◌≢◌, ◌<◌, List, length, Option, None, arith, get_or, set, Bool, true, false, is_some, map-set_same, get_or_past, Slot, slot_of, KeeperState, Body, Object, ObjectsState, with_keeper, places_in, without_header, opened, IsAgreed}
 use Rattle.pin_core.specs.declared.word.Phase.TheVariants as phase
-use Rattle.pin_core.specs.Worlds.{slot_of}
-use Rattle.pin_words.specs.Keepers.{KeeperState, with_slots, with_looks, closed}
+use Rattle.pin_words.specs.Keepers.{with_slots, with_looks, closed}
 use Rattle.pin_words.specs.declared.view.Look.{Look}
-use Rattle.ob_body.specs.declared.body.Body.{Body}
-use Rattle.ob_store.specs.Objects.{Object, ObjectsState, with_keeper, places_in, without_header, opened}
-use Rattle.ob_store.specs.Agreement.{IsAgreed}
 
 abbrev pub object_at : ObjectsState → ℕ → Option Object
 object_at s k = get_or s.objects k None

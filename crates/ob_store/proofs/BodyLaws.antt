@@ -1,20 +1,10 @@
 -- What holds of bodies goes on so: their forms, their owners, the room that waits have, and that none is ready.
-use Rattle.ob_codec.proofs.AtPlace.{at_place}
-use Rattle.std.proofs.lemmas.Bool.Decides.{nat_tests}
-use Rattle.std.proofs.Common.{◌≡◌, ℕ, ◌⊎◌, ◌<◌, List, length, Option, Some, None, ap, ◌∙◌, arith, get_or, set, Bool, true, cond, inl, inr}
-use Rattle.std.specs.Prelude.{is_some}
-use Rattle.ob_body.specs.declared.body.Body.{Body}
-use Rattle.ob_body.specs.Body.{owner_of, is_signaled}
-use Rattle.ob_waits.specs.declared.wait.Wait.{Wait}
-use Rattle.ob_waits.specs.CountedBodies.{CountedBodies, slot_signaled}
-use Rattle.ob_waits.specs.Form.{form_of, slot_form, slot_owner, HasWait}
-use Rattle.ob_waits.specs.Rules.{thread_of}
-use Rattle.ob_waits.specs.Waits.{Scene, settled}
+use Rattle.ob_store.proofs.Cited.{at_place, nat_tests, ◌≡◌, ℕ, ◌⊎◌, ◌<◌, List, length, Option, Some, None, ap, ◌∙◌, arith, get_or, set, Bool, true, cond, inl, inr, is_some, Body, owner_of, is_signaled, Wait, CountedBodies, form_of, slot_form, slot_owner, thread_of, Scene, Object, IsLive, AreFormed, AreOfLive, Yields, form_in}
+use Rattle.ob_waits.specs.CountedBodies.{slot_signaled}
+use Rattle.ob_waits.specs.Form.{HasWait}
+use Rattle.ob_waits.specs.Waits.{settled}
 use Rattle.ob_waits.proofs.Settling.{IsLess}
 use Rattle.ob_waits.proofs.Staying.{settled_form, settled_owner, settled_thread}
-use Rattle.ob_store.specs.Objects.{Object}
-use Rattle.ob_tables.specs.Processes.{IsLive}
-use Rattle.ob_store.specs.Kept.{AreFormed, AreOfLive, Yields, form_in}
 
 -- a place that changes or stays
 pub at_gone : (c : Bool) (bodies : List (Option Body)) (i k : ℕ)

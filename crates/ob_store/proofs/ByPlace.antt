@@ -1,8 +1,5 @@
 -- What holds of each element of a list, and of what stands past its end, holds at each place.
-use Rattle.std.proofs.Common.{◌≡◌, ℕ, ◌∙◌, zero, suc, ◌<◌, Bool, true, List, [], ◌∷◌, ap, length, get_or, replicate, sym, arith}
-use Rattle.std.proofs.lemmas.List.{get_or-replicate, get_or_past, length-replicate}
-use Rattle.std.proofs.lemmas.Bool.{and_parts}
-use Rattle.std.specs.List.{AllByRecursion, list_all, range_with_len}
+use Rattle.ob_store.proofs.Cited.{◌≡◌, ℕ, ◌∙◌, zero, suc, ◌<◌, Bool, true, List, [], ◌∷◌, ap, length, get_or, replicate, sym, arith, get_or-replicate, get_or_past, length-replicate, and_parts, AllByRecursion, list_all, range_with_len}
 use Rattle.std.proofs.lemmas.List.Elements.{All-from_get_or}
 use Rattle.std.proofs.lemmas.List.FromFn.{get_or-range_with_len, length-range_with_len}
 use Rattle.std.proofs.lemmas.List.Sums.{AllPass-from_list_all, list_all-from_AllPass}

@@ -1,9 +1,6 @@
 -- A number for each slot, and what changes when one of them does.
-use Rattle.std.proofs.Common.{◌≡◌, ℕ, ◌≢◌, ◌<◌, ◌≤◌, List, length, ◌∙◌, sym, arith, get_or, set}
+use Rattle.ob_store.proofs.Cited.{◌≡◌, ℕ, ◌≢◌, ◌<◌, ◌≤◌, List, length, ◌∙◌, sym, arith, get_or, set, length-set, length-replicate, get_or-replicate, get_or_past, get_or-set_same, get_or-set_other, ext_get_or, get_or-map-range_with_len, length-map-range_with_len, by_slot}
 use Rattle.std.specs.Prelude.{replicate}
-use Rattle.std.proofs.lemmas.List.{length-set, length-replicate, get_or-replicate, get_or_past, get_or-set_same, get_or-set_other, ext_get_or}
-use Rattle.std.proofs.lemmas.List.FromFn.{get_or-map-range_with_len, length-map-range_with_len}
-use Rattle.ob_store.specs.State.{by_slot}
 
 pub get_by_slot : (n : ℕ) (f : ℕ → ℕ) (k : ℕ) → k < n → get_or (by_slot n f) k 0 ≡ f k
 get_by_slot n f k lt = search (arith, get_or-map-range_with_len)

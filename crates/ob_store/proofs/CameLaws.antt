@@ -1,12 +1,6 @@
 -- The blocks of a list came: what stays, and how many more each slot counts.
-use Rattle.std.proofs.lemmas.Bool.Decides.{nat_tests}
-use Rattle.ob_codec.proofs.AtPlace.{at_place}
-use Rattle.std.proofs.Common.{◌≡◌, ℕ, ◌+◌, ◌<◌, List, [], ◌∷◌, length, refl, arith, get_or, cond, eqb}
-use Rattle.std.proofs.lemmas.List.{length-set}
-use Rattle.std.proofs.lemmas.List.Sums.{sum_by-cons}
-use Rattle.pin_core.specs.declared.id.Id.{Id}
-use Rattle.ob_waits.specs.Waits.{slot_places}
-use Rattle.ob_store.specs.Objects.{ObjectsState, with_block_of, with_blocks_of}
+use Rattle.ob_store.proofs.Cited.{nat_tests, at_place, ◌≡◌, ℕ, ◌+◌, ◌<◌, List, [], ◌∷◌, length, refl, arith, get_or, cond, eqb, length-set, sum_by-cons, Id, slot_places, ObjectsState, with_blocks_of}
+use Rattle.ob_store.specs.Objects.{with_block_of}
 
 -- all but the counts of blocks
 pub came_stays : (ids : List Id) (s : ObjectsState)

@@ -1,30 +1,19 @@
 -- What is kept is kept where a child comes with what it inherits.
-use Rattle.std.proofs.lemmas.Bool.Decides.{nat_tests}
-use Rattle.ob_codec.proofs.AtPlace.{at_place}
-use Rattle.std.proofs.Common.{◌≡◌, ℕ, ◌+◌, ◌<◌, ◌≤◌, List, [], ◌∷◌, length, Option, Some, None, refl, ap, arith, get_or}
-use Rattle.std.specs.Prelude.{IfSome, IsSome}
-use Rattle.std.proofs.lemmas.List.{length-set, length-map, get_or-map, get_or_past}
-use Rattle.std.proofs.lemmas.List.Sums.{sum_by-cons}
-use Rattle.ob_tables.specs.declared.entry.Entry.{Entry}
-use Rattle.ob_tables.specs.Counts.{slot_handles, slot_handles_in}
+use Rattle.ob_store.proofs.Cited.{nat_tests, at_place, ◌≡◌, ℕ, ◌+◌, ◌<◌, ◌≤◌, List, [], ◌∷◌, length, Option, Some, None, refl, ap, arith, get_or, IfSome, IsSome, length-set, length-map, get_or-map, get_or_past, sum_by-cons, Entry, slot_handles, slot_handles_in, HandleTables, IsBounded, table_of, handles_among-with_table, slot_handles-few, ObjectsState, ObjectsInvariant, Whole, settled, by_slot, PartsState, state_of, whole_of, StoreInvariant, IsNamed, IsFree}
 use Rattle.ob_tables.specs.Inheritance.{inherited}
 use Rattle.ob_tables.specs.Tables as tables
-use Rattle.ob_tables.specs.Tables.{HandleTables, IsBounded, table_of}
-use Rattle.ob_tables.proofs.Counting.{handles_among-with_table, handles_in-inherited, handles_in-among}
+use Rattle.ob_tables.proofs.Counting.{handles_in-inherited, handles_in-among}
 use Rattle.ob_tables.proofs.Inheriting.{at-trimmed}
-use Rattle.ob_tables.proofs.SlotCounts.{one_in, slot_handles-with_table, slot_handles-few}
+use Rattle.ob_tables.proofs.SlotCounts.{one_in, slot_handles-with_table}
 use Rattle.ob_tables.specs.Processes.{next_number}
-use Rattle.ob_store.specs.Objects.{ObjectsState, with_handle_at, with_handles_of}
-use Rattle.ob_store.specs.Agreement.{ObjectsInvariant}
+use Rattle.ob_store.specs.Objects.{with_handle_at, with_handles_of}
 use Rattle.ob_store.specs.State as state
-use Rattle.ob_store.specs.State.{Whole, next_process, next_thread, settled, by_slot}
-use Rattle.ob_store.specs.Parts.{PartsState, state_of, whole_of}
-use Rattle.ob_store.specs.Kept.{StoreInvariant, IsNamed}
+use Rattle.ob_store.specs.State.{next_process, next_thread}
 use Rattle.ob_store.proofs.BySlot.{recounted, count_few}
 use Rattle.ob_store.proofs.CountedLaws.{handles_at, handles_long}
 use Rattle.ob_store.proofs.NamedLaws.{entry_counted}
 use Rattle.ob_store.proofs.ListingLaws.{listing_process}
-use Rattle.ob_tables.proofs.GivenLaws.{IsFree, get_or-put, next_is_free, within-put}
+use Rattle.ob_tables.proofs.GivenLaws.{get_or-put, next_is_free, within-put}
 use Rattle.ob_store.proofs.KeptLaws.{handled, member_kept, member_live, member_populated, none_in, with_member}
 
 -- all but the counts of handles

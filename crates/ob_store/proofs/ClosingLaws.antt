@@ -1,14 +1,9 @@
 -- The slots whose objects ended, while bodies go and objects leave.
-use Rattle.std.proofs.Common.{◌≡◌, ℕ, ◌<◌, List, length, Option, Some, None, refl, ap, ◌∙◌, sym, arith, get_or, set, map, Bool, true, false, cond}
-use Rattle.std.specs.Prelude.{IsSome, is_some, not, slice_get}
-use Rattle.std.proofs.lemmas.List.{length-map}
+use Rattle.ob_store.proofs.Cited.{◌≡◌, ℕ, ◌<◌, List, length, Option, Some, None, refl, ap, ◌∙◌, sym, arith, get_or, set, map, Bool, true, false, cond, IsSome, is_some, length-map, Body, slot_acquired, is_open, ObjectHeader, Tag, objects_in, header_body}
+use Rattle.std.specs.Prelude.{not, slice_get}
 use Rattle.std.proofs.lemmas.Option.{slice_get-get_or}
 use Rattle.least.specs.Taken.{is_free_within}
-use Rattle.ob_body.specs.declared.body.Body.{Body}
-use Rattle.ob_waits.specs.CountedBodies.{slot_acquired}
-use Rattle.ob_store.specs.Closing.{is_closing_in, is_open}
-use Rattle.ob_store.specs.declared.object_header.ObjectHeader.{ObjectHeader}
-use Rattle.ob_store.specs.Objects.{Tag, objects_in, header_body}
+use Rattle.ob_store.specs.Closing.{is_closing_in}
 use Rattle.ob_store.proofs.LabelLaws.{object_read, header_there}
 use Rattle.ob_store.proofs.OwnerLaws.{some_there}
 use Rattle.ob_store.proofs.HeaderLaws.{read, mapped_same, mapped_set, mapped_stays}

@@ -1,13 +1,7 @@
 -- What a store keeps, told of its state.
-use Rattle.std.proofs.Common.{ap, ◌+◌, length, refl, ◌∙◌, subst, ltb}
-use Rattle.pin_core.specs.declared.shape.Shape.{Shape}
-use Rattle.ob_name.specs.Listing.{AreDistinct}
+use Rattle.ob_store.proofs.Cited.{ap, ◌+◌, length, refl, ◌∙◌, subst, ltb, Shape, AreDistinct, ObjectsInvariant, PartsState, whole_of, StoreInvariant, IsConsistent}
 use Rattle.ob_waits.specs.Deadlines.{AreAhead}
 use Rattle.ob_waits.specs.Rules as rules
-use Rattle.ob_store.specs.Agreement.{ObjectsInvariant}
-use Rattle.ob_store.specs.Parts.{PartsState, whole_of}
-use Rattle.ob_store.specs.Kept.{StoreInvariant}
-use Rattle.ob_store.specs.Consistent.{IsConsistent}
 use Rattle.ob_store.proofs.CountedLaws.{handles_at, blocks_at}
 use Rattle.ob_store.proofs.NamedLaws.{there_within, handles_are, blocks_are}
 use Rattle.ob_store.proofs.KeptLaws.{settled_kept}

@@ -1,19 +1,10 @@
 -- What is stored of references goes on being what is counted, as each change changes both.
-use Rattle.std.proofs.Common.{◌≡◌, ℕ, ◌+◌, ◌-◌, ◌<◌, List, [], ◌∷◌, length, Option, Some, None, ap, ◌∙◌, arith, get_or, set}
+use Rattle.ob_store.proofs.Cited.{◌≡◌, ℕ, ◌+◌, ◌-◌, ◌<◌, List, [], ◌∷◌, length, Option, Some, None, ap, ◌∙◌, arith, get_or, set, Body, HandleFlags, Entry, entry_at, slot_handles, table_of, with_table, with_entry_of, with_flags_of, without_entry_of, IsBounded, slot_handles-few, Wait, CountedBodies, Scene, slot_blocks, IsCounted}
 use Rattle.std.specs.Prelude.{replicate}
-use Rattle.ob_body.specs.declared.body.Body.{Body}
-use Rattle.ob_rights.specs.declared.handle_flags.HandleFlags.{HandleFlags}
-use Rattle.ob_tables.specs.declared.entry.Entry.{Entry}
-use Rattle.ob_tables.specs.Table.{entry_at}
-use Rattle.ob_tables.specs.Counts.{slot_handles}
-use Rattle.ob_tables.specs.Tables.{table_of, with_table, with_entry_of, with_flags_of, without_entry_of, IsBounded}
-use Rattle.ob_tables.proofs.SlotCounts.{one_in-same, one_in-other, slot_handles-with_entry, slot_handles-without_entry, slot_handles-with_flags, slot_handles-with_table, slot_handles-few}
-use Rattle.ob_waits.specs.declared.wait.Wait.{Wait}
-use Rattle.ob_waits.specs.CountedBodies.{CountedBodies}
-use Rattle.ob_waits.specs.Waits.{Scene, settled, slot_blocks}
+use Rattle.ob_tables.proofs.SlotCounts.{one_in-same, one_in-other, slot_handles-with_entry, slot_handles-without_entry, slot_handles-with_flags, slot_handles-with_table}
+use Rattle.ob_waits.specs.Waits.{settled}
 use Rattle.ob_waits.proofs.Ends.{sizes_settled}
 use Rattle.ob_waits.proofs.References.{settled_counts}
-use Rattle.ob_store.specs.Kept.{IsCounted}
 use Rattle.ob_store.proofs.BySlot.{count_at, count_few, counts_long, recounted, recounted_one, zero_counts}
 
 module _ (seen : CountedBodies) (n : ℕ) (ts : List (List (Option Entry))) (ws : List (Option Wait))

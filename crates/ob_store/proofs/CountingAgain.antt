@@ -1,20 +1,11 @@
 -- What is counted in a store that is kept is counted again, so that what it saves isn't refused.
-use Rattle.std.proofs.Common.{◌≡◌, ℕ, ◌+◌, ◌<◌, ◌≤◌, Bool, true, cond, List, [], ◌∷◌, length, Option, Some, None, Ok, refl, sym, ap, ◌∙◌, arith}
+use Rattle.ob_store.proofs.Cited.{◌≡◌, ℕ, ◌+◌, ◌<◌, ◌≤◌, Bool, true, cond, List, [], ◌∷◌, length, Option, Some, None, Ok, refl, sym, ap, ◌∙◌, arith, ext_get_or, length-replicate, sum_by-cons, same_Some, Id, Entry, handles_in, handles_among, slot_handles_in, slot_handles, IsBounded, slot_handles-few, Wait, counting_all, counting_in, is_its, IsCounted, IsNamed, IsThere, id_in, Object, Places, with_handle}
 use Rattle.ob_store.proofs.ByPlace.{replicate_at}
 use Rattle.std.proofs.lemmas.Bool.{and_from, lt-ltb}
-use Rattle.std.proofs.lemmas.List.{ext_get_or, length-replicate}
-use Rattle.std.proofs.lemmas.List.Sums.{sum_by-cons}
-use Rattle.std.proofs.lemmas.Option.{same_Some}
-use Rattle.pin_core.specs.declared.id.Id.{Id}
-use Rattle.ob_tables.specs.declared.entry.Entry.{Entry}
-use Rattle.ob_tables.specs.Counts.{names, names_slot, handles_in, handles_among, slot_handles_in, slot_handles}
+use Rattle.ob_tables.specs.Counts.{names, names_slot}
 use Rattle.ob_tables.proofs.Counting.{same_id-same}
-use Rattle.ob_tables.specs.Tables.{IsBounded}
-use Rattle.ob_tables.proofs.SlotCounts.{one_in-same, slot_handles-few}
-use Rattle.ob_waits.specs.declared.wait.Wait.{Wait}
-use Rattle.ob_store.specs.Counting.{counting_all, counting_in, is_its, may_count, uncounted}
-use Rattle.ob_store.specs.Kept.{IsCounted, IsNamed, IsThere, id_in}
-use Rattle.ob_store.specs.Objects.{Object, Places, with_handle}
+use Rattle.ob_tables.proofs.SlotCounts.{one_in-same}
+use Rattle.ob_store.specs.Counting.{may_count, uncounted}
 use Rattle.ob_store.proofs.CountedLaws as stored
 use Rattle.ob_store.proofs.CountedLaws.{handles_long}
 use Rattle.ob_store.proofs.CountingLaws.{IsWide, handles_at, one_counts, still_wide, table_counts, tables_count}

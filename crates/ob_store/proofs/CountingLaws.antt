@@ -1,15 +1,8 @@
 -- What counting leaves: all is as it was but for the handles, which are more by the entries that name a slot.
-use Rattle.std.proofs.Common.{◌≡◌, ℕ, ◌+◌, ◌<◌, true, cond, List, [], ◌∷◌, length, get_or, Option, Some, Ok, sym, ap, ◌∙◌, arith}
-use Rattle.std.proofs.lemmas.List.{length-set, get_or-set_same, get_or-set_other}
-use Rattle.std.proofs.lemmas.List.Sums.{sum_by-cons}
-use Rattle.pin_core.specs.declared.id.Id.{Id}
-use Rattle.ob_codec.specs.Steps.{bind_ok}
-use Rattle.ob_tables.specs.declared.entry.Entry.{Entry}
-use Rattle.ob_tables.specs.Counts.{names, names_slot, handles_in, handles_among, slot_handles_in, slot_handles}
+use Rattle.ob_store.proofs.Cited.{◌≡◌, ℕ, ◌+◌, ◌<◌, true, cond, List, [], ◌∷◌, length, get_or, Option, Some, Ok, sym, ap, ◌∙◌, arith, length-set, get_or-set_same, get_or-set_other, sum_by-cons, Id, bind_ok, Entry, handles_in, handles_among, slot_handles_in, slot_handles, counting_all, counting_in, is_its, IsThere, id_in, Object, Places, with_handle}
+use Rattle.ob_tables.specs.Counts.{names, names_slot}
 use Rattle.ob_tables.proofs.Counting.{one_id}
-use Rattle.ob_store.specs.Counting.{counting, counting_all, counting_in, is_its, may_count}
-use Rattle.ob_store.specs.Kept.{IsThere, id_in}
-use Rattle.ob_store.specs.Objects.{Object, Places, with_handle}
+use Rattle.ob_store.specs.Counting.{counting, may_count}
 use Rattle.ob_store.proofs.NamedLaws.{there_within}
 
 abbrev pub handles_at : Places → ℕ → ℕ

@@ -1,18 +1,9 @@
 -- How the rows of the directory change with the handles and with the objects, and whose rows they are.
-use Rattle.std.proofs.Common.{◌≡◌, ℕ, ◌≢◌, zero, suc, ◌<◌, List, [], ◌∷◌, ◌++◌, length, Option, Some, None, refl, ap, ◌∙◌, arith, get_or, set, Bool, true, false, cond, not, ◌&&◌, ltb, inl, inr}
-use Rattle.std.specs.List.{All, Contains, cons_option, filter, filter_map}
-use Rattle.std.proofs.lemmas.Bool.{cases_eq}
-use Rattle.std.proofs.lemmas.List.{get_or-set_other, get_or-set_same, length-set, set-get_or, set-set}
+use Rattle.ob_store.proofs.Cited.{◌≡◌, ℕ, ◌≢◌, zero, suc, ◌<◌, List, [], ◌∷◌, ◌++◌, length, Option, Some, None, refl, ap, ◌∙◌, arith, get_or, set, Bool, true, false, cond, not, ◌&&◌, ltb, inl, inr, Contains, cases_eq, get_or-set_other, get_or-set_same, length-set, set-get_or, Id, same_id, ObjectName, Rows, Row, Entry, handles_among, Object, rows_of}
+use Rattle.std.specs.List.{All, cons_option, filter, filter_map}
+use Rattle.std.proofs.lemmas.List.{set-set}
 use Rattle.std.proofs.lemmas.List.Elements.{All-append, All-nil, All-tail, Contains-append_left, Contains-append_right, filter-append}
-use Rattle.pin_core.specs.declared.id.Id.{Id}
-use Rattle.pin_core.specs.Holds.{same_id}
-use Rattle.ob_name.specs.Names.{ObjectName}
-use Rattle.ob_name.specs.Listing.{Rows}
-use Rattle.ob_name.specs.Order.{Row}
-use Rattle.ob_tables.specs.declared.entry.Entry.{Entry}
-use Rattle.ob_tables.specs.Counts.{handles_among}
-use Rattle.ob_store.specs.Objects.{Object}
-use Rattle.ob_store.specs.Directory.{named_row, row_of, rows_of}
+use Rattle.ob_store.specs.Directory.{named_row, row_of}
 
 abbrev pub Tables : Type 0
 Tables = List (List (Option Entry))

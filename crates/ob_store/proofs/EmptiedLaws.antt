@@ -1,23 +1,14 @@
 -- The entries of a table leave one after another.
-use Rattle.std.proofs.Common.{◌≡◌, ℕ, zero, suc, add-one, ◌+◌, ◌*◌, ◌<◌, List, [], ◌∷◌, length, Option, Some, None, refl, ap, ◌∙◌, sym, subst, arith, get_or, set, set-set, Bool, eqb}
+use Rattle.ob_store.proofs.Cited.{◌≡◌, ℕ, zero, suc, ◌+◌, ◌*◌, ◌<◌, List, [], ◌∷◌, length, Option, Some, None, refl, ap, ◌∙◌, sym, subst, arith, get_or, set, Bool, eqb, get_or-set_same, length-set, set-get_or, nat_tests, Entry, entry_at, HandleTables, table_of, without_entry_of, IsSome, KeeperState, Rows, ObjectsInvariant, IsSound, ObjectsState, name_in, PartsState, State, IsEnding, tables_left, with_left}
+use Rattle.std.proofs.Common.{add-one, set-set}
 use Rattle.std.proofs.Math.Nat.{mul-div_cancel_left}
-use Rattle.std.proofs.lemmas.List.{get_or-set_same, length-set, set-get_or}
-use Rattle.std.proofs.lemmas.Bool.Decides.{nat_tests}
-use Rattle.ob_tables.specs.declared.entry.Entry.{Entry}
-use Rattle.ob_tables.specs.Table.{entry_at, place_of}
-use Rattle.ob_tables.specs.Tables.{HandleTables, table_of, without_entries, without_entry_of}
+use Rattle.ob_tables.specs.Table.{place_of}
+use Rattle.ob_tables.specs.Tables.{without_entries}
 use Rattle.ob_tables.proofs.Counting.{without_found}
-use Rattle.std.specs.Prelude.{IsSome}
-use Rattle.pin_words.specs.Keepers.{KeeperState}
-use Rattle.ob_name.specs.Listing.{Rows}
-use Rattle.ob_store.specs.Agreement.{ObjectsInvariant}
 use Rattle.ob_store.specs.Ends.{process_ended}
-use Rattle.ob_store.specs.Kept.{IsSound}
 use Rattle.ob_store.specs.Moves.{rows_left}
-use Rattle.ob_store.specs.Objects.{ObjectsState, name_in, without_handle_of}
-use Rattle.ob_store.specs.Parts.{PartsState}
-use Rattle.ob_store.specs.State.{State}
-use Rattle.ob_store.specs.UnderWay.{IsEnding, tables_left, with_left, without_first}
+use Rattle.ob_store.specs.Objects.{without_handle_of}
+use Rattle.ob_store.specs.UnderWay.{without_first}
 use Rattle.ob_store.proofs.EndingLaws.{ending_process}
 use Rattle.ob_store.proofs.EnoughLaws.{enough_left}
 use Rattle.ob_store.proofs.LeavingLaws.{bodies_left, held, has_object, sound_left, way_left}

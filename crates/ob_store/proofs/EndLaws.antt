@@ -1,8 +1,5 @@
 -- A slot has a body exactly where something refers to its object: each change of the objects keeps that.
-use Rattle.std.proofs.Common.{◌≡◌, ℕ, ◌<◌, List, Option, Some, None, arith, get_or, set}
-use Rattle.std.proofs.lemmas.List.{length-set, get_or_past, get_or-set_same, get_or-set_other}
-use Rattle.ob_waits.specs.Rules.{HasBodies}
-use Rattle.ob_store.specs.Objects.{Places, without_handle}
+use Rattle.ob_store.proofs.Cited.{◌≡◌, ℕ, ◌<◌, List, Option, Some, None, arith, get_or, set, length-set, get_or_past, get_or-set_same, get_or-set_other, HasBodies, Places, without_handle}
 
 pub gone_set : {A : Type 0} (xs : List A) (i : ℕ) (none : A) → get_or (set xs i none) i none ≡ none
 gone_set xs i none = search (arith, get_or-set_same, get_or_past, length-set)

@@ -1,35 +1,15 @@
 -- Threads and processes end: what is sound stays so, and is on its way to the settled state.
-use Rattle.std.proofs.Common.{◌≡◌, ℕ, ◌≢◌, ◌<◌, List, length, Option, Some, None, refl, ap, ◌∙◌, arith, get_or, set, map, true}
-use Rattle.std.specs.Prelude.{is_some, sum_by}
-use Rattle.std.proofs.lemmas.List.{length-set, length-map, get_or-set_other, get_or-set_same}
-use Rattle.pin_core.specs.declared.id.Id.{Id}
-use Rattle.pin_words.specs.Keepers.{KeeperState}
-use Rattle.ob_body.specs.declared.body.Body.{Body}
-use Rattle.ob_body.specs.Body.{owner_of, after_abandon}
-use Rattle.ob_tables.specs.declared.entry.Entry.{Entry}
-use Rattle.ob_tables.specs.Tables.{table_of, without_entries}
-use Rattle.ob_tables.specs.Counts.{handles_among, slot_handles}
+use Rattle.ob_store.proofs.Cited.{◌≡◌, ℕ, ◌≢◌, ◌<◌, List, length, Option, Some, None, refl, ap, ◌∙◌, arith, get_or, set, map, true, is_some, sum_by, length-set, length-map, get_or-set_other, get_or-set_same, Id, KeeperState, Body, owner_of, Entry, table_of, handles_among, slot_handles, Wait, slot_form, slot_owner, CountedBodies, without_blocks, thread_of, slot_blocks, ObjectsInvariant, slot_left_by, thread_ended, IsLive, ProcessesState, IsCounted, ObjectsState, KeptRest, kept_rest, PartsState, SignaledState, KeepsEnough, State, AreLeft, IsEnding, IsUnderWay}
+use Rattle.ob_body.specs.Body.{after_abandon}
+use Rattle.ob_tables.specs.Tables.{without_entries}
 use Rattle.ob_tables.proofs.Counting.{handles_among-without_entries}
 use Rattle.ob_tables.proofs.SlotCounts.{slot_handles-without_entries}
-use Rattle.ob_waits.specs.declared.wait.Wait.{Wait}
-use Rattle.ob_waits.specs.Form.{slot_form, slot_owner}
-use Rattle.ob_waits.specs.CountedBodies.{CountedBodies, without_blocks}
 use Rattle.ob_waits.specs.Rules as rules
-use Rattle.ob_waits.specs.Rules.{thread_of}
-use Rattle.ob_waits.specs.Waits.{slot_blocks, thread_ids, unless_of, without_thread}
+use Rattle.ob_waits.specs.Waits.{thread_ids, unless_of, without_thread}
 use Rattle.ob_waits.proofs.Counted.{slot_dropped, blocks_dropped}
 use Rattle.ob_waits.proofs.Ends.{sizes_left}
 use Rattle.ob_waits.proofs.References.{left_all}
 use Rattle.ob_waits.proofs.Room.{room_dropped}
-use Rattle.ob_store.specs.Agreement.{ObjectsInvariant}
-use Rattle.ob_store.specs.Ends.{slot_left_by, thread_ended}
-use Rattle.ob_tables.specs.Processes.{IsLive, ProcessesState}
-use Rattle.ob_store.specs.Kept.{IsCounted}
-use Rattle.ob_store.specs.Objects.{ObjectsState, KeptRest, kept_rest}
-use Rattle.ob_store.specs.Parts.{PartsState}
-use Rattle.ob_store.specs.Signaled.{SignaledState, KeepsEnough}
-use Rattle.ob_store.specs.State.{State}
-use Rattle.ob_store.specs.UnderWay.{AreLeft, IsEnding, IsUnderWay}
 use Rattle.ob_store.proofs.BodyLaws.{formed_by}
 use Rattle.ob_store.proofs.BySlot.{recounted}
 use Rattle.ob_store.proofs.CountedLaws.{blocks_at}

@@ -1,18 +1,9 @@
 -- The slots by which it is enough to settle, while bodies and waits go and mutexes are abandoned.
-use Rattle.std.proofs.Common.{◌≡◌, ℕ, List, [], ◌∷◌, ◌++◌, Option, Some, None, ap, ◌∙◌, sym, arith, get_or, set, map, true, false}
-use Rattle.ob_codec.proofs.AtPlace.{at_place}
-use Rattle.std.proofs.lemmas.Bool.Decides.{nat_tests}
-use Rattle.std.proofs.lemmas.List.{get_or-set_other}
-use Rattle.pin_core.specs.declared.id.Id.{Id}
-use Rattle.ob_body.specs.declared.body.Body.{Body}
-use Rattle.ob_waits.specs.declared.wait.Wait.{Wait}
-use Rattle.ob_waits.specs.CountedBodies.{CountedBodies, slot_signaled, without_blocks}
-use Rattle.ob_waits.specs.Rules.{IsSettled}
-use Rattle.ob_waits.specs.declared.wait.Mode.TheVariants.{Any}
-use Rattle.ob_waits.specs.Waits.{has_slot, new_wait, unless_of}
-use Rattle.ob_waits.proofs.Settled.{settled_added, settled_dropped, settled_less}
-use Rattle.ob_store.specs.Signaled.{SignaledState, IsEnough, KeepsEnough, in_slot}
-use Rattle.ob_store.specs.UnderWay.{AreLeft}
+use Rattle.ob_store.proofs.Cited.{◌≡◌, ℕ, List, [], ◌∷◌, ◌++◌, Option, Some, None, ap, ◌∙◌, sym, arith, get_or, set, map, true, false, at_place, nat_tests, get_or-set_other, Id, Body, Wait, CountedBodies, without_blocks, IsSettled, Any, new_wait, settled_less, SignaledState, KeepsEnough, AreLeft}
+use Rattle.ob_waits.specs.CountedBodies.{slot_signaled}
+use Rattle.ob_waits.specs.Waits.{has_slot, unless_of}
+use Rattle.ob_waits.proofs.Settled.{settled_added, settled_dropped}
+use Rattle.ob_store.specs.Signaled.{IsEnough, in_slot}
 use Rattle.ob_store.proofs.LeftLaws.{left_blocks}
 
 -- where no wait is ready any are enough

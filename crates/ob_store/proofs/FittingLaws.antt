@@ -1,20 +1,9 @@
 -- Slots that are kept may be so, those that have a spelling fit, and which of them ever had an object.
-use Rattle.std.proofs.Common.{◌≡◌, ◌⊎◌, ℕ, ◌+◌, ◌-◌, ◌<◌, ◌≤◌, Bool, true, false, List, [], ◌++◌, length, get_or, map, replicate, take, drop, Option, sym, ap, ◌∙◌, arith, inl, inr}
-use Rattle.std.specs.Prelude.{sum_by}
-use Rattle.std.specs.List.{AllByRecursion, range_with_len}
-use Rattle.std.proofs.lemmas.Bool.{cases_lt, le-leb}
-use Rattle.std.proofs.lemmas.List.{drop_all, ext_get_or, length-append, length-replicate, length-drop, get_or-drop, get_or_append_left, get_or-append-add}
-use Rattle.std.proofs.lemmas.List.FromFn.{get_or-map-range_with_len, length-map-range_with_len, map-range_with_len_more}
-use Rattle.std.proofs.lemmas.List.Sums.{get_or-le-sum_by, sum_by-take-drop, sum_by_more, sum_by_more_le}
-use Rattle.pin_core.specs.declared.world.Slot.{Slot}
-use Rattle.pin_core.specs.Worlds.{opening_slot, slot_of}
-use Rattle.ob_body.specs.declared.body.Body.{Body}
-use Rattle.ob_store.specs.declared.saved_slot.SavedSlot.{SavedSlot}
-use Rattle.ob_store.specs.Agreement.{Agrees, ObjectsInvariant, made_in}
-use Rattle.ob_store.specs.Kept.{AreFormed}
-use Rattle.ob_store.specs.Objects.{Object, ObjectsState}
-use Rattle.ob_store.specs.SavedObjects.{object_saved, slot_saved, slots_saved}
-use Rattle.ob_store.specs.SavedSlots.{AnySlotFits, SlotFits, ends_used, fresh_slot, is_fresh, used}
+use Rattle.ob_store.proofs.Cited.{◌≡◌, ◌⊎◌, ℕ, ◌+◌, ◌-◌, ◌<◌, ◌≤◌, Bool, true, false, List, [], ◌++◌, length, get_or, map, replicate, take, drop, Option, sym, ap, ◌∙◌, arith, inl, inr, sum_by, AllByRecursion, range_with_len, cases_lt, le-leb, ext_get_or, length-replicate, get_or-map-range_with_len, length-map-range_with_len, get_or-le-sum_by, Slot, opening_slot, slot_of, Body, SavedSlot, Agrees, ObjectsInvariant, made_in, AreFormed, Object, ObjectsState, object_saved, slot_saved, slots_saved, SlotFits, ends_used, fresh_slot, used}
+use Rattle.std.proofs.lemmas.List.{drop_all, length-append, length-drop, get_or-drop, get_or_append_left, get_or-append-add}
+use Rattle.std.proofs.lemmas.List.FromFn.{map-range_with_len_more}
+use Rattle.std.proofs.lemmas.List.Sums.{sum_by-take-drop, sum_by_more, sum_by_more_le}
+use Rattle.ob_store.specs.SavedSlots.{AnySlotFits, is_fresh}
 use Rattle.ob_store.proofs.ByPlace.{all_by_place, replicate_at}
 use Rattle.ob_store.proofs.UsedLaws.{ends_more, used_is}
 

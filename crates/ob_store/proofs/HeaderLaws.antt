@@ -1,19 +1,10 @@
 -- One header changed: what becomes of the lists that are read off the headers.
-use Rattle.std.proofs.Common.{◌≡◌, ℕ, ◌-◌, ◌+◌, ◌<◌, List, length, Option, Some, None, ap, ◌∙◌, sym, arith, get_or, set, map, replicate, Bool, true, false, cond, eqb}
-use Rattle.std.specs.Prelude.{IfSome, IsSome}
-use Rattle.std.proofs.Math.Seq.{map-set_same}
-use Rattle.std.proofs.lemmas.List.{length-map, get_or-map, get_or_past, get_or-set_same, map-set, set-get_or}
-use Rattle.least.specs.Padded.{padded}
+use Rattle.ob_store.proofs.Cited.{◌≡◌, ℕ, ◌-◌, ◌+◌, ◌<◌, List, length, Option, Some, None, ap, ◌∙◌, sym, arith, get_or, set, map, replicate, Bool, true, false, cond, eqb, IfSome, IsSome, map-set_same, length-map, get_or-map, get_or_past, get_or-set_same, set-get_or, padded, Id, Body, Slots, is_vacant_at, map-replicate, slot_acquired, without_block, ObjectHeader, with_blocks_at, Object, Places, places_of, Tag, object_of, objects_in, header_body, vacancy, vacant_places, with_handle, without_handle, without_header, no_tag}
+use Rattle.std.proofs.lemmas.List.{map-set}
 use Rattle.least.proofs.PaddedLemmas.{padded_length}
-use Rattle.pin_core.specs.declared.id.Id.{Id}
-use Rattle.ob_body.specs.declared.body.Body.{Body}
-use Rattle.ob_arena.specs.Slots.{Slots, is_vacant_at, least_vacant, vacant_count}
-use Rattle.ob_arena.proofs.Phasing.{map-replicate}
+use Rattle.ob_arena.specs.Slots.{least_vacant, vacant_count}
 use Rattle.ob_arena.proofs.SlotLemmas.{vacant_least}
-use Rattle.ob_waits.specs.CountedBodies.{slot_acquired, without_block}
-use Rattle.ob_store.specs.declared.object_header.ObjectHeader.{ObjectHeader}
-use Rattle.ob_store.specs.SavedWaits.{with_blocks_at}
-use Rattle.ob_store.specs.Objects.{Object, Places, places_of, rest_of, seen_in, Tag, object_at, object_of, objects_in, header_body, header_handles, header_blocks, header_handle_left, header_block_left, vacancy, vacant_places, with_header_of, with_handle, without_handle, with_block, without_header, is_last_handle, no_tag}
+use Rattle.ob_store.specs.Objects.{rest_of, seen_in, object_at, header_handles, header_blocks, header_handle_left, header_block_left, with_header_of, with_block, is_last_handle}
 use Rattle.ob_store.proofs.LabelLaws.{object_read, objects_kept, objects_padded, objects_length, objects_none, objects_out, objects_put, header_there}
 
 -- what a list that is read off another has at a place

@@ -1,11 +1,9 @@
 -- What holds of objects and their keeper holds over another keeper that begins with the same slots.
-use Rattle.std.proofs.Common.{arith}
-use Rattle.std.proofs.lemmas.List.{get_or_past}
+use Rattle.ob_store.proofs.Cited.{arith, get_or_past, KeeperState, IsAgreed, ObjectsInvariant, ObjectsState}
 use Rattle.pin_core.specs.Opened.{shown_from}
 use Rattle.pin_core.proofs.Openings.{shown-once}
-use Rattle.pin_words.specs.Keepers.{KeeperState, IsFreshWith}
-use Rattle.ob_store.specs.Agreement.{IsAgreed, IsListed, ObjectsInvariant}
-use Rattle.ob_store.specs.Objects.{ObjectsState}
+use Rattle.pin_words.specs.Keepers.{IsFreshWith}
+use Rattle.ob_store.specs.Agreement.{IsListed}
 
 pub all_shown : (s : ObjectsState) → IsAgreed s → IsListed (shown_from 0 s.keeper.slots) s.objects
 all_shown s a = search (arith, shown-once, get_or_past)

@@ -1,28 +1,12 @@
 -- What is kept is kept by each change of a store, and the state after it is the settled one.
-use Rattle.ob_codec.proofs.AtPlace.{at_place}
-use Rattle.std.proofs.Common.{◌≡◌, ℕ, ◌+◌, ◌<◌, ◌≤◌, List, [], ◌∷◌, length, Option, Some, None, refl, ap, ◌∙◌, sym, subst, arith, get_or, map, true, ltb, set}
-use Rattle.std.specs.Prelude.{IsSome}
-use Rattle.pin_core.specs.declared.id.Id.{Id}
-use Rattle.pin_core.specs.declared.world.Slot.{Slot}
-use Rattle.pin_words.specs.Keepers.{KeeperState}
-use Rattle.ob_rights.specs.declared.handle_flags.HandleFlags.{HandleFlags}
-use Rattle.ob_tables.specs.declared.entry.Entry.{Entry}
-use Rattle.ob_tables.specs.Counts.{handles_among}
-use Rattle.ob_tables.specs.Table.{entry_at}
-use Rattle.ob_tables.specs.Tables.{IsBounded, table_of, with_entry_of, with_flags_of}
+use Rattle.ob_store.proofs.Cited.{at_place, ◌≡◌, ℕ, ◌+◌, ◌<◌, ◌≤◌, List, [], ◌∷◌, length, Option, Some, None, refl, ap, ◌∙◌, sym, subst, arith, get_or, map, true, ltb, set, IsSome, Id, Slot, KeeperState, HandleFlags, Entry, handles_among, entry_at, IsBounded, table_of, with_entry_of, with_flags_of, HasBodies, WaitList, Limits, IsLive, ProcessesKept, ProcessesState, Object, ObjectsState, KeptRest, kept_rest, opened, ObjectsInvariant, PartsState, state_of, whole_of, SignaledState, Whole, objects_of, settled, generation_of, StoreInvariant, IsSound, IsCounted, AreFormed, AreOfLive, IsListing, IsPopulated, IsNamed, IsFree}
 use Rattle.ob_tables.specs.Tables as tables
 use Rattle.ob_tables.proofs.SlotCounts.{slot_handles-le}
-use Rattle.ob_waits.specs.Rules.{HasBodies, WaitsHaveRoom}
-use Rattle.ob_waits.specs.Waits.{WaitList}
-use Rattle.ob_tables.specs.declared.limits.Limits.{Limits}
+use Rattle.ob_waits.specs.Rules.{WaitsHaveRoom}
 use Rattle.ob_tables.specs.Processes as spec
-use Rattle.ob_tables.specs.Processes.{IsLive, ProcessesKept, ProcessesState, next_number}
-use Rattle.ob_store.specs.Objects.{Object, ObjectsState, KeptRest, kept_rest, with_handle_of, opened, open_slot}
-use Rattle.ob_store.specs.Agreement.{ObjectsInvariant}
-use Rattle.ob_store.specs.Parts.{PartsState, state_of, whole_of}
-use Rattle.ob_store.specs.Signaled.{SignaledState}
-use Rattle.ob_store.specs.State.{Whole, objects_of, next_process, next_thread, settled, generation_of}
-use Rattle.ob_store.specs.Kept.{StoreInvariant, IsSound, IsCounted, AreFormed, AreOfLive, IsListing, IsPopulated, IsNamed}
+use Rattle.ob_tables.specs.Processes.{next_number}
+use Rattle.ob_store.specs.Objects.{with_handle_of, open_slot}
+use Rattle.ob_store.specs.State.{next_process, next_thread}
 use Rattle.ob_store.proofs.CountedLaws.{handles_at, handles_few, counted_flags, counted_placed, counted_process}
 use Rattle.ob_store.proofs.NamedLaws.{there_within, named_flags, named_placed, named_process}
 use Rattle.ob_store.proofs.BodyLaws.{of_live_more}
@@ -30,7 +14,7 @@ use Rattle.ob_store.proofs.ListingLaws.{listing_flags, listing_process, listing_
 use Rattle.ob_store.proofs.PlacedLaws.{live_tabled}
 use Rattle.ob_store.proofs.PopulatedLaws.{populated_process, populated_thread}
 use Rattle.ob_store.proofs.SettledLaws.{settled_still}
-use Rattle.ob_tables.proofs.GivenLaws.{IsFree, live_put, next_is_free, process_kept, thread_kept}
+use Rattle.ob_tables.proofs.GivenLaws.{live_put, next_is_free, process_kept, thread_kept}
 
 -- the table of one process changes, which stays empty where that isn't live
 pub table_changed : (limits : Limits) (l : ProcessesState) (ts : List (List (Option Entry))) (process : ℕ)

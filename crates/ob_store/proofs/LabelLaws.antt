@@ -1,12 +1,7 @@
 -- The objects that are read off the headers and their tags, and the tags that are read off labels and names.
-use Rattle.std.proofs.Common.{◌≡◌, ℕ, zero, suc, ◌-◌, ◌∷◌, ◌++◌, [], ◌<◌, List, length, Option, Some, None, refl, ap, ◌∙◌, sym, arith, get_or, set, replicate, false, cond}
-use Rattle.std.specs.Prelude.{IsSome}
+use Rattle.ob_store.proofs.Cited.{◌≡◌, ℕ, zero, suc, ◌-◌, ◌∷◌, ◌++◌, [], ◌<◌, List, length, Option, Some, None, refl, ap, ◌∙◌, sym, arith, get_or, set, replicate, false, cond, IsSome, padded, ObjectName, Label, ObjectHeader, Tag, name_in, object_of, objects_in, no_tag, tag_of, tags_in}
 use Rattle.std.proofs.lemmas.List.{get_or_default}
-use Rattle.least.specs.Padded.{padded}
-use Rattle.ob_name.specs.Names.{ObjectName}
-use Rattle.ob_store.specs.declared.label.Label.{Label}
-use Rattle.ob_store.specs.declared.object_header.ObjectHeader.{ObjectHeader}
-use Rattle.ob_store.specs.Objects.{Tag, name_in, object_at, object_of, objects_in, no_label, no_tag, tag_of, tags_in}
+use Rattle.ob_store.specs.Objects.{object_at, no_label}
 
 pub object_read : (xs : List (Option ObjectHeader)) (ls : List Tag) (k : ℕ)
     → get_or (objects_in xs ls) k None ≡ object_at (get_or xs k None) (get_or ls k no_tag)

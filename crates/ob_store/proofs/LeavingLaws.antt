@@ -1,22 +1,8 @@
 -- The entry of a handle leaves: what is sound stays so, and is on its way to the settled state.
-use Rattle.ob_codec.proofs.AtPlace.{at_place}
-use Rattle.std.proofs.Common.{◌≡◌, ℕ, ◌+◌, ◌<◌, List, length, Option, Some, None, refl, ap, ◌∙◌, sym, arith, get_or, Bool, true, false, cond, eqb, []}
-use Rattle.std.specs.Prelude.{is_some, IsSome}
-use Rattle.std.proofs.lemmas.Bool.Decides.{nat_tests}
-use Rattle.pin_words.specs.Keepers.{KeeperState}
-use Rattle.ob_name.specs.Names.{ObjectName}
-use Rattle.ob_name.specs.Listing.{Rows}
-use Rattle.ob_tables.specs.declared.entry.Entry.{Entry}
-use Rattle.ob_tables.specs.Table.{entry_at, without_entry}
-use Rattle.ob_tables.specs.Counts.{handles_among}
-use Rattle.ob_tables.specs.Tables.{table_of, without_entry_of}
-use Rattle.ob_store.specs.Objects.{Object, ObjectsState, name_in, without_handle_of}
-use Rattle.ob_store.specs.Agreement.{ObjectsInvariant}
-use Rattle.ob_store.specs.Kept.{IsThere, IsNamed, IsListing, IsSound}
+use Rattle.ob_store.proofs.Cited.{at_place, ◌≡◌, ℕ, ◌+◌, ◌<◌, List, length, Option, Some, None, refl, ap, ◌∙◌, sym, arith, get_or, Bool, true, false, cond, eqb, [], is_some, IsSome, nat_tests, KeeperState, ObjectName, Rows, Entry, entry_at, handles_among, table_of, without_entry_of, Object, ObjectsState, name_in, ObjectsInvariant, IsThere, IsNamed, IsListing, IsSound, PartsState, State, AreLeft, IsUnderWay}
+use Rattle.ob_tables.specs.Table.{without_entry}
+use Rattle.ob_store.specs.Objects.{without_handle_of}
 use Rattle.ob_store.specs.Moves.{rows_left, rows_without}
-use Rattle.ob_store.specs.Parts.{PartsState}
-use Rattle.ob_store.specs.State.{State}
-use Rattle.ob_store.specs.UnderWay.{AreLeft, IsUnderWay}
 use Rattle.ob_store.proofs.AgreeLaws.{opened_closed}
 use Rattle.ob_store.proofs.CountedLaws.{handles_at, counted_removed, one_less}
 use Rattle.ob_store.proofs.NamedLaws.{there_some, there_within, named_entry, named_removed, handles_are}

@@ -1,16 +1,8 @@
 -- Bodies that went, as references left.
-use Rattle.std.proofs.Common.{◌≡◌, ℕ, ◌⊎◌, List, [], ◌∷◌, Option, None, get_or, set, Bool, cond, arith}
-use Rattle.std.proofs.lemmas.List.{length-set}
-use Rattle.pin_core.specs.declared.id.Id.{Id}
-use Rattle.ob_body.specs.declared.body.Body.{Body}
-use Rattle.ob_waits.specs.Ends.{slot_ended, ended}
-use Rattle.ob_waits.specs.CountedBodies.{CountedBodies, without_block, without_blocks}
-use Rattle.ob_waits.specs.Rules.{HasBodies}
+use Rattle.ob_store.proofs.Cited.{◌≡◌, ℕ, ◌⊎◌, List, [], ◌∷◌, Option, None, get_or, set, Bool, cond, arith, length-set, Id, Body, ended, CountedBodies, without_block, without_blocks, HasBodies, Object, AreFormed, AreLeft}
+use Rattle.ob_waits.specs.Ends.{slot_ended}
 use Rattle.ob_waits.proofs.EndsLast.{is_ended}
 use Rattle.ob_waits.proofs.Settling.{IsLess}
-use Rattle.ob_store.specs.Objects.{Object}
-use Rattle.ob_store.specs.Kept.{AreFormed}
-use Rattle.ob_store.specs.UnderWay.{AreLeft}
 use Rattle.ob_store.proofs.BodyLaws.{at_gone}
 
 pub left_same : (bodies : List (Option Body)) → AreLeft bodies bodies

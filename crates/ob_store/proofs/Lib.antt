@@ -62,3 +62,4 @@ pub mod ConsistentLaws
 pub mod StoredLaws
 pub mod MetLaws
 pub mod OpenedLaws
+mod Cited

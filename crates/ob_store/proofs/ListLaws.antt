@@ -1,15 +1,9 @@
 -- The published list has each object.
-use Rattle.std.proofs.Common.{◌≡◌, ℕ, ◌<◌, List, [], ◌∷◌, ◌++◌, length, get_or, set, ap, arith, Option, Some, None}
-use Rattle.std.proofs.lemmas.List.{get_or-set_same, get_or-set_other, get_or_past, length-set}
-use Rattle.pin_core.specs.declared.id.Id.{Id}
+use Rattle.ob_store.proofs.Cited.{◌≡◌, ℕ, ◌<◌, List, [], ◌∷◌, ◌++◌, length, get_or, set, ap, arith, Option, Some, None, get_or-set_same, get_or-set_other, get_or_past, length-set, Id, Slot, slot_of, id_of, Object, ObjectsState, ObjectAttributes, object_in}
 use Rattle.pin_core.specs.declared.descr.Descr.{Descr}
-use Rattle.pin_core.specs.declared.world.Slot.{Slot}
-use Rattle.pin_core.specs.Worlds.{slot_of}
 use Rattle.pin_core.specs.Events.{with_descr}
 use Rattle.pin_core.proofs.Counts.{count-snoc}
 use Rattle.pin_words.specs.Keepers.{stored, published}
-use Rattle.pin_words.specs.Views.{id_of}
-use Rattle.ob_store.specs.Objects.{Object, ObjectsState, ObjectAttributes, object_in}
 use Rattle.ob_store.specs.Agreement.{Listed, IsListed}
 
 -- an object set at a slot, or one that leaves

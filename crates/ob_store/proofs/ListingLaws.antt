@@ -1,32 +1,20 @@
 -- The names that are entered go on being the directory, and distinct, as handles and objects come and leave.
-use Rattle.std.proofs.Common.{◌≡◌, ℕ, ◌+◌, ◌<◌, ◌≤◌, [], ◌∷◌, ◌++◌, length, replicate, Some, None, refl, ap, ◌∙◌, sym, subst, arith, get_or, set, Bool, true, false, not, ◌&&◌, ltb, is_some, inl, inr, Option}
+use Rattle.ob_store.proofs.Cited.{◌≡◌, ℕ, ◌+◌, ◌<◌, ◌≤◌, [], ◌∷◌, ◌++◌, length, replicate, Some, None, refl, ap, ◌∙◌, sym, subst, arith, get_or, set, Bool, true, false, not, ◌&&◌, ltb, inl, inr, Option, Contains, cases_lt, append-nil, get_or_past, same_Some, HandleFlags, Id, same_id, ObjectName, AreDistinct, Rows, find_name, Row, Entry, handles_among, handles_in, entry_at, table_of, with_entry_of, with_flags_of, with_table, without_entry_of, handles_among-with_table, some_within, Object, ObjectsState, AreBorn, IsAgreed, rows_of, IsListing}
+use Rattle.std.proofs.Common.{is_some}
 use Rattle.std.specs.Cmp.{both_ways}
-use Rattle.std.specs.List.{All, Contains, IsDistinct, filter}
+use Rattle.std.specs.List.{All, IsDistinct, filter}
 use Rattle.std.specs.Map.{keys_of}
-use Rattle.std.proofs.lemmas.Bool.{cases_lt, ltb-true}
-use Rattle.std.proofs.lemmas.List.{append-nil, get_or_past, map-append, set_past}
+use Rattle.std.proofs.lemmas.Bool.{ltb-true}
+use Rattle.std.proofs.lemmas.List.{map-append, set_past}
 use Rattle.std.proofs.lemmas.List.Elements.{All-from_recursion, All-tail, Contains-get_or}
 use Rattle.std.proofs.lemmas.Map.Entries.{none_past_head}
 use Rattle.std.proofs.lemmas.Map.Keys.{IsDistinct-push, IsDistinct-tail}
 use Rattle.std.proofs.lemmas.Map.Made.{IsDistinct-keys_filter, is_some-lookup}
 use Rattle.std.proofs.lemmas.Map.Views.{Contains-from_lookup, lookup-from_Contains}
-use Rattle.std.proofs.lemmas.Option.{same_Some}
-use Rattle.ob_rights.specs.declared.handle_flags.HandleFlags.{HandleFlags}
-use Rattle.pin_core.specs.declared.id.Id.{Id}
-use Rattle.pin_core.specs.Holds.{same_id}
-use Rattle.ob_name.specs.Names.{ObjectName}
-use Rattle.ob_name.specs.Listing.{AreDistinct, Rows, find_name, same_name, without_name}
-use Rattle.ob_name.specs.Order.{Row}
+use Rattle.ob_name.specs.Listing.{same_name, without_name}
 use Rattle.ob_name.specs.Same.{same_name-Decides, same_name_equiv}
-use Rattle.ob_tables.specs.declared.entry.Entry.{Entry}
-use Rattle.ob_tables.specs.Counts.{handles_among, handles_in}
-use Rattle.ob_tables.specs.Table.{entry_at}
-use Rattle.ob_tables.specs.Tables.{new_table, table_of, with_entry_of, with_flags_of, with_table, without_entry_of}
-use Rattle.ob_tables.proofs.Counting.{found_counts, handles_among-with_entry, handles_among-with_flags, handles_among-with_table, handles_among-without_entry, handles_in-among, handles_in-inherited, one_of, some_within}
-use Rattle.ob_store.specs.Objects.{Object, ObjectsState}
-use Rattle.ob_store.specs.Agreement.{AreBorn, IsAgreed}
-use Rattle.ob_store.specs.Directory.{rows_of}
-use Rattle.ob_store.specs.Kept.{IsListing}
+use Rattle.ob_tables.specs.Tables.{new_table}
+use Rattle.ob_tables.proofs.Counting.{found_counts, handles_among-with_entry, handles_among-with_flags, handles_among-without_entry, handles_in-among, handles_in-inherited, one_of}
 use Rattle.ob_store.proofs.DirectoryLaws.{IsRow, ObjectSlots, Tables, first_goes, has_handles, is_of_other, others_stay, row_there, rows_added, rows_are, rows_gone, rows_left, rows_same}
 
 -- each object stands in the slot of its Id

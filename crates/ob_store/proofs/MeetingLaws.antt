@@ -1,14 +1,10 @@
 -- A held Id has its object.
-use Rattle.std.proofs.Common.{◌≡◌, ◌<◌, true, None, slice_index_or, arith}
-use Rattle.pin_core.specs.declared.id.Id.{Id}
+use Rattle.ob_store.proofs.Cited.{◌≡◌, ◌<◌, true, None, arith, Id, slot_of, id_of, ObjectsInvariant, ObjectsState}
+use Rattle.std.proofs.Common.{slice_index_or}
 use Rattle.pin_core.specs.Safety.{may_be_held}
-use Rattle.pin_core.specs.Worlds.{slot_of}
 use Rattle.pin_words.specs.declared.view.ReaderView.{ReaderView}
 use Rattle.pin_words.specs.Plays.{Show}
-use Rattle.pin_words.specs.Views.{id_of}
-use Rattle.ob_store.specs.Agreement.{ObjectsInvariant}
 use Rattle.ob_store.specs.Meetings.{IsFound}
-use Rattle.ob_store.specs.Objects.{ObjectsState}
 
 -- what the keeper says of the slot of a held Id is what the object there has
 pub held_found : (s : ObjectsState) (r : ReaderView) (id : Id) → ObjectsInvariant s → id.slot < s.keeper.shape.slots

@@ -1,21 +1,6 @@
 -- A thread's wait comes as another object, or the same, is signaled: what is kept, and the slots by which it is enough to
 -- settle.
-use Rattle.std.proofs.Common.{◌≡◌, ℕ, zero, suc, ◌<◌, [], ◌∷◌, Option, Some, None, ◌∙◌, ap, sym, subst, arith, get_or, set, length}
-use Rattle.pin_core.specs.declared.id.Id.{Id}
-use Rattle.ob_body.specs.declared.body.Body.{Body}
-use Rattle.ob_tables.specs.Counts.{handles_among}
-use Rattle.ob_waits.specs.declared.wait.Mode.TheVariants.{Any}
-use Rattle.ob_waits.specs.Rules.{HasRoom}
-use Rattle.ob_waits.specs.Waits.{nowhere}
-use Rattle.ob_store.specs.Agreement.{ObjectsInvariant}
-use Rattle.ob_tables.specs.Processes.{IsLive}
-use Rattle.ob_store.specs.Kept.{StoreInvariant, Yields}
-use Rattle.ob_store.specs.Objects.{ObjectsState, kept_rest}
-use Rattle.ob_store.specs.Parts.{PartsState, state_of}
-use Rattle.ob_store.specs.Signaled.{SignaledState}
-use Rattle.ob_store.specs.State.{State, with_body}
-use Rattle.ob_store.specs.UnderWay.{IsUnderWay}
-use Rattle.ob_store.specs.Waiting.{with_wait}
+use Rattle.ob_store.proofs.Cited.{◌≡◌, ℕ, zero, suc, ◌<◌, [], ◌∷◌, Option, Some, None, ◌∙◌, ap, sym, subst, arith, get_or, set, length, Id, Body, handles_among, Any, HasRoom, nowhere, ObjectsInvariant, IsLive, StoreInvariant, Yields, ObjectsState, kept_rest, PartsState, state_of, SignaledState, State, with_body, IsUnderWay, with_wait}
 use Rattle.ob_store.proofs.OpenedLaws.{kept_opened, opened_joined, opened_state, with_opened}
 use Rattle.ob_store.proofs.UnderWayLaws.{way_changed}
 use Rattle.ob_store.proofs.WaitedLaws.{sound_waiting, state_waiting, waiting}

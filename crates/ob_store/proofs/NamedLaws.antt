@@ -1,23 +1,10 @@
 -- Each Id that is named goes on being that of an object; and what a slot counts is what its object's Id counts.
-use Rattle.ob_codec.proofs.AtPlace.{at_place}
-use Rattle.std.proofs.Common.{◌≡◌, ℕ, ◌≢◌, suc, ◌<◌, ◌≤◌, List, [], ◌∷◌, length, Option, Some, None, refl, ap, ◌∙◌, arith, get_or, set, Bool, cond, eqb}
-use Rattle.std.specs.Prelude.{sum_by}
-use Rattle.std.proofs.lemmas.List.{get_or_past, get_or-set_same, get_or-set_other}
-use Rattle.std.proofs.lemmas.List.Sums.{sum_by-cons, get_or-le-sum_by}
-use Rattle.pin_core.specs.Holds.{same_id}
-use Rattle.pin_core.specs.declared.id.Id.{Id}
-use Rattle.ob_rights.specs.declared.handle_flags.HandleFlags.{HandleFlags}
-use Rattle.ob_tables.specs.declared.entry.Entry.{Entry}
-use Rattle.ob_tables.specs.Table.{at, entry_at}
-use Rattle.ob_tables.specs.Counts.{handles_among, slot_handles}
-use Rattle.ob_tables.specs.Tables.{table_of, with_table, with_entry_of, with_flags_of, without_entry_of}
-use Rattle.ob_tables.proofs.Counting.{same_id-same, some_within, found_counts, handles_among-with_entry, handles_among-with_flags, handles_among-without_entry, handles_among-with_table}
+use Rattle.ob_store.proofs.Cited.{at_place, ◌≡◌, ℕ, ◌≢◌, suc, ◌<◌, ◌≤◌, List, [], ◌∷◌, length, Option, Some, None, refl, ap, ◌∙◌, arith, get_or, set, Bool, cond, eqb, sum_by, get_or_past, get_or-set_same, get_or-set_other, sum_by-cons, get_or-le-sum_by, same_id, Id, HandleFlags, Entry, entry_at, handles_among, slot_handles, table_of, with_table, with_entry_of, with_flags_of, without_entry_of, some_within, handles_among-with_table, Wait, Scene, nowhere, ids_of, slot_places, slot_blocks, blocks_among, Object, id_in, IsThere, IsNamed}
+use Rattle.ob_tables.specs.Table.{at}
+use Rattle.ob_tables.proofs.Counting.{same_id-same, found_counts, handles_among-with_entry, handles_among-with_flags, handles_among-without_entry}
 use Rattle.ob_tables.proofs.SlotCounts.{slot_handles-one}
-use Rattle.ob_waits.specs.declared.wait.Wait.{Wait}
-use Rattle.ob_waits.specs.Waits.{Scene, settled, nowhere, ids_of, slot_places, slot_blocks, blocks_in, blocks_among}
+use Rattle.ob_waits.specs.Waits.{settled, blocks_in}
 use Rattle.ob_waits.proofs.Counted.{blocks_settled}
-use Rattle.ob_store.specs.Objects.{Object}
-use Rattle.ob_store.specs.Kept.{id_in, IsThere, IsNamed}
 
 -- the object of an Id is in its slot
 pub there_some : (objects : List (Option Object)) (id : Id) → IsThere objects id

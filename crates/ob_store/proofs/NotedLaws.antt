@@ -1,15 +1,8 @@
 -- What is noted beside the headers, while one of them changes.
-use Rattle.ob_codec.proofs.AtPlace.{at_place}
-use Rattle.std.proofs.Common.{ℕ, arith, ◌≡◌, ◌<◌, ◌≤◌, List, length, Option, Some, None, ap, refl, sym, get_or, map, set, Bool, false, cond}
-use Rattle.std.specs.Prelude.{IsSome, is_some, not}
-use Rattle.std.proofs.lemmas.List.{length-set}
-use Rattle.ob_body.specs.declared.body.Body.{Body}
-use Rattle.ob_name.specs.Names.{ObjectName}
-use Rattle.ob_waits.specs.Form.{slot_due, slot_owner}
-use Rattle.ob_store.specs.declared.label.Label.{Label}
-use Rattle.ob_store.specs.declared.object_header.ObjectHeader.{ObjectHeader}
+use Rattle.ob_store.proofs.Cited.{at_place, ℕ, arith, ◌≡◌, ◌<◌, ◌≤◌, List, length, Option, Some, None, ap, refl, sym, get_or, map, set, Bool, false, cond, IsSome, is_some, length-set, Body, ObjectName, slot_due, slot_owner, Label, ObjectHeader, header_due}
+use Rattle.std.specs.Prelude.{not}
 use Rattle.ob_store.specs.Owners.{owned_came, owned_left, owned_moved, header_owner}
-use Rattle.ob_store.specs.Timers.{AreNoted, due_left, header_due}
+use Rattle.ob_store.specs.Timers.{AreNoted, due_left}
 use Rattle.ob_store.proofs.OwnerLaws.{moved_owned, owned_left_at, owned_set, owned_stays}
 use Rattle.ob_store.proofs.TimerLaws.{timed_left_at}
 use Rattle.ob_store.proofs.ClosingLaws.{opened_back, opened_left_at}

@@ -1,9 +1,5 @@
 -- A change of all bodies that is made at one slot after another.
-use Rattle.std.proofs.Common.{◌≡◌, ℕ, arith, Option, None, ap, ◌∙◌, get_or, set, map}
-use Rattle.std.proofs.Math.Seq.{map-set_same}
-use Rattle.std.proofs.lemmas.List.{length-map, get_or-map, ext_get_or}
-use Rattle.ob_body.specs.declared.body.Body.{Body}
-use Rattle.ob_waits.specs.CountedBodies.{CountedBodies}
+use Rattle.ob_store.proofs.Cited.{◌≡◌, ℕ, arith, Option, None, ap, ◌∙◌, get_or, set, map, map-set_same, length-map, get_or-map, ext_get_or, Body, CountedBodies}
 use Rattle.ob_store.specs.Objects.{changed_at}
 
 module _ (f : Option Body → Option Body) where

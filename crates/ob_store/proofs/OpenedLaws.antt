@@ -1,15 +1,9 @@
 -- Numbers of waits begin anew: what is kept stays so, and there is always one left.
-use Rattle.std.proofs.Common.{◌≡◌, ℕ, ◌+◌, Bool, true, false, cond, List, length, Option, Some, None, refl, sym, ap, ◌∙◌, arith, get_or, ◌↔◌, Err}
-use Rattle.std.proofs.lemmas.Bool.Decides.{nat_tests}
-use Rattle.ob_waits.specs.declared.wait.Wait.{Wait}
-use Rattle.ob_waits.specs.Rules.{WaitsInvariant, thread_of}
-use Rattle.pin_core.specs.declared.id.Id.{Id}
-use Rattle.ob_waits.specs.declared.wait.Mode.{Mode}
-use Rattle.ob_waits.specs.Waits.{WaitList, is_full, state_at, state_shown, with_renewed}
+use Rattle.ob_store.proofs.Cited.{◌≡◌, ℕ, ◌+◌, Bool, true, false, cond, List, length, Option, Some, None, refl, sym, ap, ◌∙◌, arith, get_or, Err, nat_tests, Wait, thread_of, Id, Mode, WaitList, IsLive, StoreInvariant, PartsState, state_of, whole_of, Pending, State, Whole, settled, with_wait}
+use Rattle.std.proofs.Common.{◌↔◌}
+use Rattle.ob_waits.specs.Rules.{WaitsInvariant}
+use Rattle.ob_waits.specs.Waits.{is_full, state_at, state_shown, with_renewed}
 use Rattle.ob_waits.proofs.RenewedLaws.{blocks_renewed, each_renewed, few_renewed, room_renewed, settled_renewed, slot_blocks_renewed}
-use Rattle.ob_tables.specs.Processes.{IsLive}
-use Rattle.ob_store.specs.Kept.{StoreInvariant}
-use Rattle.ob_store.specs.Parts.{PartsState, state_of, whole_of}
 use Rattle.std.specs.Prelude.{Result}
 use Rattle.ob_rights.specs.declared.fault.Fault.{Fault}
 use Rattle.ob_rights.specs.declared.fault.Fault.TheVariants.{Limit}
@@ -17,12 +11,11 @@ use Rattle.least.specs.From.{IsLeastFrom}
 use Rattle.ob_waits.specs.declared.answer.Answer.{Answer}
 use Rattle.std.specs.Option.{option_map, unwrap_or}
 use Rattle.ob_waits.specs.declared.wait.State.{State as WaitsState}
-use Rattle.ob_waits.specs.declared.wait.State.TheVariants.{Pending, Answered as IsAnswered}
+use Rattle.ob_waits.specs.declared.wait.State.TheVariants.{Answered as IsAnswered}
 use Rattle.ob_waits.specs.declared.wait.WaitState.TheVariants.{Answered}
 use Rattle.ob_waits.specs.Answers.{answer_of, is_answered, state_answer}
 use Rattle.ob_waits.proofs.TrackedLaws.{number_is}
-use Rattle.ob_store.specs.State.{State, Whole, settled}
-use Rattle.ob_store.specs.Waiting.{IsNextAnswered, are_waits_given, joined, list_of, opened, wait_number, with_wait}
+use Rattle.ob_store.specs.Waiting.{IsNextAnswered, are_waits_given, joined, list_of, opened, wait_number}
 use Rattle.ob_store.proofs.PlacedLaws.{live_within}
 
 abbrev pub with_opened : Bool → PartsState → PartsState

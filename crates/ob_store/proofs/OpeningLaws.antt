@@ -1,21 +1,11 @@
 -- The state before any call is kept.
-use Rattle.std.proofs.Common.{◌≡◌, ℕ, zero, suc, ◌≤◌, [], ◌∷◌, None, refl, arith}
-use Rattle.ob_arena.proofs.Phasing.{map-replicate}
+use Rattle.ob_store.proofs.Cited.{◌≡◌, ℕ, zero, suc, ◌≤◌, [], ◌∷◌, None, refl, arith, map-replicate, sum_by, length-replicate, opening_slot, KeeperState, HandleTables, WaitList, Limits, ObjectsInvariant, made_in, ObjectsState, with_keeper, vacant_places, PartsState, whole_of, Whole, shape_of, StoreInvariant}
 use Rattle.ob_store.proofs.ByPlace.{replicate_at}
-use Rattle.std.specs.Prelude.{replicate, sum_by}
-use Rattle.std.proofs.lemmas.List.{length-replicate}
-use Rattle.pin_core.specs.Worlds.{opening_slot}
-use Rattle.pin_words.specs.Keepers.{KeeperState, IsFresh}
-use Rattle.ob_tables.specs.Tables.{HandleTables}
-use Rattle.ob_waits.specs.Waits.{WaitList}
-use Rattle.ob_tables.specs.declared.limits.Limits.{Limits}
-use Rattle.ob_store.specs.Agreement.{ObjectsInvariant, made_in}
+use Rattle.std.specs.Prelude.{replicate}
+use Rattle.pin_words.specs.Keepers.{IsFresh}
 use Rattle.ob_tables.specs.Processes.{no_processes}
-use Rattle.ob_store.specs.Objects.{ObjectsState, with_keeper, vacant_places}
-use Rattle.ob_store.specs.Parts.{PartsState, whole_of}
 use Rattle.ob_store.specs.Signaled.{none_signaled}
-use Rattle.ob_store.specs.State.{Whole, opening, shape_of, last_wait}
-use Rattle.ob_store.specs.Kept.{StoreInvariant}
+use Rattle.ob_store.specs.State.{opening, last_wait}
 use Rattle.ob_store.proofs.CountedLaws.{counted_opening}
 use Rattle.ob_store.proofs.NamedLaws.{named_opening}
 use Rattle.ob_store.proofs.ListingLaws.{listing_opening}

@@ -1,18 +1,6 @@
 -- How many mutexes each thread owns, while bodies change.
-use Rattle.ob_codec.proofs.AtPlace.{at_place}
-use Rattle.std.proofs.Common.{◌≡◌, ℕ, zero, suc, ◌-◌, ◌+◌, ◌<◌, ◌≤◌, List, length, Option, Some, None, refl, ap, ◌∙◌, sym, arith, get_or, set, map, replicate, Bool, true, false, cond, inl, inr}
-use Rattle.std.specs.Prelude.{count_by, IsSome}
-use Rattle.std.proofs.lemmas.List.{length-set, length-map, length-replicate, get_or_past, get_or-set_same, get_or-set_other, get_or-map}
-use Rattle.std.proofs.lemmas.List.Sums.{sum_by-set, get_or-le-sum_by, count_by-le-length}
-use Rattle.std.proofs.lemmas.Bool.{cases_lt}
-use Rattle.ob_body.specs.declared.body.Body.{Body}
-use Rattle.ob_body.specs.Mutex.{is_owner}
-use Rattle.ob_arena.specs.Slots.{Slots, is_vacant_at}
-use Rattle.ob_waits.specs.Form.{slot_owner}
-use Rattle.ob_store.specs.declared.object_header.ObjectHeader.{ObjectHeader}
-use Rattle.ob_store.specs.Ends.{slot_left_by}
-use Rattle.ob_store.specs.Objects.{Places, Tag, objects_in, places_of, header_body, vacancy}
-use Rattle.ob_store.specs.State.{by_slot}
+use Rattle.ob_store.proofs.Cited.{at_place, ◌≡◌, ℕ, zero, suc, ◌-◌, ◌+◌, ◌<◌, ◌≤◌, List, length, Option, Some, None, refl, ap, ◌∙◌, sym, arith, get_or, set, map, replicate, Bool, true, false, cond, inl, inr, count_by, IsSome, length-set, length-map, length-replicate, get_or_past, get_or-set_same, get_or-set_other, get_or-map, get_or-le-sum_by, cases_lt, Body, is_owner, Slots, is_vacant_at, slot_owner, ObjectHeader, slot_left_by, Places, Tag, objects_in, places_of, header_body, vacancy, by_slot}
+use Rattle.std.proofs.lemmas.List.Sums.{sum_by-set, count_by-le-length}
 use Rattle.ob_store.specs.Owners.{header_owner, is_header_of, owned_left, owned_came, owned_moved, IsOwned}
 use Rattle.ob_store.proofs.LabelLaws.{object_read, objects_length}
 use Rattle.ob_store.proofs.BySlot.{count_at, count_few, is_by_slot, zero_counts}

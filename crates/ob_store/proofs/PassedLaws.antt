@@ -1,11 +1,6 @@
 -- Numbers that no live thread of a process has are passed by.
-use Rattle.std.proofs.Common.{◌≡◌, ℕ, zero, suc, ◌+◌, ◌-◌, ◌<◌, ◌≤◌, Option, Some, None, refl, ap, ◌∙◌, sym, arith, get_or, true, false, cond}
-use Rattle.pin_words.specs.Keepers.{KeeperState}
-use Rattle.ob_store.specs.Parts.{PartsState}
-use Rattle.ob_store.specs.UnderWay.{IsEnding}
-use Rattle.ob_store.specs.Ends.{thread_ended, threads_ended}
+use Rattle.ob_store.proofs.Cited.{◌≡◌, ℕ, zero, suc, ◌+◌, ◌-◌, ◌<◌, ◌≤◌, Option, Some, None, refl, ap, ◌∙◌, sym, arith, get_or, true, false, cond, KeeperState, PartsState, IsEnding, thread_ended, threads_ended, State}
 use Rattle.ob_tables.specs.Processes.{is_of}
-use Rattle.ob_store.specs.State.{State}
 
 is_of_none : (p : ℕ) (x : Option ℕ) → (x ≡ Some p → ⊥) → is_of p x ≡ false
 is_of_none = search arith

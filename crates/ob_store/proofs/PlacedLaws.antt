@@ -1,20 +1,8 @@
 -- What a slot counts refers to its object; and a thread's process has its table.
-use Rattle.std.proofs.lemmas.Bool.Decides.{nat_tests}
-use Rattle.ob_codec.proofs.AtPlace.{at_place}
-use Rattle.std.proofs.Common.{◌≡◌, ℕ, ◌<◌, List, length, Option, Some, None, ap, ◌∙◌, sym, arith, get_or}
-use Rattle.std.specs.Prelude.{IfSome, OnSome}
+use Rattle.ob_store.proofs.Cited.{nat_tests, at_place, ◌≡◌, ℕ, ◌<◌, List, length, Option, Some, None, ap, ◌∙◌, sym, arith, get_or, IfSome, get_or_past, handles_among, blocks_among, Entry, Limits, IsLive, ProcessesKept, ProcessesState, Object, ObjectsState, object_of, tag_of, ObjectsInvariant, IsSound, IsThere, PartsState}
+use Rattle.std.specs.Prelude.{OnSome}
 use Rattle.std.specs.Option.{option_map}
-use Rattle.std.proofs.lemmas.List.{get_or_past}
-use Rattle.ob_tables.specs.Counts.{handles_among}
-use Rattle.ob_waits.specs.Waits.{blocks_among}
-use Rattle.ob_tables.specs.declared.entry.Entry.{Entry}
-use Rattle.ob_tables.specs.declared.limits.Limits.{Limits}
 use Rattle.ob_store.specs.declared.found.Found.{Found}
-use Rattle.ob_tables.specs.Processes.{IsLive, ProcessesKept, ProcessesState}
-use Rattle.ob_store.specs.Objects.{Object, ObjectsState, object_of, tag_of}
-use Rattle.ob_store.specs.Agreement.{ObjectsInvariant}
-use Rattle.ob_store.specs.Kept.{IsSound, IsThere}
-use Rattle.ob_store.specs.Parts.{PartsState}
 use Rattle.ob_store.proofs.AgreeLaws.{body_at, object_within}
 use Rattle.ob_store.proofs.CountedLaws.{handles_at, blocks_at}
 use Rattle.ob_store.proofs.NamedLaws.{there_within, handles_are, blocks_are}

@@ -1,18 +1,14 @@
 -- Each live process has a live thread: as a test of what is read, and as it is kept.
-use Rattle.ob_codec.proofs.AtPlace.{at_place}
-use Rattle.std.proofs.Common.{◌≡◌, ℕ, ◌≢◌, zero, suc, ◌||◌, Bool, true, false, cond, List, [], ◌∷◌, length, Option, Some, None, refl, ap, ◌∙◌, arith, get_or, set, inl, inr}
-use Rattle.std.specs.Prelude.{IsSome, is_none}
+use Rattle.ob_store.proofs.Cited.{at_place, ◌≡◌, ℕ, ◌≢◌, zero, suc, Bool, true, false, cond, List, [], ◌∷◌, length, Option, Some, None, refl, ap, ◌∙◌, arith, get_or, set, inl, inr, IsSome, is_none, cases_eq, nat_tests, thread_ended, threads_ended, IsLive, ProcessesState, IsPopulated, State, IsFree}
+use Rattle.std.proofs.Common.{◌||◌}
 use Rattle.std.specs.List.{list_any}
-use Rattle.std.proofs.lemmas.Bool.{cases_eq, eq-eqb}
-use Rattle.std.proofs.lemmas.Bool.Decides.{nat_tests}
-use Rattle.ob_store.specs.Ends.{after_thread_end, exited, process_ended, thread_ended, threads_ended}
-use Rattle.ob_tables.specs.Processes.{IsLive, ProcessesState, is_of}
-use Rattle.ob_store.specs.Kept.{IsPopulated}
+use Rattle.std.proofs.lemmas.Bool.{eq-eqb}
+use Rattle.ob_store.specs.Ends.{after_thread_end, exited, process_ended}
+use Rattle.ob_tables.specs.Processes.{is_of}
 use Rattle.ob_tables.specs.SavedProcesses.{are_populated, is_populated}
-use Rattle.ob_store.specs.State.{State}
 use Rattle.ob_store.proofs.ByPlace.{below_at, below_from}
 use Rattle.ob_tables.specs.Tables.{put}
-use Rattle.ob_tables.proofs.GivenLaws.{IsFree, any_put, get_or-put}
+use Rattle.ob_tables.proofs.GivenLaws.{any_put, get_or-put}
 use Rattle.ob_store.proofs.PlacedLaws.{live_within}
 
 -- as a test

@@ -1,24 +1,14 @@
 -- An ended object leaves its slot, to which nothing refers.
-use Rattle.ob_codec.proofs.AtPlace.{at_place}
-use Rattle.std.proofs.Common.{◌≡◌, ℕ, ◌+◌, ◌<◌, ◌≤◌, List, Option, Some, None, ap, ◌∙◌, sym, arith, get_or, set, map, Bool, true}
-use Rattle.std.specs.Prelude.{is_some}
+use Rattle.ob_store.proofs.Cited.{at_place, ◌≡◌, ℕ, ◌+◌, ◌<◌, ◌≤◌, List, Option, Some, None, ap, ◌∙◌, sym, arith, get_or, set, map, Bool, true, is_some, map-set_same, length-set, set-get_or, nat_tests, Slot, opening_slot, KeeperState, Object, ObjectsState, places_in, with_keeper, without_header, ObjectsInvariant, PartsState, state_of, whole_of, Whole, generation_of, StoreInvariant}
 use Rattle.std.proofs.Math.ListN.{get_or-map}
-use Rattle.std.proofs.Math.Seq.{map-set_same}
-use Rattle.std.proofs.lemmas.List.{length-set, set-get_or, map-set}
-use Rattle.std.proofs.lemmas.Bool.Decides.{nat_tests}
-use Rattle.pin_core.specs.declared.world.Slot.{Slot}
+use Rattle.std.proofs.lemmas.List.{map-set}
 use Rattle.pin_core.specs.declared.word.Phase.TheVariants as phase
-use Rattle.pin_core.specs.Worlds.{opening_slot}
 use Rattle.pin_core.specs.Events.{reclaimed}
-use Rattle.pin_words.specs.Keepers.{KeeperState, opened_again}
+use Rattle.pin_words.specs.Keepers.{opened_again}
 use Rattle.pin_words.specs.declared.pin_keeper.Reclaim.{Reclaim}
 use Rattle.pin_words.specs.declared.pin_keeper.Reclaim.TheVariants.{Freed, Retired, Held}
-use Rattle.ob_store.specs.Objects.{Object, ObjectsState, places_in, with_keeper, without_header}
-use Rattle.ob_store.specs.Agreement.{ObjectsInvariant, Reclaimed}
-use Rattle.ob_store.specs.Parts.{PartsState, state_of, whole_of}
-use Rattle.ob_store.specs.State.{Whole, generation_of}
+use Rattle.ob_store.specs.Agreement.{Reclaimed}
 use Rattle.ob_store.specs.Moves.{after_reclaim}
-use Rattle.ob_store.specs.Kept.{StoreInvariant}
 use Rattle.ob_store.proofs.AgreeLaws.{slot_at}
 use Rattle.ob_store.proofs.CountedLaws.{counted_left}
 use Rattle.ob_store.proofs.EndLaws.{some_set}

@@ -1,29 +1,11 @@
 -- Objects that are kept are read again as they were written.
-use Rattle.std.proofs.Common.{◌≡◌, ℕ, ◌<◌, Bool, false, List, [], ◌∷◌, ◌++◌, length, get_or, map, Option, None, Ok, refl, sym, ap, ◌∙◌, subst, arith}
-use Rattle.std.specs.Prelude.{replicate, sum_by}
-use Rattle.std.specs.List.{AllByRecursion, range_with_len}
-use Rattle.std.proofs.lemmas.List.{ext_get_or, get_or-map, length-map}
-use Rattle.std.proofs.lemmas.List.FromFn.{get_or-map-range_with_len, length-map-range_with_len, get_or-range_with_len, length-range_with_len}
-use Rattle.std.proofs.lemmas.List.Sums.{sum_by-cons}
-use Rattle.pin_core.specs.declared.shape.Shape.{Shape}
-use Rattle.pin_core.specs.declared.world.Slot.{Slot}
-use Rattle.pin_core.specs.Worlds.{opening_slot, slot_of}
-use Rattle.ob_body.specs.declared.body.Body.{Body}
-use Rattle.ob_name.specs.Listing.{Rows}
-use Rattle.ob_tables.specs.declared.entry.Entry.{Entry}
-use Rattle.ob_tables.specs.Tables.{IsBounded}
-use Rattle.ob_waits.specs.Waits.{WaitList}
-use Rattle.ob_tables.specs.declared.limits.Limits.{Limits}
-use Rattle.ob_store.specs.declared.saved_slot.SavedSlot.{SavedSlot}
-use Rattle.ob_store.specs.Agreement.{Agrees, AreBorn, ObjectsInvariant, made_in}
-use Rattle.ob_store.specs.Counting.{counting_all, uncounted}
-use Rattle.ob_store.specs.Kept.{AreOfLive, IsCounted, IsListing, IsNamed, IsQuiet}
-use Rattle.ob_store.specs.Objects.{Object, ObjectsState, Places, places_in}
-use Rattle.ob_store.specs.SavedNames.{names_in}
-use Rattle.ob_store.specs.SavedObjects.{begun_over, object_saved, objects_at, objects_text, slot_saved, slots_saved, whole_at, whole_objects, with_slots}
-use Rattle.ob_store.specs.SavedWaits.{with_blocks}
-use Rattle.ob_store.specs.SavedSlots.{SlotFits, body_from, body_in, fresh_slot, is_retired, keeper_slot, objects_from, places_from, slots_at}
-use Rattle.ob_store.specs.State.{shape_of}
+use Rattle.ob_store.proofs.Cited.{◌≡◌, ℕ, ◌<◌, Bool, false, List, [], ◌∷◌, ◌++◌, length, get_or, map, Option, None, Ok, refl, sym, ap, ◌∙◌, subst, arith, sum_by, AllByRecursion, range_with_len, ext_get_or, get_or-map, length-map, get_or-map-range_with_len, length-map-range_with_len, sum_by-cons, Shape, Slot, opening_slot, slot_of, Body, Rows, Entry, IsBounded, WaitList, Limits, SavedSlot, Agrees, AreBorn, ObjectsInvariant, made_in, counting_all, AreOfLive, IsCounted, IsListing, IsNamed, Object, ObjectsState, Places, places_in, names_in, object_saved, objects_at, objects_text, slot_saved, slots_saved, whole_at, with_slots, with_blocks, SlotFits, body_from, fresh_slot, keeper_slot, objects_from, places_from, slots_at, shape_of}
+use Rattle.std.specs.Prelude.{replicate}
+use Rattle.std.proofs.lemmas.List.FromFn.{get_or-range_with_len, length-range_with_len}
+use Rattle.ob_store.specs.Counting.{uncounted}
+use Rattle.ob_store.specs.Kept.{IsQuiet}
+use Rattle.ob_store.specs.SavedObjects.{begun_over, whole_objects}
+use Rattle.ob_store.specs.SavedSlots.{body_in, is_retired}
 use Rattle.ob_store.proofs.BySlot.{zero_counts}
 use Rattle.ob_store.proofs.CountingAgain.{counting_again}
 use Rattle.ob_store.proofs.NamedLaws.{sum_same}

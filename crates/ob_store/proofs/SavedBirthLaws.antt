@@ -1,14 +1,9 @@
 -- Births that were ordered are distinct, and below their count.
-use Rattle.std.proofs.Common.{◌≡◌, ℕ, ◌≢◌, zero, suc, ◌<◌, true, false, cond, List, [], ◌∷◌, get_or, Option, Some, None, Ok, refl, sym, ap, ◌∙◌, arith, eq-eqb, ne_eqb}
-use Rattle.std.specs.BTreeMap.{insert_entry, is_at}
+use Rattle.ob_store.proofs.Cited.{◌≡◌, ℕ, ◌≢◌, zero, suc, ◌<◌, true, false, cond, List, [], ◌∷◌, get_or, Option, Some, None, Ok, refl, sym, ap, ◌∙◌, arith, insert_entry, is_at, nat_cmp, same_Some, AreBorn, Object, Births, births_from}
+use Rattle.std.proofs.Common.{eq-eqb, ne_eqb}
 use Rattle.std.specs.Cmp.{unsigned_tied}
 use Rattle.std.specs.Map.{lookup}
 use Rattle.std.specs.declared.cmp.Ordering.TheVariants.{Less, Greater}
-use Rattle.std.specs.Ordering.{nat_cmp}
-use Rattle.std.proofs.lemmas.Option.{same_Some}
-use Rattle.ob_store.specs.Agreement.{AreBorn}
-use Rattle.ob_store.specs.Objects.{Object}
-use Rattle.ob_store.specs.SavedBirths.{Births, births_from}
 
 -- the slot that has a birth
 abbrev pub taken : Births → ℕ → Option ℕ

@@ -1,38 +1,20 @@
 -- Slots are read as they were spelled, and the objects that are read were spelled so.
-use Rattle.std.proofs.Common.{◌≡◌, ℕ, ◌<◌, Bool, true, false, List, ◌++◌, length, get_or, Option, None, Ok, refl, sym, ap, ◌∙◌, subst, arith}
-use Rattle.std.specs.List.{flat_map}
-use Rattle.std.proofs.lemmas.Bool.{le-leb}
-use Rattle.std.proofs.lemmas.List.{ext_get_or}
-use Rattle.std.proofs.lemmas.List.FromFn.{get_or-map-range_with_len, length-map-range_with_len}
-use Rattle.ob_codec.specs.Codecs.{as_codec, both_codec, flag_codec, items_again, items_take, list_codec, option_codec, some_codec, u32_codec, u64_codec, where_codec}
-use Rattle.ob_codec.specs.Laws.{IsCodec, Takes}
+use Rattle.ob_store.proofs.Cited.{◌≡◌, ℕ, ◌<◌, Bool, true, false, List, ◌++◌, length, get_or, Option, None, Ok, refl, sym, ap, ◌∙◌, subst, arith, flat_map, le-leb, ext_get_or, get_or-map-range_with_len, length-map-range_with_len, where_codec, IsCodec, bind_ok, ok_is, Id, Slot, slot_of, Rows, Entry, WaitList, Wait, Limits, SavedObject, SavedSlot, ObjectsState, Places, object_saved, objects_at, objects_text, slot_saved, slots_saved, whole_at, with_slots, with_blocks, SlotFits, filled, fresh_slot, rows_at, slot_at, slot_text, slots_from, used}
+use Rattle.ob_codec.specs.Codecs.{as_codec, both_codec, flag_codec, items_again, items_take, list_codec, option_codec, some_codec, u32_codec, u64_codec}
+use Rattle.ob_codec.specs.Laws.{Takes}
 use Rattle.ob_codec.specs.Reading.{items_at}
 use Rattle.ob_codec.specs.Spelling.{AreBytes}
-use Rattle.ob_codec.specs.Steps.{bind_ok, ok_is}
 use Rattle.ob_name.specs.SpellingLaws.{name_codec}
 use Rattle.ob_rights.specs.SpellingLaws.{rights_codec}
 use Rattle.pin_core.specs.SpellingLaws.{descr_codec}
-use Rattle.pin_core.specs.declared.id.Id.{Id}
-use Rattle.pin_core.specs.declared.world.Slot.{Slot}
-use Rattle.pin_core.specs.Worlds.{slot_of}
 use Rattle.ob_body.specs.SpellingLaws.{body_codec}
-use Rattle.ob_name.specs.Listing.{Rows}
-use Rattle.ob_tables.specs.declared.entry.Entry.{Entry}
-use Rattle.ob_waits.specs.Waits.{WaitList}
-use Rattle.ob_waits.specs.declared.wait.Wait.{Wait}
 use Rattle.ob_store.proofs.CountingLaws.{Counts}
 use Rattle.ob_store.proofs.SavedObjectLaws.{AreRead, body-here, counts, object-here, retired-here, slot-here}
 use Rattle.ob_store.proofs.SavedKeptLaws.{whole_steps}
 use Rattle.ob_store.proofs.SavedSlotLaws.{rows_all, slot_generation}
 use Rattle.ob_store.proofs.UsedLaws.{RowsFit, used_back, used_there}
-use Rattle.ob_tables.specs.declared.limits.Limits.{Limits}
-use Rattle.ob_store.specs.declared.saved_slot.SavedObject.{SavedObject}
-use Rattle.ob_store.specs.declared.saved_slot.SavedSlot.{SavedSlot}
-use Rattle.ob_store.specs.Objects.{ObjectsState, Places}
-use Rattle.ob_store.specs.SavedObjects.{object_saved, objects_at, objects_text, slot_saved, slots_saved, whole_at, with_slots}
-use Rattle.ob_store.specs.SavedWaits.{with_blocks}
 use Rattle.ob_store.specs.SavedSlots as saved
-use Rattle.ob_store.specs.SavedSlots.{ObjectFits, SlotFits, filled, fresh_slot, object_at, object_parts, object_text, rows_at, rows_text, slot_at, slot_parts, slot_stands, slot_text, slots_from, used}
+use Rattle.ob_store.specs.SavedSlots.{ObjectFits, object_at, object_parts, object_text, rows_text, slot_parts, slot_stands}
 
 pub object_codec : IsCodec object_text object_at ObjectFits
 object_codec = as_codec saved.object_of object_parts (λ _. refl) (λ _. refl)

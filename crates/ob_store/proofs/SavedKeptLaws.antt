@@ -1,38 +1,15 @@
 -- What holds of objects that were read, with their tables, waits and threads, and that such objects are taken.
-use Rattle.std.proofs.Common.{◌≡◌, ℕ, zero, suc, ◌+◌, ◌<◌, not, Bool, true, false, cond, List, [], ◌∷◌, length, get_or, map, Option, Some, None, Ok, refl, sym, ap, ◌∙◌, subst, arith}
-use Rattle.std.proofs.lemmas.Bool.{and_from, and_parts}
-use Rattle.std.specs.List.{list_all}
-use Rattle.std.specs.Prelude.{count_by, sum_by}
-use Rattle.std.proofs.lemmas.List.{get_or-map, length-map}
+use Rattle.ob_store.proofs.Cited.{◌≡◌, ℕ, zero, suc, ◌+◌, ◌<◌, not, Bool, true, false, cond, List, [], ◌∷◌, length, get_or, map, Option, Some, None, Ok, refl, sym, ap, ◌∙◌, subst, arith, and_parts, list_all, count_by, sum_by, get_or-map, length-map, ◌>>=◌, bind_ok, same_id, Id, Slot, slot_of, Rows, Entry, handles_among, HasRoom, thread_of, WaitList, blocks_among, ids_of, nowhere, slot_blocks, Pending, Wait, Limits, Agrees, ObjectsInvariant, counting_all, is_its, IsLive, AreFormed, AreOfLive, IsCounted, IsListing, IsNamed, IsThere, Object, ObjectsState, Places, Births, births_from, names_in, whole_at, with_slots, slots_at, owner_stands, wait_stands, with_blocks, made_in, by_slot, shape_of}
+use Rattle.std.proofs.lemmas.Bool.{and_from}
 use Rattle.std.proofs.lemmas.List.Sums.{AllPass-from_list_all}
-use Rattle.ob_codec.specs.Reading.{◌>>=◌}
-use Rattle.ob_codec.specs.Steps.{bind_ok}
-use Rattle.pin_core.specs.Holds.{same_id}
-use Rattle.pin_core.specs.declared.id.Id.{Id}
-use Rattle.pin_core.specs.declared.world.Slot.{Slot}
-use Rattle.pin_core.specs.Worlds.{slot_of}
-use Rattle.ob_name.specs.Listing.{Rows}
-use Rattle.ob_tables.specs.declared.entry.Entry.{Entry}
-use Rattle.ob_tables.specs.Counts.{handles_among}
 use Rattle.ob_waits.specs.CountedBodies.{slot_room}
-use Rattle.ob_waits.specs.Rules.{HasRoom, WaitHasRoom, thread_of}
-use Rattle.ob_waits.specs.Waits.{WaitList, blocks_among, blocks_in, ids_of, is_ready, list_ready, nowhere, slot_blocks, state_ids, state_ready}
+use Rattle.ob_waits.specs.Rules.{WaitHasRoom}
+use Rattle.ob_waits.specs.Waits.{blocks_in, is_ready, list_ready, state_ids, state_ready}
 use Rattle.ob_waits.specs.declared.wait.State.{State}
-use Rattle.ob_waits.specs.declared.wait.State.TheVariants.{Pending, Answered}
-use Rattle.ob_waits.specs.declared.wait.Wait.{Wait}
-use Rattle.ob_tables.specs.declared.limits.Limits.{Limits}
-use Rattle.ob_store.specs.Agreement.{Agrees, ObjectsInvariant}
-use Rattle.ob_store.specs.Counting.{counting_all, is_its}
-use Rattle.ob_tables.specs.Processes.{IsLive}
-use Rattle.ob_store.specs.Kept.{AreFormed, AreOfLive, IsCounted, IsListing, IsNamed, IsQuiet, IsThere}
-use Rattle.ob_store.specs.Objects.{Object, ObjectsState, Places}
-use Rattle.ob_store.specs.SavedBirths.{Births, births_from}
-use Rattle.ob_store.specs.SavedNames.{names_in}
-use Rattle.ob_store.specs.SavedObjects.{whole_at, whole_objects, with_slots}
-use Rattle.ob_store.specs.SavedSlots.{slots_at}
-use Rattle.ob_store.specs.SavedWaits.{all_stand, may_wait_for, object_blocks, owner_stands, owners_stand, state_stands, wait_stands, waits_stand, with_blocks}
-use Rattle.ob_store.specs.Agreement.{made_in}
-use Rattle.ob_store.specs.State.{by_slot, shape_of}
+use Rattle.ob_waits.specs.declared.wait.State.TheVariants.{Answered}
+use Rattle.ob_store.specs.Kept.{IsQuiet}
+use Rattle.ob_store.specs.SavedObjects.{whole_objects}
+use Rattle.ob_store.specs.SavedWaits.{all_stand, may_wait_for, object_blocks, owners_stand, state_stands, waits_stand}
 use Rattle.ob_store.proofs.BySlot.{is_by_slot}
 use Rattle.ob_store.proofs.CountingAgain.{its_id}
 use Rattle.ob_store.proofs.NamedLaws.{blocks_are, blocks_vacant, place_counted}

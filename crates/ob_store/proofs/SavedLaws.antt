@@ -1,20 +1,14 @@
 -- Slots that are read one after the other.
-use Rattle.std.proofs.Common.{◌≡◌, ℕ, zero, suc, ◌+◌, ◌-◌, ◌<◌, ◌≤◌, ◌&&◌, not, Bool, true, false, cond, leb, List, [], ◌∷◌, ◌++◌, length, get_or, set, map, Option, Some, None, Ok, Err, refl, sym, ap, ◌∙◌, append_assoc, arith, length-append}
+use Rattle.ob_store.proofs.Cited.{◌≡◌, ℕ, zero, suc, ◌+◌, ◌-◌, ◌<◌, ◌≤◌, ◌&&◌, not, Bool, true, false, cond, leb, List, [], ◌∷◌, ◌++◌, length, get_or, set, map, Option, Some, None, Ok, Err, refl, sym, ap, ◌∙◌, append_assoc, arith, is_none, length-map, set-get_or, get_or-replicate, length-replicate, is_vacant_at, Value, ◌>>=◌, Slot, opening_slot, SavedObject, SavedSlot, Object, Places, vacancy, vacant_places, body_from, ends_used, filled, fresh_slot, keeper_slot, object_from, objects_from, places_from, slot_at, slots_at, slots_from, with_fresh}
+use Rattle.std.proofs.Common.{length-append}
 use lib.LanesLaws.{map-replicate}
-use Rattle.std.specs.Prelude.{is_none, replicate}
-use Rattle.std.proofs.lemmas.List.{set_at, map-append, length-map, set-get_or, get_or-replicate, length-replicate}
-use Rattle.ob_arena.specs.Slots.{is_vacant_at}
+use Rattle.std.specs.Prelude.{replicate}
+use Rattle.std.proofs.lemmas.List.{set_at, map-append}
 use Rattle.std.specs.Int.{w32}
 use Rattle.ob_codec.specs.declared.fault.ReadFault.{ReadFault}
-use Rattle.ob_codec.specs.declared.fault.TextFault.TheVariants.{Value}
-use Rattle.ob_codec.specs.Reading.{◌>>=◌, Fails, Read, as_at, given_at, items_at, list_at, number_at}
+use Rattle.ob_codec.specs.Reading.{Fails, Read, as_at, given_at, items_at, list_at, number_at}
 use Rattle.ob_codec.proofs.Loop.{with_front, goes_on, ends, is_done}
-use Rattle.pin_core.specs.declared.world.Slot.{Slot}
-use Rattle.pin_core.specs.Worlds.{opening_slot}
-use Rattle.ob_store.specs.declared.saved_slot.SavedObject.{SavedObject}
-use Rattle.ob_store.specs.declared.saved_slot.SavedSlot.{SavedSlot}
-use Rattle.ob_store.specs.Objects.{Object, Places, vacancy, vacant_places}
-use Rattle.ob_store.specs.SavedSlots.{begun_with, body_from, count_at, ends_used, filled, fresh_slot, is_retired, keeper_slot, object_from, objects_from, places_from, slot_at, slots_at, slots_from, with_fresh, with_saved}
+use Rattle.ob_store.specs.SavedSlots.{begun_with, count_at, is_retired, with_saved}
 use Rattle.ob_store.proofs.SavedSlotLaws.{items_all}
 use Rattle.ob_store.proofs.UsedLaws.{ends_more, fresh_long, fresh_none}
 

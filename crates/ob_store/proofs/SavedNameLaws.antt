@@ -1,27 +1,14 @@
 -- The names that a load enters are the directory, where no name stands twice.
-use Rattle.std.proofs.Common.{◌≡◌, ℕ, zero, suc, ◌+◌, ◌≤◌, ◌&&◌, Bool, false, cond, ltb, List, [], ◌∷◌, ◌++◌, length, get_or, Option, Some, None, Ok, refl, sym, ap, ◌∙◌, subst, arith, inl, inr, eq-eqb}
-use Rattle.std.specs.BTreeMap.{is_at}
-use Rattle.std.specs.List.{AllByRecursion, IsDistinct, cons_option, filter_map}
+use Rattle.ob_store.proofs.Cited.{◌≡◌, ℕ, zero, suc, ◌+◌, ◌≤◌, ◌&&◌, Bool, false, cond, ltb, List, [], ◌∷◌, ◌++◌, length, get_or, Option, Some, None, Ok, refl, sym, ap, ◌∙◌, subst, arith, inl, inr, is_at, AllByRecursion, nat_cmp, cases_eq, append-nil, ◌>>=◌, bind_ok, ok_is, ObjectName, AreDistinct, Rows, find_name, Row, slot_handles, some_within, Wait, ObjectsInvariant, rows_of, IsCounted, IsListing, IsNamed, IsThere, id_in, Object, ObjectsState, Places, places_in, names_in, Births, births_from}
+use Rattle.std.proofs.Common.{eq-eqb}
+use Rattle.std.specs.List.{IsDistinct, cons_option, filter_map}
 use Rattle.std.specs.Map.{keys_of, values_of}
-use Rattle.std.specs.Ordering.{nat_cmp}
-use Rattle.std.proofs.lemmas.Bool.{cases_eq}
-use Rattle.std.proofs.lemmas.List.{append-nil, append_assoc}
+use Rattle.std.proofs.lemmas.List.{append_assoc}
 use Rattle.std.proofs.lemmas.Map.Keys.{IsDistinct-head, IsDistinct-tail}
-use Rattle.ob_codec.specs.Reading.{◌>>=◌}
-use Rattle.ob_codec.specs.Steps.{bind_ok, ok_is}
-use Rattle.ob_name.specs.Names.{ObjectName}
-use Rattle.ob_name.specs.Listing.{AreDistinct, Rows, find_name, same_name}
-use Rattle.ob_name.specs.Order.{Row}
+use Rattle.ob_name.specs.Listing.{same_name}
 use Rattle.ob_name.specs.Same.{same_name_equiv}
-use Rattle.ob_tables.specs.Counts.{slot_handles}
-use Rattle.ob_tables.proofs.Counting.{some_within}
-use Rattle.ob_waits.specs.declared.wait.Wait.{Wait}
-use Rattle.ob_store.specs.Agreement.{ObjectsInvariant}
-use Rattle.ob_store.specs.Directory.{named_row, row_of, rows_of}
-use Rattle.ob_store.specs.Kept.{IsCounted, IsListing, IsNamed, IsThere, id_in}
-use Rattle.ob_store.specs.Objects.{Object, ObjectsState, Places, places_in}
-use Rattle.ob_store.specs.SavedNames.{handled_row, named_from, names_in, slot_row, with_row}
-use Rattle.ob_store.specs.SavedBirths.{Births, births_from}
+use Rattle.ob_store.specs.Directory.{named_row, row_of}
+use Rattle.ob_store.specs.SavedNames.{handled_row, named_from, slot_row, with_row}
 use Rattle.ob_store.proofs.CountedLaws.{handles_at}
 use Rattle.ob_store.proofs.DirectoryLaws.{Tables, has_handles, picks_none, picks_only}
 use Rattle.ob_store.proofs.ListingLaws.{distinct_with, placed_agreed}

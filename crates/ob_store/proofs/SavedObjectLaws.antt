@@ -1,29 +1,7 @@
 -- Objects that were read are tied to a keeper that begins with their slots.
-use Rattle.std.proofs.Common.{◌≡◌, ℕ, zero, suc, ◌+◌, ◌<◌, ◌≤◌, Bool, true, false, cond, ltb, List, [], ◌∷◌, length, get_or, map, Option, Some, None, Ok, refl, sym, ap, ◌∙◌, arith, inl, inr}
-use Rattle.std.specs.Prelude.{is_none, is_some, sum_by}
-use Rattle.std.proofs.lemmas.Bool.{cases_lt}
-use Rattle.std.proofs.lemmas.List.{get_or-map, get_or-replicate, get_or_past, length-map, length-replicate}
-use Rattle.ob_codec.specs.Steps.{bind_ok, ok_is}
-use Rattle.pin_core.specs.declared.id.Id.{Id}
-use Rattle.pin_core.specs.declared.world.Slot.{Slot}
-use Rattle.pin_core.specs.Worlds.{slot_of}
-use Rattle.ob_body.specs.declared.body.Body.{Body}
-use Rattle.ob_tables.specs.declared.entry.Entry.{Entry}
-use Rattle.ob_tables.specs.Counts.{handles_among, slot_handles}
+use Rattle.ob_store.proofs.Cited.{◌≡◌, ℕ, zero, suc, ◌+◌, ◌<◌, ◌≤◌, Bool, true, false, cond, ltb, List, [], ◌∷◌, length, get_or, map, Option, Some, None, Ok, refl, sym, ap, ◌∙◌, arith, inl, inr, is_none, is_some, sum_by, cases_lt, get_or-map, get_or-replicate, get_or_past, length-map, length-replicate, bind_ok, ok_is, Id, Slot, slot_of, Body, Entry, handles_among, slot_handles, HasBodies, Wait, Limits, SavedSlot, IsAgreed, ObjectsInvariant, made_in, counting_all, AreFormed, IsThere, Places, Births, births_from, with_slots, body_from, fresh_slot, keeper_slot, object_from, objects_from, places_from, rows_at, slots_at, slots_from, with_blocks, by_slot}
 use Rattle.ob_waits.specs.CountedBodies as waits
-use Rattle.ob_waits.specs.Rules.{HasBodies}
-use Rattle.ob_waits.specs.declared.wait.Wait.{Wait}
-use Rattle.ob_tables.specs.declared.limits.Limits.{Limits}
-use Rattle.ob_store.specs.declared.saved_slot.SavedSlot.{SavedSlot}
-use Rattle.ob_store.specs.Agreement.{IsAgreed, ObjectsInvariant, made_in}
-use Rattle.ob_store.specs.Counting.{counting_all}
-use Rattle.ob_store.specs.Kept.{AreFormed, IsThere}
-use Rattle.ob_store.specs.Objects.{Places}
-use Rattle.ob_store.specs.SavedBirths.{Births, births_from}
-use Rattle.ob_store.specs.SavedObjects.{are_bodied, is_bodied, with_slots}
-use Rattle.ob_store.specs.SavedSlots.{body_from, fresh_slot, keeper_slot, object_from, objects_from, places_from, rows_at, slots_at, slots_from}
-use Rattle.ob_store.specs.SavedWaits.{with_blocks}
-use Rattle.ob_store.specs.State.{by_slot}
+use Rattle.ob_store.specs.SavedObjects.{are_bodied, is_bodied}
 use Rattle.ob_store.proofs.ByPlace.{below_at}
 use Rattle.ob_store.proofs.BySlot.{is_by_slot}
 use Rattle.ob_store.proofs.CountingLaws.{Counts, tables_count}

@@ -1,11 +1,8 @@
 -- The order of births rises, and has the births of the objects, each with its slot, and no others.
-use Rattle.std.proofs.Common.{◌≡◌, ℕ, ◌⊎◌, zero, suc, ◌+◌, ◌<◌, ◌≤◌, Bool, true, false, cond, List, [], ◌∷◌, get_or, Option, Some, None, Ok, refl, sym, ap, ◌∙◌, arith, inl, inr}
-use Rattle.std.specs.BTreeMap.{insert_entry, is_at}
+use Rattle.ob_store.proofs.Cited.{◌≡◌, ℕ, ◌⊎◌, zero, suc, ◌+◌, ◌<◌, ◌≤◌, Bool, true, false, cond, List, [], ◌∷◌, get_or, Option, Some, None, Ok, refl, sym, ap, ◌∙◌, arith, inl, inr, insert_entry, is_at, nat_cmp, Object, Births, births_from}
 use Rattle.std.specs.declared.cmp.Ordering.{Ordering}
 use Rattle.std.specs.declared.cmp.Ordering.TheVariants.{Less, Equal, Greater}
-use Rattle.std.specs.Ordering.{match_ordering, nat_cmp}
-use Rattle.ob_store.specs.Objects.{Object}
-use Rattle.ob_store.specs.SavedBirths.{Births, births_from}
+use Rattle.std.specs.Ordering.{match_ordering}
 use Rattle.ob_store.proofs.SavedBirthLaws.{at_is, births_step, is_greater, is_less, taken, taken_inserted}
 
 -- births from one number on, below another, each above the one before it

@@ -1,12 +1,7 @@
 -- Processes and threads are read as they were spelled, and what is read is kept.
-use Rattle.std.proofs.Common.{◌≡◌, ℕ, ◌+◌, List, None, Option, Some, arith, get_or, refl, true}
-use Rattle.ob_codec.specs.Codecs.{as_codec, both_codec, list_codec, option_codec, u32_codec, where_codec}
-use Rattle.ob_codec.specs.Laws.{IsCodec}
-use Rattle.ob_tables.specs.declared.entry.Entry.{Entry}
-use Rattle.ob_tables.specs.declared.limits.Limits.{Limits}
-use Rattle.ob_tables.specs.Processes.{IsLive, ProcessesKept, ProcessesState}
-use Rattle.ob_store.specs.Kept.{IsPopulated}
-use Rattle.ob_tables.specs.SavedProcesses.{AreWithin, ListsFit, ProcessesFit, are_numbers, are_of_live, are_populated, is_of_live, lists_of, numbers_at, numbers_text, processes_at, processes_of, processes_text}
+use Rattle.ob_store.proofs.Cited.{◌≡◌, ℕ, ◌+◌, List, None, Option, Some, arith, get_or, refl, true, where_codec, IsCodec, Entry, Limits, IsLive, ProcessesKept, ProcessesState, IsPopulated, processes_text}
+use Rattle.ob_codec.specs.Codecs.{as_codec, both_codec, list_codec, option_codec, u32_codec}
+use Rattle.ob_tables.specs.SavedProcesses.{AreWithin, ListsFit, ProcessesFit, are_numbers, are_of_live, are_populated, is_of_live, lists_of, numbers_at, numbers_text, processes_at, processes_of}
 use Rattle.ob_store.proofs.ByPlace.{all_from}
 use Rattle.ob_store.proofs.PopulatedLaws.{populated_pass}
 

@@ -1,23 +1,17 @@
 -- What is known of slots that were read.
-use Rattle.std.proofs.Common.{◌≡◌, ℕ, zero, suc, ◌-◌, ◌<◌, ◌≤◌, ◌&&◌, Bool, true, false, cond, leb, List, [], ◌∷◌, length, get_or, Option, Some, None, Ok, Err, refl, sym, ap, ◌∙◌, subst, arith}
-use Rattle.std.proofs.lemmas.Bool.{le-leb, leb-true}
+use Rattle.ob_store.proofs.Cited.{◌≡◌, ℕ, zero, suc, ◌-◌, ◌<◌, ◌≤◌, ◌&&◌, Bool, true, false, cond, leb, List, [], ◌∷◌, length, get_or, Option, Some, None, Ok, Err, refl, sym, ap, ◌∙◌, subst, arith, le-leb, Value, ◌>>=◌, bind_ok, ok_is, w64, Body, form_of, SavedObject, SavedSlot, form_in, Object, body_from, ends_used, filled, fresh_slot, keeper_slot, object_from, rows_at, slot_at, with_fresh}
+use Rattle.std.proofs.lemmas.Bool.{leb-true}
 use Rattle.std.proofs.lemmas.Option.{cond_some}
-use Rattle.ob_codec.specs.declared.fault.TextFault.TheVariants.{Value}
-use Rattle.ob_codec.specs.Reading.{◌>>=◌, Read, as_at, both_at, given_at, items_at, list_at, number_at, option_at, some_at}
+use Rattle.ob_codec.specs.Reading.{Read, as_at, both_at, given_at, items_at, list_at, number_at, option_at, some_at}
 use Rattle.ob_codec.specs.Reading as reading
-use Rattle.ob_codec.specs.Steps.{bind_ok, guard_passed, ok_is}
-use Rattle.std.specs.Int.{w32, w64}
+use Rattle.ob_codec.specs.Steps.{guard_passed}
+use Rattle.std.specs.Int.{w32}
 use Rattle.pin_core.specs.declared.descr.Descr.{Descr}
 use Rattle.pin_core.specs.Descrs.{IsGiven, decoded}
 use Rattle.pin_core.specs.Spelling.{descr_at}
 use Rattle.pin_core.proofs.Moves.{same_of_descr}
-use Rattle.ob_body.specs.declared.body.Body.{Body}
-use Rattle.ob_waits.specs.Form.{form_of}
-use Rattle.ob_store.specs.declared.saved_slot.SavedObject.{SavedObject}
-use Rattle.ob_store.specs.declared.saved_slot.SavedSlot.{SavedSlot}
-use Rattle.ob_store.specs.Kept.{form_in, unset}
-use Rattle.ob_store.specs.Objects.{Object}
-use Rattle.ob_store.specs.SavedSlots.{any_slot_at, body_from, body_in, body_stands, content_at, descr_of, ends_used, filled, fresh_slot, keeper_slot, may_retire, object_at, object_from, object_in_slot, object_of, object_stands, rows_at, slot_at, slot_of, slot_stands, with_fresh}
+use Rattle.ob_store.specs.Kept.{unset}
+use Rattle.ob_store.specs.SavedSlots.{any_slot_at, body_in, body_stands, content_at, descr_of, may_retire, object_at, object_in_slot, object_of, object_stands, slot_of, slot_stands}
 use Rattle.ob_store.proofs.UsedLaws.{fresh_at, fresh_long}
 
 -- what was read in parts

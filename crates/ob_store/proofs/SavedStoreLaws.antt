@@ -1,41 +1,24 @@
 -- A store that is kept is read again as it was written, and what is read of a store was written so.
-use Rattle.std.proofs.Common.{◌≡◌, ℕ, ◌*◌, ◌<◌, ◌≤◌, ◌^◌, ltb, Bool, true, false, cond, List, [], ◌∷◌, ◌++◌, length, get_or, map, Option, Some, None, Ok, Err, append_assoc, refl, sym, ap, ◌∙◌, subst, arith}
-use Rattle.std.specs.Int.{w64, to_le_bytes}
-use Rattle.std.specs.List.{AllByRecursion, flat_map}
-use Rattle.std.proofs.lemmas.Bool.{le-leb, lt-ltb}
-use Rattle.std.proofs.lemmas.List.{ext_get_or, get_or-map, length-append, length-map}
-use Rattle.ob_codec.specs.Codecs.{u64_codec, where_codec}
-use Rattle.ob_codec.specs.Laws.{IsCodec, Takes}
+use Rattle.ob_store.proofs.Cited.{◌≡◌, ℕ, ◌*◌, ◌<◌, ◌≤◌, ltb, Bool, true, false, cond, List, [], ◌∷◌, ◌++◌, length, get_or, map, Option, Some, None, Ok, Err, append_assoc, refl, sym, ap, ◌∙◌, subst, arith, w64, to_le_bytes, AllByRecursion, flat_map, le-leb, ext_get_or, get_or-map, length-map, where_codec, IsCodec, bind_ok, Value, Id, Shape, opening_slot, HandleTables, Entry, thread_of, WaitList, ids_of, nowhere, Wait, Limits, SavedSlot, ObjectsInvariant, IsLive, ProcessesState, StoreInvariant, IsSound, ObjectsState, PartsState, whole_of, objects_at, objects_text, slots_saved, processes_text, SlotFits, fresh_slot, keeper_slot, slot_text, Whole, generation_of, shape_of}
+use Rattle.std.proofs.Common.{◌^◌}
+use Rattle.std.proofs.lemmas.Bool.{lt-ltb}
+use Rattle.std.proofs.lemmas.List.{length-append}
+use Rattle.ob_codec.specs.Codecs.{u64_codec}
+use Rattle.ob_codec.specs.Laws.{Takes}
 use Rattle.ob_codec.specs.Reading.{has_at, list_at, where_at}
 use Rattle.ob_codec.specs.Spelling.{AreBytes}
-use Rattle.ob_codec.specs.Steps.{bind_ok, guard_passed}
-use Rattle.ob_codec.specs.declared.fault.TextFault.TheVariants.{Value}
-use Rattle.pin_core.specs.declared.id.Id.{Id}
-use Rattle.pin_core.specs.declared.shape.Shape.{Shape}
-use Rattle.pin_core.specs.Worlds.{opening_slot}
+use Rattle.ob_codec.specs.Steps.{guard_passed}
 use Rattle.ob_tables.specs.Spelling.{TablesFit, are_bounded, table_at, tables_at, tables_text, with_limits}
 use Rattle.ob_tables.specs.SpellingLaws.{tables_again, tables_take}
-use Rattle.ob_tables.specs.Tables.{HandleTables}
-use Rattle.ob_tables.specs.declared.entry.Entry.{Entry}
 use Rattle.ob_waits.specs.Spelling.{WaitsFit, are_below, are_within, is_within, waits_at, waits_text}
 use Rattle.ob_waits.specs.SpellingLaws.{waits_again, waits_take}
-use Rattle.ob_waits.specs.Rules.{thread_of}
-use Rattle.ob_waits.specs.Waits.{WaitList, ids_of, nowhere}
-use Rattle.ob_waits.specs.declared.wait.Wait.{Wait}
-use Rattle.ob_tables.specs.declared.limits.Limits.{Limits}
-use Rattle.ob_store.specs.declared.saved_slot.SavedSlot.{SavedSlot}
-use Rattle.ob_store.specs.Agreement.{ObjectsInvariant}
-use Rattle.ob_tables.specs.Processes.{IsLive, ProcessesState}
-use Rattle.ob_store.specs.Kept.{StoreInvariant, IsSound}
-use Rattle.ob_store.specs.Objects.{ObjectsState}
-use Rattle.ob_store.specs.Parts.{PartsState, whole_of}
 use Rattle.ob_tables.specs.SavedLimits.{limits_at, limits_text}
 use Rattle.ob_tables.specs.SavedLimitLaws.{limits_codec}
-use Rattle.ob_store.specs.SavedObjects.{begun_over, objects_at, objects_text, slots_saved}
-use Rattle.ob_tables.specs.SavedProcesses.{ListsFit, processes_at, processes_text}
-use Rattle.ob_store.specs.SavedSlots.{SlotFits, fresh_slot, keeper_slot, rows_text, slot_text}
+use Rattle.ob_store.specs.SavedObjects.{begun_over}
+use Rattle.ob_tables.specs.SavedProcesses.{ListsFit, processes_at}
+use Rattle.ob_store.specs.SavedSlots.{rows_text}
 use Rattle.ob_store.specs.SavedStore.{is_moment, least_bytes, lists_at, moment_at, parts_at, begun_again, slot_bytes, store_at, store_text, tables_for, behind_lists, whole_with}
-use Rattle.ob_store.specs.State.{Whole, generation_of, shape_of, last_wait}
+use Rattle.ob_store.specs.State.{last_wait}
 use Rattle.ob_store.proofs.NamedLaws.{place_counted, there_within}
 use Rattle.ob_store.proofs.PlacedLaws.{live_within}
 use Rattle.ob_store.proofs.SavedAgain.{objects_again, xs-at, xs-long}

@@ -1,22 +1,13 @@
 -- The blocks that are counted of objects that were read, and the tests of their waits and owners.
-use Rattle.std.proofs.Common.{◌≡◌, ℕ, zero, suc, ◌+◌, ◌<◌, ◌≤◌, Bool, true, false, List, [], ◌∷◌, length, get_or, map, Option, Some, None, refl, sym, ap, ◌∙◌, arith, inl, inr}
-use Rattle.std.specs.Prelude.{is_some}
-use Rattle.std.proofs.lemmas.Bool.{and_parts, cases_eq, ltb-true}
-use Rattle.std.proofs.lemmas.List.{ext_get_or, get_or-map, length-map, set-get_or}
+use Rattle.ob_store.proofs.Cited.{◌≡◌, ℕ, zero, suc, ◌+◌, ◌<◌, ◌≤◌, Bool, true, false, List, [], ◌∷◌, length, get_or, map, Option, Some, None, refl, sym, ap, ◌∙◌, arith, inl, inr, is_some, and_parts, cases_eq, ext_get_or, get_or-map, length-map, set-get_or, Slots, Id, blocks_among, new_wait, Mode, Pending, Wait, ObjectHeader, IsLive, ObjectsState, Places, Tag, places_of, wait_stands, with_blocks, with_blocks_at}
+use Rattle.std.proofs.lemmas.Bool.{ltb-true}
 use Rattle.std.proofs.lemmas.List.Quantifiers.{position-Some}
-use Rattle.ob_arena.specs.Slots.{Slots}
-use Rattle.pin_core.specs.declared.id.Id.{Id}
 use Rattle.ob_waits.specs.Rules.{WaitsInvariant}
 use Rattle.ob_waits.specs.Spelling.{are_within, is_within}
-use Rattle.ob_waits.specs.Waits.{blocks_among, is_pending, new_wait, number_of}
-use Rattle.ob_waits.specs.declared.wait.Mode.{Mode}
-use Rattle.ob_waits.specs.declared.wait.State.TheVariants.{Pending}
-use Rattle.ob_waits.specs.declared.wait.Wait.{Wait}
+use Rattle.ob_waits.specs.Waits.{is_pending, number_of}
 use Rattle.ob_waits.proofs.TrackedLaws.{no_number, waits_thread}
-use Rattle.ob_store.specs.declared.object_header.ObjectHeader.{ObjectHeader}
-use Rattle.ob_tables.specs.Processes.{IsLive}
-use Rattle.ob_store.specs.Objects.{ObjectsState, Places, Tag, places_of, header_blocks}
-use Rattle.ob_store.specs.SavedWaits.{object_blocks, state_stands, wait_of, wait_stands, waits_stand, with_blocks, with_blocks_at}
+use Rattle.ob_store.specs.Objects.{header_blocks}
+use Rattle.ob_store.specs.SavedWaits.{object_blocks, state_stands, wait_of, waits_stand}
 use Rattle.ob_store.proofs.LabelLaws.{object_read}
 use Rattle.ob_store.proofs.ByPlace.{all_at, all_from}
 

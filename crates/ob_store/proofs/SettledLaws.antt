@@ -1,14 +1,10 @@
 -- The settled state, as the code reaches it: an object ends where its last reference leaves, and then the waits settle.
-use Rattle.std.proofs.Common.{◌≡◌, ap, ◌∙◌, sym, arith}
-use Rattle.std.proofs.lemmas.List.{get_or_past}
-use Rattle.ob_waits.specs.CountedBodies.{CountedBodies}
-use Rattle.ob_waits.specs.Rules.{HasBodies, IsSettled}
+use Rattle.ob_store.proofs.Cited.{◌≡◌, ap, ◌∙◌, sym, arith, get_or_past, CountedBodies, HasBodies, IsSettled, ended, State, objects_of, settled, IsNamed}
 use Rattle.ob_waits.specs.Waits as waits
-use Rattle.ob_waits.specs.Ends.{HasBlocks, ended, with_ends}
+use Rattle.ob_waits.specs.Ends.{HasBlocks, with_ends}
 use Rattle.ob_waits.proofs.EndsLast.{ends_first, none_to_end}
 use Rattle.ob_waits.proofs.Settling.{settled_same}
-use Rattle.ob_store.specs.State.{State, objects_of, scene_of, with_scene, settled}
-use Rattle.ob_store.specs.Kept.{IsNamed}
+use Rattle.ob_store.specs.State.{scene_of, with_scene}
 use Rattle.ob_store.proofs.BySlot.{get_by_slot, length-by_slot}
 use Rattle.ob_store.proofs.NamedLaws.{blocks_past}
 

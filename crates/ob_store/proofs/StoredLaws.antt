@@ -1,20 +1,7 @@
 -- What a store keeps, told of what is stored.
-use Rattle.std.proofs.Common.{◌≡◌, ℕ, ◌+◌, length, Some, None, refl, ap, ◌∙◌, sym, subst, arith, get_or, true, ltb}
+use Rattle.ob_store.proofs.Cited.{◌≡◌, ℕ, ◌+◌, length, Some, None, refl, ap, ◌∙◌, sym, subst, arith, get_or, true, ltb, Contains, get_or_past, nat_tests, Id, Shape, ObjectName, Rows, handles_among, Object, ObjectsState, ObjectsInvariant, rows_of, PartsState, state_of, whole_of, StoreInvariant}
 use Rattle.std.specs.Prelude.{◌↔◌}
-use Rattle.std.specs.List.{Contains}
-use Rattle.std.proofs.lemmas.List.{get_or_past}
-use Rattle.std.proofs.lemmas.Bool.Decides.{nat_tests}
-use Rattle.pin_core.specs.declared.id.Id.{Id}
-use Rattle.pin_core.specs.declared.shape.Shape.{Shape}
-use Rattle.ob_name.specs.Names.{ObjectName}
-use Rattle.ob_name.specs.Listing.{Rows}
-use Rattle.ob_tables.specs.Counts.{handles_among}
-use Rattle.ob_store.specs.Objects.{Object, ObjectsState}
-use Rattle.ob_store.specs.Agreement.{ObjectsInvariant}
-use Rattle.ob_store.specs.Directory.{rows_of}
-use Rattle.ob_store.specs.Parts.{PartsState, state_of, whole_of}
 use Rattle.ob_store.specs.State.{hold_of}
-use Rattle.ob_store.specs.Kept.{StoreInvariant}
 use Rattle.ob_store.specs.Stored.{IsOpenByName, MatchesState, hold_in}
 use Rattle.ob_store.proofs.CountedLaws.{handles_long, blocks_long}
 use Rattle.ob_store.proofs.DirectoryLaws.{IsRow, rows_are, row_there}

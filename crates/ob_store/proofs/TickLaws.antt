@@ -1,6 +1,5 @@
 -- Timers fire: what is sound stays so, and is on its way to the settled state; none is due then.
-use Rattle.std.proofs.Common.{ℕ, ◌≤◌, arith, ◌≡◌, List, Option, Some, None, refl, ap, get_or, map, false}
-use Rattle.ob_body.specs.declared.body.Body.{Body}
+use Rattle.ob_store.proofs.Cited.{ℕ, ◌≤◌, arith, ◌≡◌, List, Option, Some, None, refl, ap, get_or, map, false, Body, form_of, slot_due, CountedBodies, SignaledState, ObjectsInvariant, Object, ObjectsState, KeptRest, kept_rest, PartsState, state_of, slot_is_due, StoreInvariant, AreFormed, form_in, IsUnderWay}
 use Rattle.ob_body.specs.declared.body.Body.TheVariants.{Event, Mutex, Semaphore, Timer, Host}
 use Rattle.ob_body.specs.TimerState.{TimerState}
 use Rattle.ob_body.specs.Timer.{is_due}
@@ -8,16 +7,10 @@ use Rattle.ob_body.specs.Timer as timer
 use Rattle.ob_body.proofs.Periods as periods
 use Rattle.ob_rights.specs.declared.kind.Kind.TheVariants as kind
 use Rattle.ob_body.specs.Body.{after_fire, due_of, kind_of}
-use Rattle.ob_waits.specs.Form.{IsAfter, form_of, slot_due}
-use Rattle.ob_waits.specs.CountedBodies.{CountedBodies}
+use Rattle.ob_waits.specs.Form.{IsAfter}
 use Rattle.ob_waits.proofs.Room.{room_changed}
-use Rattle.ob_store.specs.Signaled.{SignaledState}
-use Rattle.ob_store.specs.Agreement.{ObjectsInvariant}
-use Rattle.ob_store.specs.Objects.{Object, ObjectsState, KeptRest, kept_rest}
-use Rattle.ob_store.specs.Parts.{PartsState, state_of}
-use Rattle.ob_store.specs.Ticks.{slot_fired, slot_is_due}
-use Rattle.ob_store.specs.Kept.{StoreInvariant, AreFormed, form_in, unset}
-use Rattle.ob_store.specs.UnderWay.{IsUnderWay}
+use Rattle.ob_store.specs.Ticks.{slot_fired}
+use Rattle.ob_store.specs.Kept.{unset}
 use Rattle.ob_store.proofs.KeptLaws.{sound_rested, state_rested}
 use Rattle.ob_store.proofs.HeaderLaws.{read}
 use Rattle.ob_store.proofs.TimerLaws.{fired_later}

@@ -1,26 +1,14 @@
 -- What holds of objects and their keeper holds after each change.
-use Rattle.ob_codec.proofs.AtPlace.{at_place}
-use Rattle.std.proofs.Common.{◌≡◌, ℕ, ◌+◌, ◌<◌, ◌≤◌, List, length, None, refl, arith, get_or, set, true, false}
-use Rattle.std.proofs.lemmas.Bool.{and_parts}
-use Rattle.std.specs.Prelude.{is_some, ◌&&◌}
-use Rattle.std.proofs.lemmas.List.{length-set, get_or-set_same, set-get_or}
-use Rattle.std.proofs.lemmas.Bool.Decides.{nat_tests}
-use Rattle.pin_core.specs.declared.id.Id.{Id}
+use Rattle.ob_store.proofs.Cited.{at_place, ◌≡◌, ℕ, ◌+◌, ◌<◌, ◌≤◌, List, length, None, refl, arith, get_or, set, true, false, and_parts, is_some, length-set, get_or-set_same, set-get_or, nat_tests, Id, Slot, slot_of, opening_slot, Body, is_vacant_at, without_block, HasBodies, Places, ObjectsState, ObjectAttributes, vacancy, with_keeper, object_in, without_handle, without_header, places_in, ObjectsInvariant, made_in}
+use Rattle.std.specs.Prelude.{◌&&◌}
 use Rattle.pin_core.specs.declared.word.Phase.TheVariants as phase
-use Rattle.pin_core.specs.declared.world.Slot.{Slot}
 use Rattle.pin_core.specs.Descrs.{IsGiven}
-use Rattle.pin_core.specs.Worlds.{slot_of, opening_slot}
 use Rattle.pin_core.specs.Events.{in_phase, with_descr}
 use Rattle.pin_words.specs.declared.view.Look.{Look}
 use Rattle.pin_words.specs.Keepers.{closed, with_looks, opened_again}
-use Rattle.ob_body.specs.declared.body.Body.{Body}
-use Rattle.ob_arena.specs.Slots.{is_vacant_at}
 use Rattle.ob_waits.specs.CountedBodies as waits
-use Rattle.ob_waits.specs.CountedBodies.{without_block}
-use Rattle.ob_waits.specs.Rules.{HasBodies}
 use Rattle.ob_waits.proofs.Ends.{ends_left}
-use Rattle.ob_store.specs.Objects.{Places, ObjectsState, ObjectAttributes, vacancy, with_keeper, with_object, object_in, with_header, without_handle, without_header, with_retired, places_in, is_last_handle, is_last_block, rest_of}
-use Rattle.ob_store.specs.Agreement.{ObjectsInvariant, made_in}
+use Rattle.ob_store.specs.Objects.{with_object, with_header, with_retired, is_last_handle, is_last_block, rest_of}
 use Rattle.ob_store.proofs.AgreeLaws.{object_at, body_at, slot_at}
 use Rattle.ob_store.proofs.ListLaws.{listed_added}
 use Rattle.ob_store.proofs.EndLaws.{bodied_handle_left}

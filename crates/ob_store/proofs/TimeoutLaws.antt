@@ -1,28 +1,13 @@
 -- Waits whose time is up are answered one after another, and the state settles behind each: that is the same as all at
 -- once.
-use Rattle.std.proofs.Common.{◌≡◌, ℕ, ◌<◌, ◌≤◌, List, length, Option, Some, None, refl, ap, ◌∙◌, sym, arith, get_or, map, true, false, inl, inr}
-use Rattle.std.specs.Prelude.{count_by, is_some}
-use Rattle.std.proofs.lemmas.List.{get_or_past}
-use Rattle.std.proofs.lemmas.Bool.{cases_lt}
-use Rattle.ob_body.specs.declared.body.Body.{Body}
-use Rattle.ob_waits.specs.declared.wait.Wait.{Wait}
-use Rattle.ob_waits.specs.Deadlines.{is_overdue}
+use Rattle.ob_store.proofs.Cited.{◌≡◌, ℕ, ◌<◌, ◌≤◌, List, length, Option, Some, None, refl, ap, ◌∙◌, sym, arith, get_or, map, true, false, inl, inr, count_by, is_some, get_or_past, cases_lt, Body, Wait, is_overdue, ended, slot_form, CountedBodies, IsSettled, Scene, slot_blocks, settled_less, IsNamed, State, objects_of, settled, timed_out, slot_is_due, AreLeft}
 use Rattle.ob_waits.specs.Deadlines as waits_time
-use Rattle.ob_waits.specs.Ends.{ended}
-use Rattle.ob_waits.specs.Form.{slot_form}
-use Rattle.ob_waits.specs.CountedBodies.{CountedBodies}
-use Rattle.ob_waits.specs.Rules.{IsSettled}
 use Rattle.ob_waits.specs.Waits as waits
-use Rattle.ob_waits.specs.Waits.{Scene, slot_blocks}
 use Rattle.ob_waits.proofs.Counted.{blocks_answered}
 use Rattle.ob_waits.proofs.EndsLast.{ended_at, length-ended}
 use Rattle.ob_waits.proofs.TimedOutLaws.{blocks_lapsed, ended_twice, fewer_overdue, lapsed_twice, none_lapsed, settled_lapsed, slot_lapsed}
-use Rattle.ob_waits.proofs.Settled.{settled_answered, settled_less}
+use Rattle.ob_waits.proofs.Settled.{settled_answered}
 use Rattle.ob_waits.proofs.Staying.{settled_form}
-use Rattle.ob_store.specs.Kept.{IsNamed}
-use Rattle.ob_store.specs.State.{State, objects_of, settled}
-use Rattle.ob_store.specs.Ticks.{timed_out, slot_is_due}
-use Rattle.ob_store.specs.UnderWay.{AreLeft}
 use Rattle.ob_store.specs.Waiting.{with_answer}
 use Rattle.ob_store.proofs.BySlot.{get_by_slot, length-by_slot}
 use Rattle.ob_store.proofs.LeftLaws.{less_gone}

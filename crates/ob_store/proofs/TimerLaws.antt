@@ -1,19 +1,13 @@
 -- The due moments of slots, while bodies change, and the least of them.
-use Rattle.std.proofs.Common.{◌≡◌, ℕ, [], ◌∷◌, ◌<◌, List, length, Option, Some, None, refl, ap, ◌∙◌, sym, arith, get_or, set, map, Bool, true, false, cond}
-use Rattle.std.specs.Prelude.{IfNone, IfSome}
+use Rattle.ob_store.proofs.Cited.{◌≡◌, ℕ, [], ◌∷◌, ◌<◌, List, length, Option, Some, None, refl, ap, ◌∙◌, sym, arith, get_or, set, map, Bool, true, false, cond, IfSome, length-map, Body, slot_due, slot_acquired, ObjectHeader, header_body, slot_is_due, header_due}
+use Rattle.std.specs.Prelude.{IfNone}
 use Rattle.std.proofs.lemmas.Bool.{leb-false}
-use Rattle.std.proofs.lemmas.List.{length-map}
 use Rattle.least.specs.Dues.{is_by, IsLeast}
-use Rattle.ob_body.specs.declared.body.Body.{Body}
 use Rattle.ob_body.specs.Timer.{after_fire, is_due}
 use Rattle.ob_body.specs.TimerState.{TimerState}
 use Rattle.ob_body.proofs.Periods.{fired_undue}
-use Rattle.ob_waits.specs.Form.{IsAfter, slot_due}
-use Rattle.ob_waits.specs.CountedBodies.{slot_acquired}
-use Rattle.ob_store.specs.declared.object_header.ObjectHeader.{ObjectHeader}
-use Rattle.ob_store.specs.Objects.{header_body}
-use Rattle.ob_store.specs.Ticks.{slot_is_due}
-use Rattle.ob_store.specs.Timers.{header_due, due_left}
+use Rattle.ob_waits.specs.Form.{IsAfter}
+use Rattle.ob_store.specs.Timers.{due_left}
 use Rattle.ob_store.proofs.HeaderLaws.{read, mapped_same, mapped_set, mapped_stays}
 
 -- the due moment of a slot

@@ -1,25 +1,11 @@
 -- A call is under way from what is kept, and ends with what is kept of the settled state.
-use Rattle.ob_codec.proofs.AtPlace.{at_place}
-use Rattle.std.proofs.Common.{◌≡◌, ℕ, ◌<◌, List, length, Option, Some, None, refl, ap, ◌∙◌, sym, subst, arith, get_or, set, true}
-use Rattle.pin_core.specs.declared.id.Id.{Id}
-use Rattle.pin_words.specs.Keepers.{KeeperState}
-use Rattle.ob_body.specs.declared.body.Body.{Body}
-use Rattle.ob_body.specs.Body.{is_signaled}
-use Rattle.ob_waits.specs.Ends.{ended}
-use Rattle.ob_waits.specs.CountedBodies.{CountedBodies}
-use Rattle.ob_waits.specs.Rules.{IsReadyAt, IsSettled, WaitsHaveRoom}
+use Rattle.ob_store.proofs.Cited.{at_place, ◌≡◌, ℕ, ◌<◌, List, length, Option, Some, None, refl, ap, ◌∙◌, sym, subst, arith, get_or, set, true, Id, KeeperState, Body, is_signaled, ended, CountedBodies, IsSettled, Scene, WaitList, slot_blocks, settled_less, ObjectsInvariant, AreFormed, StoreInvariant, IsNamed, IsPopulated, IsSound, Yields, ObjectsState, KeptRest, kept_rest, PartsState, state_of, whole_of, SignaledState, State, Whole, objects_of, settled, with_body, IsEnding, IsUnderWay}
+use Rattle.ob_waits.specs.Rules.{IsReadyAt, WaitsHaveRoom}
 use Rattle.ob_waits.specs.Waits as waits
-use Rattle.ob_waits.specs.Waits.{Scene, WaitList, slot_blocks}
 use Rattle.ob_waits.proofs.Apart.{ready_at_change}
-use Rattle.ob_waits.proofs.Settled.{settled_less, settled_unnamed}
+use Rattle.ob_waits.proofs.Settled.{settled_unnamed}
 use Rattle.ob_waits.proofs.Settling.{settled_same}
-use Rattle.ob_store.specs.Agreement.{ObjectsInvariant}
-use Rattle.ob_store.specs.Kept.{AreFormed, StoreInvariant, IsNamed, IsPopulated, IsSound, Yields}
-use Rattle.ob_store.specs.Objects.{ObjectsState, KeptRest, kept_rest}
-use Rattle.ob_store.specs.Parts.{PartsState, state_of, whole_of}
-use Rattle.ob_store.specs.Signaled.{SignaledState}
-use Rattle.ob_store.specs.State.{State, Whole, objects_of, settled, with_body, with_scene}
-use Rattle.ob_store.specs.UnderWay.{IsEnding, IsUnderWay}
+use Rattle.ob_store.specs.State.{with_scene}
 use Rattle.ob_store.proofs.AgreeLaws.{body_within}
 use Rattle.ob_store.proofs.BodyLaws.{formed_put, formed_settled, less_put, of_live_put, of_live_settled}
 use Rattle.ob_store.proofs.CountedLaws.{blocks_at, counted_settled}

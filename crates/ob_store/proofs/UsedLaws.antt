@@ -1,14 +1,13 @@
 -- Slots up to the last that ever had an object, and all of them again.
-use Rattle.std.proofs.Common.{◌≡◌, ℕ, zero, suc, ◌+◌, ◌-◌, ◌≤◌, ◌^◌, ◌<◌, Bool, true, false, cond, List, [], ◌∷◌, ◌++◌, length, get_or, Some, None, refl, sym, ap, ◌∙◌, subst, append_assoc, arith, length-append}
+use Rattle.ob_store.proofs.Cited.{◌≡◌, ℕ, zero, suc, ◌+◌, ◌-◌, ◌≤◌, ◌<◌, Bool, true, false, cond, List, [], ◌∷◌, ◌++◌, length, get_or, Some, None, refl, sym, ap, ◌∙◌, subst, append_assoc, arith, AllByRecursion, le-leb, append-nil, length-replicate, SavedSlot, SlotFits, ends_used, filled, fresh_slot, used, with_fresh}
+use Rattle.std.proofs.Common.{◌^◌, length-append}
 use Rattle.std.specs.Prelude.{replicate}
-use Rattle.std.specs.List.{AllByRecursion}
-use Rattle.std.proofs.lemmas.Bool.{le-leb, leb-true}
-use Rattle.std.proofs.lemmas.List.{append-nil, length-replicate, replicate_more}
+use Rattle.std.proofs.lemmas.Bool.{leb-true}
+use Rattle.std.proofs.lemmas.List.{replicate_more}
 use Rattle.std.proofs.lemmas.Option.{cond_some}
 use Rattle.ob_codec.specs.Spelling.{FewFit}
-use Rattle.ob_store.specs.declared.saved_slot.SavedSlot.{SavedSlot}
 use Rattle.ob_store.proofs.ByPlace.{replicate_at}
-use Rattle.ob_store.specs.SavedSlots.{SlotFits, ends_used, filled, fresh_slot, is_fresh, used, with_fresh, with_used}
+use Rattle.ob_store.specs.SavedSlots.{is_fresh, with_used}
 
 fresh-is : (x : SavedSlot) → is_fresh x ≡ true → x ≡ fresh_slot
 fresh-is x e = search arith

@@ -1,9 +1,6 @@
 -- The tables of processes that aren't live are empty: as a test of what is read, and as it is kept.
-use Rattle.std.proofs.Common.{◌≡◌, ℕ, ◌||◌, not, true, ltb, List, [], ◌∷◌, length, Option, Some, None, refl, arith, get_or, inl, inr}
-use Rattle.std.specs.Prelude.{is_some}
-use Rattle.std.proofs.lemmas.Bool.{cases_lt}
-use Rattle.std.proofs.lemmas.List.{get_or_past}
-use Rattle.ob_tables.specs.declared.entry.Entry.{Entry}
+use Rattle.ob_store.proofs.Cited.{◌≡◌, ℕ, not, true, ltb, List, [], ◌∷◌, length, Option, Some, None, refl, arith, get_or, inl, inr, is_some, cases_lt, get_or_past, Entry}
+use Rattle.std.proofs.Common.{◌||◌}
 use Rattle.ob_store.specs.SavedStore.{are_vacated, is_vacated}
 use Rattle.ob_store.proofs.ByPlace.{below_at, below_from}
 

@@ -1,38 +1,20 @@
 -- What is kept as a thread takes what it waits for, and as waits come, are answered and go.
-use Rattle.ob_codec.proofs.AtPlace.{at_place}
-use Rattle.std.proofs.Common.{◌≡◌, ℕ, suc, ◌+◌, ◌<◌, ◌≤◌, List, [], ◌∷◌, ◌++◌, length, Option, Some, None, refl, ap, ◌∙◌, sym, arith, get_or, set, Bool, true, false, inl, inr}
-use Rattle.std.specs.Prelude.{count_by, if◌then◌else◌}
+use Rattle.ob_store.proofs.Cited.{at_place, ◌≡◌, ℕ, suc, ◌+◌, ◌<◌, ◌≤◌, List, [], ◌∷◌, ◌++◌, length, Option, Some, None, refl, ap, ◌∙◌, sym, arith, get_or, set, Bool, true, false, inl, inr, count_by, length-set, get_or_past, get_or-set_same, get_or-set_other, cases_lt, same_id, Id, Body, handles_among, Mode, Wait, CountedBodies, without_blocks, HasRoom, IsSettled, thread_of, nowhere, WaitList, ids_of, new_wait, slot_blocks, slot_places, settled_less, ObjectsInvariant, IsLive, AreFormed, AreOfLive, IsCounted, IsNamed, IsSound, StoreInvariant, Object, ObjectsState, KeptRest, kept_rest, with_blocks_of, PartsState, state_of, whole_of, settled, AreLeft, IsUnderWay}
+use Rattle.std.specs.Prelude.{if◌then◌else◌}
 use Rattle.std.specs.Option.{IfNone, OnSome}
-use Rattle.std.proofs.lemmas.List.{length-set, get_or_past, get_or-set_same, get_or-set_other}
-use Rattle.std.proofs.lemmas.Bool.{cases_lt}
-use Rattle.pin_core.specs.Holds.{same_id}
-use Rattle.pin_core.specs.declared.id.Id.{Id}
-use Rattle.ob_body.specs.declared.body.Body.{Body}
-use Rattle.ob_tables.specs.Counts.{handles_among}
 use Rattle.ob_tables.proofs.Counting.{one_id}
-use Rattle.ob_waits.specs.declared.wait.Mode.{Mode}
-use Rattle.ob_waits.specs.declared.wait.Wait.{Wait}
 use Rattle.ob_waits.specs.declared.wait.WaitState.{WaitState}
 use Rattle.ob_waits.specs.declared.wait.WaitState.TheVariants as shown
 use Rattle.ob_waits.specs.Form.{HasWait}
-use Rattle.ob_waits.specs.CountedBodies.{CountedBodies, without_blocks}
-use Rattle.ob_waits.specs.Rules.{HasRoom, IsSettled, thread_of}
 use Rattle.ob_waits.specs.Rules as rules
-use Rattle.ob_waits.specs.Waits.{nowhere, WaitList, answered, bodies_after, code_now, ids_of, is_answer, list_ready, new_wait, number_of, objects_now, slot_blocks, slot_places, state_at}
+use Rattle.ob_waits.specs.Waits.{answered, bodies_after, code_now, is_answer, list_ready, number_of, objects_now, state_at}
 use Rattle.ob_waits.specs.Waits as waits
 use Rattle.ob_waits.proofs.Counted.{blocks_added, blocks_answered, blocks_removed, slot_added, slot_answered, slot_removed, slot_blocks-few}
 use Rattle.ob_waits.proofs.Ends.{sizes_left}
 use Rattle.ob_waits.proofs.References.{left_all}
 use Rattle.ob_waits.proofs.Room.{room_added, room_answered, room_now, room_removed}
-use Rattle.ob_waits.proofs.Settled.{settled_added, settled_answered, settled_less, settled_now, settled_removed}
+use Rattle.ob_waits.proofs.Settled.{settled_added, settled_answered, settled_now, settled_removed}
 use Rattle.ob_waits.proofs.Staying.{taken}
-use Rattle.ob_store.specs.Agreement.{ObjectsInvariant}
-use Rattle.ob_tables.specs.Processes.{IsLive}
-use Rattle.ob_store.specs.Kept.{AreFormed, AreOfLive, IsCounted, IsNamed, IsSound, StoreInvariant}
-use Rattle.ob_store.specs.Objects.{Object, ObjectsState, KeptRest, kept_rest, with_blocks_of}
-use Rattle.ob_store.specs.Parts.{PartsState, state_of, whole_of}
-use Rattle.ob_store.specs.State.{settled}
-use Rattle.ob_store.specs.UnderWay.{AreLeft, IsUnderWay}
 use Rattle.ob_store.specs.Waiting.{joined, with_answer, with_taken, without_wait}
 use Rattle.ob_store.proofs.BodyLaws.{formed_by}
 use Rattle.ob_store.proofs.BySlot.{recounted, count_few}

@@ -1,8 +1,6 @@
 -- What a walk finds, by what it looks at.
-use Rattle.std.proofs.Common.{ℕ, arith}
-use Rattle.std.proofs.Common.{◌≡◌, List, Option, None, get_or, is_some}
-use Rattle.ob_store.specs.declared.object_header.ObjectHeader.{ObjectHeader}
-use Rattle.ob_store.specs.Objects.{Tag, objects_in}
+use Rattle.ob_store.proofs.Cited.{ℕ, arith, ◌≡◌, List, Option, None, get_or, ObjectHeader, Tag, objects_in}
+use Rattle.std.proofs.Common.{is_some}
 use Rattle.ob_store.proofs.LabelLaws.{object_read}
 
 -- a slot has an object where it has a header

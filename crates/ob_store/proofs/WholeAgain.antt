@@ -1,12 +1,6 @@
 -- Births that are distinct are ordered, and objects that have bodies just where something refers to them pass.
-use Rattle.std.proofs.Common.{◌≡◌, ℕ, ◌≢◌, suc, ◌<◌, true, List, [], ◌∷◌, get_or, Option, Some, None, Ok, refl, arith}
-use Rattle.std.specs.BTreeMap.{insert_entry}
-use Rattle.std.specs.Ordering.{nat_cmp}
+use Rattle.ob_store.proofs.Cited.{◌≡◌, ℕ, ◌≢◌, suc, ◌<◌, true, List, [], ◌∷◌, get_or, Option, Some, None, Ok, refl, arith, insert_entry, nat_cmp, HasBodies, AreBorn, Object, Births, births_from}
 use Rattle.ob_waits.specs.CountedBodies as waits
-use Rattle.ob_waits.specs.Rules.{HasBodies}
-use Rattle.ob_store.specs.Agreement.{AreBorn}
-use Rattle.ob_store.specs.Objects.{Object}
-use Rattle.ob_store.specs.SavedBirths.{Births, births_from}
 use Rattle.ob_store.specs.SavedObjects.{are_bodied}
 use Rattle.ob_store.proofs.ByPlace.{below_from}
 use Rattle.ob_store.proofs.SavedBirthLaws.{taken, taken_inserted}

@@ -1,8 +1,6 @@
 -- What calls do to bodies takes nothing for a thread.
-use Rattle.std.proofs.Common.{◌≡◌, ℕ, arith, true}
-use Rattle.ob_body.specs.declared.body.Body.{Body}
-use Rattle.ob_body.specs.Body.{is_signaled, after_set, after_reset, after_post, after_unlock, after_arm, after_disarm}
-use Rattle.ob_store.specs.Kept.{Yields}
+use Rattle.ob_store.proofs.Cited.{◌≡◌, ℕ, arith, true, Body, is_signaled, Yields}
+use Rattle.ob_body.specs.Body.{after_set, after_reset, after_post, after_unlock, after_arm, after_disarm}
 use Rattle.ob_store.proofs.TimerLaws.{fired_later}
 
 pub set_yields : (clock : ℕ) (b : Body) → Yields clock b (after_set b)

@@ -1,6 +1,4 @@
-use Rattle.std.proofs.Common.{◌≡◌, ◌≤◌, ◌*◌, take}
-use Rattle.std.specs.Prelude.{sum_by}
-use Rattle.ob_store.specs.Agreement.{made_in}
+use Rattle.ob_store.proofs.Cited.{◌≡◌, ◌≤◌, ◌*◌, take, sum_by, made_in}
 use Rattle.ob_store.proofs.births.count_births.Given as goal
 
 abbrev pub invariant-loop-slot : goal.invariant-loop-slot

@@ -1,5 +1,4 @@
-use Rattle.std.proofs.Common.{◌≡◌, [], drop}
-use Rattle.ob_store.specs.SavedBirths.{births_from}
+use Rattle.ob_store.proofs.Cited.{◌≡◌, [], drop, births_from}
 use Rattle.ob_store.proofs.births.order_births.Given as goal
 
 abbrev pub invariant-loop-slot : goal.invariant-loop-slot

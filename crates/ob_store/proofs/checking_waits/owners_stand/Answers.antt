@@ -1,5 +1,4 @@
-use Rattle.std.proofs.Common.{None, sym, arith}
-use Rattle.ob_store.specs.SavedWaits.{owner_stands}
+use Rattle.ob_store.proofs.Cited.{None, sym, arith, owner_stands}
 use Rattle.ob_store.proofs.ByPlace.{all_from}
 use Rattle.ob_store.proofs.checking_waits.owners_stand.Goals as goal
 

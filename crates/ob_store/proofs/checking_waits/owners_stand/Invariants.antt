@@ -1,5 +1,4 @@
-use Rattle.std.proofs.Common.{◌≡◌, ℕ, ◌<◌, None, get_or, true}
-use Rattle.ob_store.specs.SavedWaits.{owner_stands}
+use Rattle.ob_store.proofs.Cited.{◌≡◌, ℕ, ◌<◌, None, get_or, true, owner_stands}
 use Rattle.ob_store.proofs.checking_waits.owners_stand.Given as goal
 
 abbrev pub invariant-loop-slot : goal.invariant-loop-slot

@@ -1,5 +1,5 @@
-use Rattle.std.proofs.Common.{◌∙◌, ap, sym}
-use Rattle.std.specs.Prelude.{is_some, not}
+use Rattle.ob_store.proofs.Cited.{◌∙◌, ap, sym, is_some}
+use Rattle.std.specs.Prelude.{not}
 use Rattle.ob_store.proofs.SavedWaitLaws.{answered_wait, dead_wait, pending_wait}
 use Rattle.ob_store.proofs.checking_waits.wait_stands.Goals as goal
 

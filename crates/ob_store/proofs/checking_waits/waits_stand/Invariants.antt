@@ -1,5 +1,5 @@
-use Rattle.std.proofs.Common.{◌≡◌, ℕ, ◌<◌, true}
-use Rattle.ob_store.specs.SavedWaits.{wait_of, wait_stands}
+use Rattle.ob_store.proofs.Cited.{◌≡◌, ℕ, ◌<◌, true, wait_stands}
+use Rattle.ob_store.specs.SavedWaits.{wait_of}
 use Rattle.ob_store.proofs.checking_waits.waits_stand.Given as goal
 
 abbrev pub invariant-loop-thread : goal.invariant-loop-thread

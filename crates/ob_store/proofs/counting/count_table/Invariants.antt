@@ -1,5 +1,4 @@
-use Rattle.std.proofs.Common.{◌≡◌, drop}
-use Rattle.ob_store.specs.Counting.{counting_in}
+use Rattle.ob_store.proofs.Cited.{◌≡◌, drop, counting_in}
 use Rattle.ob_store.proofs.counting.count_table.Given as goal
 
 abbrev pub invariant-loop-place : goal.invariant-loop-place

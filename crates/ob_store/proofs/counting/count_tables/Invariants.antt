@@ -1,5 +1,4 @@
-use Rattle.std.proofs.Common.{◌≡◌, drop}
-use Rattle.ob_store.specs.Counting.{counting_all}
+use Rattle.ob_store.proofs.Cited.{◌≡◌, drop, counting_all}
 use Rattle.ob_store.proofs.counting.count_tables.Given as goal
 
 abbrev pub invariant-loop-process : goal.invariant-loop-process

@@ -1,10 +1,4 @@
-use Rattle.std.proofs.Common.{◌≡◌, ℕ, ◌∙◌, None, ap, sym, arith, false, get_or, length, inl, inr}
-use Rattle.std.proofs.lemmas.Bool.{cases_eq, cases_lt}
-use Rattle.std.proofs.lemmas.List.{get_or_past, length-map}
-use Rattle.ob_body.specs.Mutex.{is_owner}
-use Rattle.ob_waits.specs.Form.{slot_owner}
-use Rattle.ob_waits.specs.CountedBodies.{CountedBodies}
-use Rattle.ob_store.specs.Ends.{slot_left_by}
+use Rattle.ob_store.proofs.Cited.{◌≡◌, ℕ, ◌∙◌, None, ap, sym, arith, false, get_or, length, inl, inr, cases_eq, cases_lt, get_or_past, length-map, is_owner, slot_owner, CountedBodies, slot_left_by}
 use Rattle.ob_store.specs.Owners.{owns_at}
 use Rattle.ob_store.proofs.OneByOne.{all_done}
 use Rattle.ob_store.proofs.OwnerLaws.{left_by_other}

@@ -1,7 +1,5 @@
-use Rattle.std.proofs.Common.{◌≡◌, ℕ, ◌<◌, false}
+use Rattle.ob_store.proofs.Cited.{◌≡◌, ℕ, ◌<◌, false, kept_rest, KeepsEnough}
 use Rattle.ob_store.specs.Ends.{abandoned_by}
-use Rattle.ob_store.specs.Objects.{kept_rest}
-use Rattle.ob_store.specs.Signaled.{KeepsEnough}
 use Rattle.ob_store.specs.Owners.{owns_at}
 use Rattle.ob_store.proofs.ending.abandon.Given as goal
 

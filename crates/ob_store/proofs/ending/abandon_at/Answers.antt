@@ -1,6 +1,4 @@
-use Rattle.std.proofs.Common.{◌∙◌, None, ap, sym, get_or, set}
-use Rattle.std.proofs.lemmas.List.{set-get_or}
-use Rattle.ob_store.specs.Ends.{slot_left_by}
+use Rattle.ob_store.proofs.Cited.{◌∙◌, None, ap, sym, get_or, set, set-get_or, slot_left_by}
 use Rattle.ob_store.proofs.EnoughLaws.{enough_added}
 use Rattle.ob_store.proofs.OneByOne.{one_before}
 use Rattle.ob_store.proofs.OwnerLaws.{left_by_other, left_twice}

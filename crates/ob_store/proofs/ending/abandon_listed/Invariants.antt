@@ -1,7 +1,5 @@
-use Rattle.std.proofs.Common.{◌≡◌}
+use Rattle.ob_store.proofs.Cited.{◌≡◌, kept_rest, KeepsEnough}
 use Rattle.ob_store.specs.Ends.{abandoned_by}
-use Rattle.ob_store.specs.Objects.{kept_rest}
-use Rattle.ob_store.specs.Signaled.{KeepsEnough}
 use Rattle.ob_store.proofs.ending.abandon_listed.Given as goal
 
 abbrev pub invariant-loop : goal.invariant-loop

@@ -1,6 +1,5 @@
-use Rattle.std.proofs.Common.{◌∙◌, ◌+◌, arith, rules, sym}
+use Rattle.ob_store.proofs.Cited.{◌∙◌, ◌+◌, arith, rules, sym, no_tag, tags_in}
 use Rattle.least.proofs.PaddedLemmas.{padded_long, padded_push}
-use Rattle.ob_store.specs.Objects.{no_tag, tags_in}
 use Rattle.ob_store.proofs.LabelLaws.{tags_length, tags_push}
 use Rattle.ob_store.proofs.object_headers.reach_label.Goals as goal
 

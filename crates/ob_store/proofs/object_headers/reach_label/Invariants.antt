@@ -1,6 +1,5 @@
-use Rattle.std.proofs.Common.{◌≡◌, ◌-◌, ◌+◌, ◌≤◌, length, vec_capacity}
-use Rattle.least.specs.Padded.{padded}
-use Rattle.ob_store.specs.Objects.{no_tag, tags_in}
+use Rattle.ob_store.proofs.Cited.{◌≡◌, ◌-◌, ◌+◌, ◌≤◌, length, padded, no_tag, tags_in}
+use Rattle.std.proofs.Common.{vec_capacity}
 use Rattle.ob_store.proofs.object_headers.reach_label.Given as goal
 
 abbrev pub invariant-loop-labels : goal.invariant-loop-labels

@@ -1,7 +1,4 @@
-use Rattle.std.proofs.Common.{◌∙◌, ap, sym, set, Option, refl, true, false, Some}
-use Rattle.ob_name.specs.Names.{ObjectName}
-use Rattle.ob_store.specs.declared.label.Label.{Label}
-use Rattle.ob_store.specs.Objects.{tags_in}
+use Rattle.ob_store.proofs.Cited.{◌∙◌, ap, sym, set, Option, refl, true, false, Some, ObjectName, Label, tags_in}
 use Rattle.ob_store.proofs.LabelLaws.{tags_named, tags_plain}
 use Rattle.ob_store.proofs.object_headers.relabel.Goals as goal
 

@@ -1,5 +1,4 @@
-use Rattle.std.proofs.Common.{◌++◌, ◌∙◌, ap, arith, replicate}
-use Rattle.pin_core.specs.Worlds.{opening_slot}
+use Rattle.ob_store.proofs.Cited.{◌++◌, ◌∙◌, ap, arith, replicate, opening_slot}
 use Rattle.ob_store.proofs.UsedLaws.{one_filled}
 use Rattle.ob_store.proofs.reading_objects.fill.Goals as goal
 

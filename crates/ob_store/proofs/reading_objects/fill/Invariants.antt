@@ -1,5 +1,4 @@
-use Rattle.std.proofs.Common.{◌≡◌, ◌-◌, ◌++◌, length, replicate}
-use Rattle.pin_core.specs.Worlds.{opening_slot}
+use Rattle.ob_store.proofs.Cited.{◌≡◌, ◌-◌, ◌++◌, length, replicate, opening_slot}
 use Rattle.ob_store.proofs.reading_objects.fill.Given as goal
 
 abbrev pub invariant-loop : goal.invariant-loop

@@ -1,6 +1,4 @@
-use Rattle.std.proofs.Common.{◌∙◌, List, length, refl, sym, ap, arith}
-use Rattle.pin_core.specs.declared.world.Slot.{Slot}
-use Rattle.pin_core.specs.declared.shape.Shape.{Shape}
+use Rattle.ob_store.proofs.Cited.{◌∙◌, List, length, refl, sym, ap, arith, Slot, Shape}
 use Rattle.ob_store.proofs.SavedObjectLaws.{slots_read, tied_read, wide_read}
 use Rattle.ob_store.proofs.reading_objects.read_whole.Goals as goal
 

@@ -1,6 +1,5 @@
-use Rattle.std.proofs.Common.{◌≡◌, ◌∙◌, None, false, get_or, subst}
-use Rattle.ob_store.specs.Objects.{ObjectsState}
-use Rattle.ob_store.specs.Ticks.{slot_fired, slot_is_due}
+use Rattle.ob_store.proofs.Cited.{◌≡◌, ◌∙◌, None, false, get_or, subst, ObjectsState, slot_is_due}
+use Rattle.ob_store.specs.Ticks.{slot_fired}
 use Rattle.ob_store.proofs.EnoughLaws.{enough_added}
 use Rattle.ob_store.proofs.OneByOne.{all_done, one_before}
 use Rattle.ob_store.proofs.TickLaws.{fired_other, fired_twice}

@@ -1,8 +1,5 @@
-use Rattle.std.proofs.Common.{◌≡◌}
-use Rattle.std.specs.Prelude.{count_by}
-use Rattle.ob_store.specs.Objects.{kept_rest}
-use Rattle.ob_store.specs.Signaled.{KeepsEnough}
-use Rattle.ob_store.specs.Ticks.{slot_is_due, timers_fired}
+use Rattle.ob_store.proofs.Cited.{◌≡◌, count_by, kept_rest, KeepsEnough, slot_is_due}
+use Rattle.ob_store.specs.Ticks.{timers_fired}
 use Rattle.ob_store.proofs.ticking.fire_all.Given as goal
 
 abbrev pub invariant-loop-slot : goal.invariant-loop-slot

@@ -1,6 +1,4 @@
-use Rattle.std.proofs.Common.{◌∷◌, []}
-use Rattle.std.proofs.lemmas.Result.{on_ok_weaker}
-use Rattle.ob_store.specs.Objects.{object_of, tag_of}
+use Rattle.ob_store.proofs.Cited.{◌∷◌, [], on_ok_weaker, object_of, tag_of}
 use Rattle.ob_store.specs.SavedObjects.{saved_of}
 use Rattle.ob_store.specs.SavedSlots.{object_text}
 use Rattle.ob_codec.proofs.SavingLaws.{two_behind}

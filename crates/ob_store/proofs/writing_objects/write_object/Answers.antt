@@ -1,6 +1,4 @@
-use Rattle.std.proofs.Common.{cond, None}
-use Rattle.std.specs.Int.{w64, to_le_bytes}
-use Rattle.std.proofs.lemmas.Result.{on_ok_weaker}
+use Rattle.ob_store.proofs.Cited.{cond, None, w64, to_le_bytes, on_ok_weaker}
 use Rattle.ob_codec.specs.Spelling.{option}
 use Rattle.ob_name.specs.Spelling.{name_text}
 use Rattle.ob_body.specs.Spelling.{body_text}

@@ -1,6 +1,5 @@
-use Rattle.std.proofs.Common.{sym, subst}
-use Rattle.pin_words.specs.Keepers.{KeeperState, IsFreshWith}
-use Rattle.ob_store.specs.Objects.{ObjectsState, with_keeper}
+use Rattle.ob_store.proofs.Cited.{sym, subst, KeeperState, ObjectsState, with_keeper}
+use Rattle.pin_words.specs.Keepers.{IsFreshWith}
 use Rattle.ob_store.proofs.KeeperLaws.{tied_over}
 use Rattle.ob_store.proofs.keepers.Objects+LockedPins.over.Goals as goal
 

@@ -1,10 +1,7 @@
-use Rattle.std.proofs.Common.{refl, is_some, ◌∙◌, ap}
-use Rattle.ob_store.specs.declared.object_header.ObjectHeader.{ObjectHeader}
-use Rattle.ob_store.specs.Objects.{tags_in}
-use Rattle.ob_store.specs.Timers.{header_due}
+use Rattle.ob_store.proofs.Cited.{refl, ◌∙◌, ap, ObjectHeader, tags_in, header_due, slot_due}
+use Rattle.std.proofs.Common.{is_some}
 use Rattle.ob_store.proofs.HeaderLaws.{rest_same, seen_acquired, mapped_stays}
 use Rattle.ob_store.proofs.OwnerLaws.{owned_few}
-use Rattle.ob_waits.specs.Form.{slot_due}
 use Rattle.ob_store.proofs.TimerLaws.{due_taken}
 use Rattle.ob_store.proofs.ClosingLaws.{body_stays}
 use Rattle.ob_store.proofs.NotedLaws.{noted_moved}

@@ -1,5 +1,4 @@
-use Rattle.std.proofs.Common.{◌∙◌, refl, sym, arith}
-use Rattle.ob_store.specs.Objects.{Tag, tags_in, places_of}
+use Rattle.ob_store.proofs.Cited.{◌∙◌, refl, sym, arith, Tag, tags_in, places_of}
 use Rattle.ob_store.proofs.HeaderLaws.{places_added, added_handle, vacant_same}
 use Rattle.ob_store.proofs.OwnerLaws.{owned_few, vacant_header}
 use Rattle.ob_store.proofs.TimerLaws.{timed_vacant, timed_within}

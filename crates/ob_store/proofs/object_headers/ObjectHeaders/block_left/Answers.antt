@@ -1,7 +1,4 @@
-use Rattle.std.proofs.Common.{refl, ◌∙◌, ap, sym, get_or, None}
-use Rattle.ob_store.specs.declared.object_header.ObjectHeader.{ObjectHeader}
-use Rattle.ob_store.specs.Objects.{tags_in}
-use Rattle.ob_tables.proofs.Inheriting.{none_of}
+use Rattle.ob_store.proofs.Cited.{refl, ◌∙◌, ap, sym, get_or, None, ObjectHeader, tags_in, none_of}
 use Rattle.ob_store.proofs.HeaderLaws.{seen_block_left, seen_absent, rest_same}
 use Rattle.ob_store.proofs.ClosingLaws.{gone_was_there}
 use Rattle.ob_store.proofs.NotedLaws.{noted_left}

@@ -1,8 +1,5 @@
-use Rattle.std.proofs.Common.{◌∙◌, ap, refl, get_or, sym, None}
-use Rattle.ob_store.specs.Objects.{tags_in}
-use Rattle.ob_store.specs.SavedWaits.{with_blocks_at}
+use Rattle.ob_store.proofs.Cited.{◌∙◌, ap, refl, get_or, sym, None, tags_in, with_blocks_at, none_of}
 use Rattle.ob_store.proofs.SavedWaitLaws.{blocks_with_header, blocks_vacant}
-use Rattle.ob_tables.proofs.Inheriting.{none_of}
 use Rattle.ob_store.proofs.HeaderLaws.{places_blocks}
 use Rattle.ob_store.proofs.NotedLaws.{noted_counts}
 use Rattle.ob_store.proofs.object_headers.ObjectHeaders.count_blocks.Goals as goal

@@ -1,6 +1,4 @@
-use Rattle.std.proofs.Common.{◌∙◌, ap, sym}
-use Rattle.ob_store.specs.declared.object_header.ObjectHeader.{ObjectHeader}
-use Rattle.ob_store.specs.Objects.{tags_in}
+use Rattle.ob_store.proofs.Cited.{◌∙◌, ap, sym, ObjectHeader, tags_in}
 use Rattle.ob_store.proofs.HeaderLaws.{places_handle_left}
 use Rattle.ob_store.proofs.ClosingLaws.{gone_was_there}
 use Rattle.ob_store.proofs.NotedLaws.{noted_left}

@@ -1,5 +1,4 @@
-use Rattle.std.proofs.Common.{◌∙◌}
-use Rattle.ob_store.specs.Objects.{tags_in, places_of, vacancy}
+use Rattle.ob_store.proofs.Cited.{◌∙◌, tags_in, places_of, vacancy}
 use Rattle.ob_store.proofs.HeaderLaws.{least_same, least_is}
 use Rattle.ob_store.proofs.object_headers.ObjectHeaders.least_vacant.Goals as goal
 

@@ -1,5 +1,4 @@
-use Rattle.std.proofs.Common.{◌∙◌, ap, length, sym}
-use Rattle.ob_store.specs.Objects.{tags_in, Places}
+use Rattle.ob_store.proofs.Cited.{◌∙◌, ap, length, sym, tags_in, Places}
 use Rattle.ob_store.proofs.LabelLaws.{objects_length}
 use Rattle.ob_store.proofs.object_headers.ObjectHeaders.len.Goals as goal
 

@@ -1,7 +1,5 @@
-use Rattle.std.proofs.Common.{◌∙◌, sym, get_or, None, arith, refl}
-use Rattle.ob_store.specs.Objects.{tag_of, tags_in}
+use Rattle.ob_store.proofs.Cited.{◌∙◌, sym, get_or, None, arith, refl, tag_of, tags_in, none_of}
 use Rattle.ob_store.proofs.LabelLaws.{object_here, object_read, tag_read, tags_length}
-use Rattle.ob_tables.proofs.Inheriting.{none_of}
 use Rattle.ob_store.proofs.object_headers.ObjectHeaders.look.Goals as goal
 
 pub returns-then-not-is_occupied-clause-object : goal.returns-then-not-is_occupied-clause-object

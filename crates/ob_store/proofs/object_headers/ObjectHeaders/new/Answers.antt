@@ -1,9 +1,4 @@
-use Rattle.std.proofs.Common.{arith, rules, ◌∙◌, sym, Option, None}
-use Rattle.std.proofs.lemmas.List.{length-replicate}
-use Rattle.ob_arena.proofs.Phasing.{map-replicate}
-use Rattle.ob_store.specs.Closing.{is_open}
-use Rattle.ob_store.specs.Timers.{header_due}
-use Rattle.ob_store.specs.declared.object_header.ObjectHeader.{ObjectHeader}
+use Rattle.ob_store.proofs.Cited.{arith, rules, ◌∙◌, sym, Option, None, length-replicate, map-replicate, is_open, header_due, ObjectHeader}
 use Rattle.ob_store.proofs.ByPlace.{replicate_at}
 use Rattle.ob_store.proofs.HeaderLaws.{places_vacant}
 use Rattle.ob_store.proofs.OwnerLaws.{owned_none}

@@ -1,6 +1,6 @@
-use Rattle.std.proofs.Common.{ℕ, get_or, None, is_some}
+use Rattle.ob_store.proofs.Cited.{ℕ, get_or, None, tags_in}
+use Rattle.std.proofs.Common.{is_some}
 use Rattle.least.proofs.NextLemmas.{same_test}
-use Rattle.ob_store.specs.Objects.{tags_in}
 use Rattle.ob_store.proofs.WalkingLaws.{object_there}
 use Rattle.ob_store.proofs.object_headers.ObjectHeaders.next_object.Goals as goal
 

@@ -1,7 +1,4 @@
-use Rattle.std.proofs.Common.{◌≡◌, None, false, get_or, subst}
-use Rattle.ob_body.specs.Mutex.{is_owner}
-use Rattle.ob_waits.specs.Form.{slot_owner}
-use Rattle.ob_store.specs.Objects.{Places}
+use Rattle.ob_store.proofs.Cited.{◌≡◌, None, false, get_or, subst, is_owner, slot_owner, Places}
 use Rattle.ob_store.proofs.OwnerLaws.{none_owned}
 use Rattle.ob_store.proofs.object_headers.ObjectHeaders.owns_none.Goals as goal
 

@@ -1,8 +1,5 @@
-use Rattle.std.proofs.Common.{refl, is_some, ◌∙◌, ap, sym, Some}
-use Rattle.ob_waits.specs.Form.{slot_due, slot_owner}
-use Rattle.ob_store.specs.declared.object_header.ObjectHeader.{ObjectHeader}
-use Rattle.ob_store.specs.Objects.{tags_in}
-use Rattle.ob_store.specs.Timers.{header_due}
+use Rattle.ob_store.proofs.Cited.{refl, ◌∙◌, ap, sym, Some, slot_due, slot_owner, ObjectHeader, tags_in, header_due}
+use Rattle.std.proofs.Common.{is_some}
 use Rattle.ob_store.proofs.HeaderLaws.{seen_put, rest_same, mapped_set}
 use Rattle.ob_store.proofs.OwnerLaws.{owned_few}
 use Rattle.ob_store.proofs.ClosingLaws.{bodied}

@@ -1,6 +1,4 @@
-use Rattle.std.proofs.Common.{true, ◌∙◌, refl, None}
-use Rattle.ob_store.specs.Objects.{tags_in}
-use Rattle.ob_store.specs.Closing.{is_open}
+use Rattle.ob_store.proofs.Cited.{true, ◌∙◌, refl, None, tags_in, is_open}
 use Rattle.ob_store.proofs.HeaderLaws.{header_of, places_removed, vacant_same, mapped_set}
 use Rattle.ob_store.proofs.OwnerLaws.{object_within, owned_removed}
 use Rattle.ob_store.proofs.TimerLaws.{timed_removed}

@@ -1,6 +1,4 @@
-use Rattle.std.proofs.Common.{◌∙◌, ap, sym}
-use Rattle.ob_arena.specs.Slots.{is_vacant_at}
-use Rattle.ob_store.specs.Objects.{tags_in, Places, vacancy}
+use Rattle.ob_store.proofs.Cited.{◌∙◌, ap, sym, is_vacant_at, tags_in, Places, vacancy}
 use Rattle.ob_store.proofs.HeaderLaws.{vacant_same}
 use Rattle.ob_store.proofs.object_headers.ObjectHeaders.retire.Goals as goal
 

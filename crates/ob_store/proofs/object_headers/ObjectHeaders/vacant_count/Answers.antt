@@ -1,5 +1,4 @@
-use Rattle.std.proofs.Common.{◌∙◌}
-use Rattle.ob_store.specs.Objects.{tags_in}
+use Rattle.ob_store.proofs.Cited.{◌∙◌, tags_in}
 use Rattle.ob_store.proofs.HeaderLaws.{count_same}
 use Rattle.ob_store.proofs.object_headers.ObjectHeaders.vacant_count.Goals as goal
 

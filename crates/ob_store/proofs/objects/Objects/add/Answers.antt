@@ -1,8 +1,6 @@
-use Rattle.std.proofs.Common.{◌≡◌, ◌∙◌, ◌+◌, ap, sym, arith, get_or}
-use Rattle.pin_core.specs.declared.id.Id.{Id}
+use Rattle.ob_store.proofs.Cited.{◌≡◌, ◌∙◌, ◌+◌, ap, sym, arith, get_or, Id, id_of, ObjectsState, Places, ObjectAttributes, with_keeper, object_in}
 use Rattle.pin_words.specs.Keepers.{published, stored}
-use Rattle.pin_words.specs.Views.{id_of}
-use Rattle.ob_store.specs.Objects.{ObjectsState, Places, ObjectAttributes, with_keeper, with_header, object_in}
+use Rattle.ob_store.specs.Objects.{with_header}
 use Rattle.ob_store.proofs.TiedLaws.{tied_added, births_few}
 use Rattle.ob_store.proofs.objects.Objects.add.Goals as goal
 

@@ -1,7 +1,4 @@
-use Rattle.std.proofs.Common.{◌∙◌, ◌<◌, sym, subst, get_or, arith}
-use Rattle.pin_words.specs.Keepers.{KeeperState}
-use Rattle.ob_store.specs.Objects.{ObjectsState, Places, with_keeper}
-use Rattle.ob_store.specs.Agreement.{ObjectsInvariant}
+use Rattle.ob_store.proofs.Cited.{◌∙◌, ◌<◌, sym, subst, get_or, arith, KeeperState, ObjectsState, Places, with_keeper, ObjectsInvariant}
 use Rattle.ob_store.proofs.TiedLaws.{tied_handle_left}
 use Rattle.ob_store.proofs.objects.Objects.last_handle_left.Goals as goal
 

@@ -1,6 +1,5 @@
-use Rattle.std.proofs.Common.{◌≡◌, ◌<◌, ◌≤◌, ◌∙◌, arith}
-use Rattle.pin_core.specs.Worlds.{slot_of}
-use Rattle.ob_store.specs.Agreement.{made_by, made_in}
+use Rattle.ob_store.proofs.Cited.{◌≡◌, ◌<◌, ◌≤◌, ◌∙◌, arith, slot_of, made_in}
+use Rattle.ob_store.specs.Agreement.{made_by}
 use Rattle.ob_store.proofs.FittingLaws.{all_fresh, ended_more, made_all, made_left, made_more, used_first}
 use Rattle.ob_store.proofs.objects.Objects.used.Given as given
 use Rattle.ob_store.proofs.objects.Objects.used.Goals as goal

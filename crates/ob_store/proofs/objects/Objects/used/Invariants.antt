@@ -1,9 +1,4 @@
-use Rattle.std.proofs.Common.{◌≡◌, ◌+◌, true, map, take}
-use Rattle.std.specs.Prelude.{sum_by}
-use Rattle.std.specs.List.{range_with_len}
-use Rattle.ob_store.specs.Agreement.{made_in}
-use Rattle.ob_store.specs.SavedObjects.{slot_saved}
-use Rattle.ob_store.specs.SavedSlots.{ends_used}
+use Rattle.ob_store.proofs.Cited.{◌≡◌, ◌+◌, true, map, take, sum_by, range_with_len, made_in, slot_saved, ends_used}
 use Rattle.ob_store.proofs.objects.Objects.used.Given as goal
 
 abbrev pub invariant-loop-slot : goal.invariant-loop-slot

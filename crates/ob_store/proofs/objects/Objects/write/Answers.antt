@@ -1,10 +1,4 @@
-use Rattle.std.proofs.Common.{arith, inl, inr, map}
-use Rattle.std.specs.List.{range_with_len}
-use Rattle.std.proofs.lemmas.Bool.{cases_lt}
-use Rattle.std.proofs.lemmas.List.FromFn.{length-map-range_with_len}
-use Rattle.std.proofs.lemmas.Result.{on_ok_weaker}
-use Rattle.ob_store.specs.SavedObjects.{slot_saved, slots_saved}
-use Rattle.ob_store.specs.SavedSlots.{slot_text, used}
+use Rattle.ob_store.proofs.Cited.{arith, inl, inr, map, range_with_len, cases_lt, length-map-range_with_len, on_ok_weaker, slot_saved, slots_saved, slot_text, used}
 use Rattle.ob_store.proofs.FittingLaws.{all_fit, fresh_fits}
 use Rattle.ob_codec.proofs.SavingLaws.{list_behind}
 use Rattle.ob_store.proofs.objects.Objects.write.Goals as goal

@@ -1,10 +1,6 @@
-use Rattle.std.proofs.Common.{◌≡◌, map, arith, inl, inr}
-use Rattle.std.specs.List.{range_with_len}
-use Rattle.std.proofs.lemmas.Bool.{cases_lt}
+use Rattle.ob_store.proofs.Cited.{◌≡◌, map, arith, inl, inr, range_with_len, cases_lt, slot_saved, slot_text}
 use Rattle.std.proofs.lemmas.List.{flat_map_more}
 use Rattle.std.proofs.lemmas.List.FromFn.{map-range_with_len_more}
-use Rattle.ob_store.specs.SavedObjects.{slot_saved}
-use Rattle.ob_store.specs.SavedSlots.{slot_text}
 use Rattle.ob_store.proofs.objects.Objects.write_rows.Goals as goal
 
 pub loop-slot-preserved : goal.loop-slot-preserved

@@ -1,7 +1,5 @@
-use Rattle.std.proofs.Common.{◌≡◌, ℕ, ◌++◌, ◌<◌, map}
-use Rattle.std.specs.List.{flat_map, range_with_len}
-use Rattle.ob_store.specs.SavedObjects.{slot_saved}
-use Rattle.ob_store.specs.SavedSlots.{AnySlotFits, slot_text}
+use Rattle.ob_store.proofs.Cited.{◌≡◌, ℕ, ◌++◌, ◌<◌, map, flat_map, range_with_len, slot_saved, slot_text}
+use Rattle.ob_store.specs.SavedSlots.{AnySlotFits}
 use Rattle.ob_store.proofs.objects.Objects.write_rows.Given as goal
 
 abbrev pub invariant-loop-slot : goal.invariant-loop-slot

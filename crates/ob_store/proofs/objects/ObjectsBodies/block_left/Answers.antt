@@ -1,7 +1,4 @@
-use Rattle.std.proofs.Common.{◌≡◌, ◌∙◌, ap, sym, true}
-use Rattle.std.proofs.lemmas.Bool.{and_parts}
-use Rattle.std.specs.Prelude.{is_some}
-use Rattle.ob_store.specs.Objects.{ObjectsState, with_keeper, kept_rest, opened}
+use Rattle.ob_store.proofs.Cited.{◌≡◌, ◌∙◌, ap, sym, true, and_parts, is_some, ObjectsState, with_keeper, kept_rest, opened}
 use Rattle.ob_store.proofs.AgreeLaws.{body_at, opened_closed, live_at, body_within}
 use Rattle.ob_store.proofs.TiedLaws.{tied_block_ended, tied_block_left}
 use Rattle.ob_store.proofs.objects.ObjectsBodies.block_left.Goals as goal

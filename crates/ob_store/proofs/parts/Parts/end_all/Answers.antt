@@ -1,10 +1,4 @@
-use Rattle.std.proofs.Common.{◌∙◌, ◌<◌, None, refl, ap, arith, length, inl, inr}
-use Rattle.std.proofs.lemmas.Bool.{cases_eq, cases_lt}
-use Rattle.std.proofs.lemmas.List.{length-set}
-use Rattle.ob_codec.proofs.AtPlace.{at_place}
-use Rattle.std.proofs.lemmas.Bool.Decides.{nat_tests}
-use Rattle.ob_store.specs.Parts.{parts_of}
-use Rattle.ob_tables.specs.Processes.{ProcessesState}
+use Rattle.ob_store.proofs.Cited.{◌∙◌, ◌<◌, None, refl, ap, arith, length, inl, inr, cases_eq, cases_lt, length-set, at_place, nat_tests, parts_of, ProcessesState}
 use Rattle.ob_tables.proofs.MemberLaws.{own_within}
 use Rattle.ob_store.proofs.PassedLaws.{ending_ended, ending_passed, its_own}
 use Rattle.ob_store.proofs.parts.Parts.end_all.Goals as goal

@@ -1,9 +1,4 @@
-use Rattle.std.proofs.Common.{◌≡◌, ℕ, ◌-◌, ◌<◌, ◌≤◌, Some, None, length, get_or}
-use Rattle.pin_words.specs.Keepers.{KeeperState}
-use Rattle.ob_store.specs.Ends.{threads_ended}
-use Rattle.ob_store.specs.Parts.{parts_of}
-use Rattle.ob_store.specs.State.{State}
-use Rattle.ob_store.specs.UnderWay.{IsEnding}
+use Rattle.ob_store.proofs.Cited.{◌≡◌, ℕ, ◌-◌, ◌<◌, ◌≤◌, Some, None, length, get_or, KeeperState, threads_ended, parts_of, State, IsEnding}
 use Rattle.ob_store.proofs.parts.Parts.end_all.Given as goal
 
 abbrev pub invariant-loop-thread : goal.invariant-loop-thread

@@ -1,6 +1,4 @@
-use Rattle.std.proofs.Common.{◌∙◌, ap}
-use Rattle.ob_store.specs.Parts.{parts_of}
-use Rattle.ob_store.specs.State.{State}
+use Rattle.ob_store.proofs.Cited.{◌∙◌, ap, parts_of, State}
 use Rattle.ob_store.proofs.EmptiedLaws.{ending_emptied, taken_out}
 use Rattle.ob_store.proofs.parts.Parts.end_process.Goals as goal
 

@@ -1,6 +1,4 @@
-use Rattle.std.proofs.Common.{rules, ◌≡◌, ◌+◌, get_or, Some, None}
-use Rattle.ob_store.specs.Parts.{parts_of}
-use Rattle.ob_store.specs.UnderWay.{tables_left, with_left}
+use Rattle.ob_store.proofs.Cited.{rules, ◌≡◌, ◌+◌, get_or, Some, None, parts_of, tables_left, with_left}
 use Rattle.ob_store.proofs.EmptiedLaws.{left_held, left_none, left_has_object, next_ending, next_sound, same_ending}
 use Rattle.ob_store.proofs.parts.Parts.leave_at.Goals as goal
 

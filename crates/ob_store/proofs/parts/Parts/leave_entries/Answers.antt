@@ -1,7 +1,4 @@
-use Rattle.std.proofs.Common.{◌≡◌, ◌∙◌, ◌+◌, List, Option, ap, subst}
-use Rattle.ob_tables.specs.declared.entry.Entry.{Entry}
-use Rattle.ob_store.specs.Parts.{parts_of}
-use Rattle.ob_store.specs.UnderWay.{IsEnding, tables_left, with_left}
+use Rattle.ob_store.proofs.Cited.{◌≡◌, ◌∙◌, ◌+◌, List, Option, ap, subst, Entry, parts_of, IsEnding, tables_left, with_left}
 use Rattle.ob_store.proofs.parts.Parts.leave_entries.Goals as goal
 
 pub loop-place-preserved : goal.loop-place-preserved

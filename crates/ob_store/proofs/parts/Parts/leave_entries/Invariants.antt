@@ -1,9 +1,4 @@
-use Rattle.std.proofs.Common.{◌≡◌}
-use Rattle.pin_words.specs.Keepers.{KeeperState}
-use Rattle.ob_store.specs.Kept.{IsSound}
-use Rattle.ob_store.specs.Parts.{parts_of}
-use Rattle.ob_store.specs.State.{State}
-use Rattle.ob_store.specs.UnderWay.{IsEnding, tables_left, with_left}
+use Rattle.ob_store.proofs.Cited.{◌≡◌, KeeperState, IsSound, parts_of, State, IsEnding, tables_left, with_left}
 use Rattle.ob_store.proofs.parts.Parts.leave_entries.Given as goal
 
 abbrev pub invariant-loop-place : goal.invariant-loop-place

@@ -1,5 +1,4 @@
-use Rattle.std.proofs.Common.{◌∙◌}
-use Rattle.ob_store.specs.Parts.{parts_of}
+use Rattle.ob_store.proofs.Cited.{◌∙◌, parts_of}
 use Rattle.ob_store.proofs.ChildLaws.{child_read, child_within, kept_child, settled_child, inherited_live, inherited_few}
 use Rattle.ob_store.proofs.KeptLaws.{whole_kept}
 use Rattle.ob_store.proofs.store.Store.add_child.Goals as goal

@@ -1,9 +1,5 @@
-use Rattle.std.proofs.Common.{◌≡◌, ◌∙◌, ap, sym, refl, Some, None}
-use Rattle.ob_name.specs.Listing.{find_name}
+use Rattle.ob_store.proofs.Cited.{◌≡◌, ◌∙◌, ap, sym, refl, Some, None, find_name, ObjectAttributes, PartsState, parts_of, state_of, settled}
 use Rattle.ob_name.specs.Refs.{name_at}
-use Rattle.ob_store.specs.Objects.{ObjectAttributes}
-use Rattle.ob_store.specs.Parts.{PartsState, parts_of, state_of}
-use Rattle.ob_store.specs.State.{settled}
 use Rattle.ob_store.proofs.AddedLaws.{kept_name, added_state, with_added}
 use Rattle.ob_store.proofs.KeptLaws.{settled_kept}
 use Rattle.ob_store.proofs.store.Store.add_named.Goals as goal

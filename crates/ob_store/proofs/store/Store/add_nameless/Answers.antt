@@ -1,7 +1,4 @@
-use Rattle.std.proofs.Common.{◌≡◌, ◌∙◌, sym, refl, ap, None}
-use Rattle.ob_store.specs.Objects.{ObjectAttributes}
-use Rattle.ob_store.specs.Parts.{parts_of, state_of}
-use Rattle.ob_store.specs.State.{settled}
+use Rattle.ob_store.proofs.Cited.{◌≡◌, ◌∙◌, sym, refl, ap, None, ObjectAttributes, parts_of, state_of, settled}
 use Rattle.ob_store.proofs.AddedLaws.{kept_nameless, added_state, with_added}
 use Rattle.ob_store.proofs.KeptLaws.{settled_kept}
 use Rattle.ob_store.proofs.store.Store.add_nameless.Goals as goal

@@ -1,5 +1,4 @@
-use Rattle.std.proofs.Common.{◌∙◌, refl}
-use Rattle.ob_store.specs.Parts.{parts_of}
+use Rattle.ob_store.proofs.Cited.{◌∙◌, refl, parts_of}
 use Rattle.ob_store.proofs.KeptLaws.{kept_process, whole_kept}
 use Rattle.ob_store.proofs.store.Store.add_process.Goals as goal
 

@@ -1,5 +1,4 @@
-use Rattle.std.proofs.Common.{◌∙◌}
-use Rattle.ob_store.specs.Parts.{parts_of}
+use Rattle.ob_store.proofs.Cited.{◌∙◌, parts_of}
 use Rattle.ob_store.proofs.KeptLaws.{handled}
 use Rattle.ob_store.proofs.OpenedLaws.{kept_opened, limit_told, opened_whole, with_opened}
 use Rattle.ob_store.proofs.WaitedLaws.{few_blocks, kept_waiting, whole_waiting}

@@ -1,7 +1,4 @@
-use Rattle.std.proofs.Common.{◌∙◌, ◌<◌, sym, subst, length, Some}
-use Rattle.ob_store.specs.Kept.{IsPopulated}
-use Rattle.ob_store.specs.Parts.{parts_of, state_of}
-use Rattle.ob_store.specs.State.{State}
+use Rattle.ob_store.proofs.Cited.{◌∙◌, ◌<◌, sym, subst, length, Some, IsPopulated, parts_of, state_of, State}
 use Rattle.ob_store.proofs.PlacedLaws.{thread_tabled}
 use Rattle.ob_store.proofs.PopulatedLaws.{populated_thread_ended}
 use Rattle.ob_store.proofs.UnderWayLaws.{ending_begins}

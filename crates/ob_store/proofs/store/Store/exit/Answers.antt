@@ -1,7 +1,4 @@
-use Rattle.std.proofs.Common.{◌∙◌, ap, arith, length, subst, sym}
-use Rattle.ob_store.specs.Kept.{IsPopulated}
-use Rattle.ob_store.specs.Parts.{parts_of, state_of}
-use Rattle.ob_store.specs.State.{State}
+use Rattle.ob_store.proofs.Cited.{◌∙◌, ap, arith, length, subst, sym, IsPopulated, parts_of, state_of, State}
 use Rattle.ob_store.proofs.PassedLaws.{threads_tables}
 use Rattle.ob_store.proofs.PlacedLaws.{live_within}
 use Rattle.ob_store.proofs.PopulatedLaws.{populated_exited}

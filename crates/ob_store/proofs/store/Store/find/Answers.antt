@@ -1,9 +1,5 @@
-use Rattle.std.proofs.Common.{◌≡◌, ◌<◌, Option, Some, None, sym}
-use Rattle.std.specs.Prelude.{IfSome}
-use Rattle.pin_core.specs.declared.id.Id.{Id}
+use Rattle.ob_store.proofs.Cited.{◌≡◌, ◌<◌, Option, Some, None, sym, IfSome, Id, find_name, parts_of, state_of}
 use Rattle.ob_name.specs.Refs.{name_at}
-use Rattle.ob_name.specs.Listing.{find_name}
-use Rattle.ob_store.specs.Parts.{parts_of, state_of}
 use Rattle.ob_store.specs.State.{handles_of}
 use Rattle.ob_store.proofs.ListingLaws.{listing_found, placed_agreed}
 use Rattle.ob_store.proofs.store.Store.find.Goals as goal

@@ -1,5 +1,4 @@
-use Rattle.std.proofs.Common.{◌∙◌}
-use Rattle.ob_store.specs.Parts.{parts_of}
+use Rattle.ob_store.proofs.Cited.{◌∙◌, parts_of}
 use Rattle.ob_store.proofs.EnoughLaws.{enough_settled}
 use Rattle.ob_store.proofs.TimeoutLaws.{undue_settled}
 use Rattle.ob_store.proofs.TickLaws.{way_fired}

@@ -1,6 +1,4 @@
-use Rattle.std.proofs.Common.{subst}
-use Rattle.ob_store.specs.Consistent.{IsConsistent}
-use Rattle.ob_store.specs.Parts.{parts_of}
+use Rattle.ob_store.proofs.Cited.{subst, IsConsistent, parts_of}
 use Rattle.ob_store.proofs.ConsistentLaws.{consistent}
 use Rattle.ob_store.proofs.store.Store.kept.Goals as goal
 

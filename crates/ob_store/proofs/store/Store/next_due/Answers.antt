@@ -1,7 +1,6 @@
-use Rattle.std.proofs.Common.{◌≡◌, ℕ, ◌∙◌, sym, subst, ap, refl, arith, Bool, true, false, cond, leb, leb-true, ◌≤◌, List, Option, Some, None, map}
-use Rattle.std.specs.Prelude.{IfSome}
+use Rattle.ob_store.proofs.Cited.{◌≡◌, ℕ, ◌∙◌, sym, subst, ap, refl, arith, Bool, true, false, cond, leb, ◌≤◌, List, Option, Some, None, map, IfSome, le-leb}
+use Rattle.std.proofs.Common.{leb-true}
 use Rattle.std.proofs.Math.ListN.{get_or-map}
-use Rattle.std.proofs.lemmas.Bool.{le-leb}
 use Rattle.least.specs.Dues.{IsLeast, NotAfter, due_at}
 use Rattle.least.proofs.BestLemmas.{least_joined}
 use Rattle.ob_store.specs.Dues.{reached}

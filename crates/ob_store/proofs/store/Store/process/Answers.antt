@@ -1,6 +1,4 @@
-use Rattle.std.proofs.Common.{◌<◌, length, subst}
-use Rattle.std.specs.Prelude.{IfSome}
-use Rattle.ob_store.specs.State.{Whole}
+use Rattle.ob_store.proofs.Cited.{◌<◌, length, subst, IfSome, Whole}
 use Rattle.ob_store.proofs.PlacedLaws.{thread_tabled}
 use Rattle.ob_store.proofs.store.Store.process.Goals as goal
 

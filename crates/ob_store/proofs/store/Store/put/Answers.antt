@@ -1,6 +1,4 @@
-use Rattle.std.proofs.Common.{◌∙◌, sym, arith}
-use Rattle.std.proofs.lemmas.Bool.Decides.{nat_tests}
-use Rattle.ob_store.specs.Parts.{parts_of}
+use Rattle.ob_store.proofs.Cited.{◌∙◌, sym, arith, nat_tests, parts_of}
 use Rattle.ob_store.proofs.UnderWayLaws.{ready, settled_unblocked, way_put, way_still}
 use Rattle.ob_store.proofs.store.Store.put.Goals as goal
 

@@ -1,6 +1,4 @@
-use Rattle.std.proofs.Common.{◌∙◌, ap}
-use Rattle.ob_store.specs.Parts.{parts_of}
-use Rattle.ob_store.specs.State.{Whole, settled, with_body}
+use Rattle.ob_store.proofs.Cited.{◌∙◌, ap, parts_of, Whole, settled, with_body}
 use Rattle.ob_store.proofs.UnderWayLaws.{settled_put_less, way_put, way_still}
 use Rattle.ob_store.proofs.store.Store.put_less.Goals as goal
 

@@ -1,6 +1,4 @@
-use Rattle.std.proofs.Common.{◌∙◌, ap, sym}
-use Rattle.ob_store.specs.Parts.{parts_of}
-use Rattle.ob_store.specs.State.{settled}
+use Rattle.ob_store.proofs.Cited.{◌∙◌, ap, sym, parts_of, settled}
 use Rattle.ob_store.proofs.KeptLaws.{settled_kept}
 use Rattle.ob_store.proofs.ReclaimedLaws.{kept_reclaimed, reclaimed_state}
 use Rattle.ob_store.proofs.store.Store.reclaim.Goals as goal

@@ -1,5 +1,4 @@
-use Rattle.ob_waits.proofs.Settled.{settled_less}
-use Rattle.ob_store.specs.Parts.{parts_of}
+use Rattle.ob_store.proofs.Cited.{settled_less, parts_of}
 use Rattle.ob_store.proofs.LeavingLaws.{bodies_left, held, has_object, sound_left, way_left}
 use Rattle.ob_store.proofs.LeftLaws.{less_gone}
 use Rattle.ob_store.proofs.UnderWayLaws.{way_begins, way_still}

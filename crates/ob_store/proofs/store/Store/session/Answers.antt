@@ -1,6 +1,5 @@
-use Rattle.std.proofs.Common.{◌<◌, length, subst}
+use Rattle.ob_store.proofs.Cited.{◌<◌, length, subst, Whole}
 use Rattle.std.specs.Prelude.{OnSome}
-use Rattle.ob_store.specs.State.{Whole}
 use Rattle.ob_store.proofs.PlacedLaws.{process_tabled}
 use Rattle.ob_store.proofs.store.Store.session.Goals as goal
 

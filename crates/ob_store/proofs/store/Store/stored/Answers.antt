@@ -1,6 +1,4 @@
-use Rattle.std.proofs.Common.{subst}
-use Rattle.ob_store.specs.Parts.{parts_of}
-use Rattle.ob_store.specs.State.{Whole}
+use Rattle.ob_store.proofs.Cited.{subst, parts_of, Whole}
 use Rattle.ob_store.specs.Stored.{MatchesState}
 use Rattle.ob_store.proofs.StoredLaws.{matches_state}
 use Rattle.ob_store.proofs.store.Store.stored.Goals as goal

@@ -1,6 +1,4 @@
-use Rattle.std.proofs.Common.{◌∙◌, ap, cond}
-use Rattle.ob_store.specs.Parts.{parts_of}
-use Rattle.ob_store.specs.State.{Whole, settled}
+use Rattle.ob_store.proofs.Cited.{◌∙◌, ap, cond, parts_of, Whole, settled}
 use Rattle.ob_store.specs.Waiting.{without_wait}
 use Rattle.ob_store.proofs.WaitedLaws.{kept_told, whole_told}
 use Rattle.ob_waits.specs.Waits.{is_answer}

@@ -1,8 +1,4 @@
-use Rattle.std.proofs.Common.{◌∙◌, ap, arith, get_or, None}
-use Rattle.std.specs.Prelude.{count_by}
-use Rattle.ob_waits.specs.Deadlines.{is_overdue}
-use Rattle.ob_store.specs.State.{State, settled}
-use Rattle.ob_store.specs.Ticks.{timed_out, slot_is_due}
+use Rattle.ob_store.proofs.Cited.{◌∙◌, ap, arith, get_or, None, count_by, is_overdue, State, settled, timed_out, slot_is_due}
 use Rattle.ob_store.proofs.TimeoutLaws.{fewer_step, time_out_last, time_out_step, undue_step}
 use Rattle.ob_store.proofs.store.Store.time_out.Goals as goal
 

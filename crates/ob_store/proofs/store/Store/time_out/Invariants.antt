@@ -1,10 +1,5 @@
-use Rattle.std.proofs.Common.{◌≡◌, ℕ, None, false, get_or}
-use Rattle.std.specs.Prelude.{count_by}
-use Rattle.ob_waits.specs.Deadlines.{is_overdue}
-use Rattle.ob_store.specs.Consistent.{IsConsistent}
+use Rattle.ob_store.proofs.Cited.{◌≡◌, ℕ, None, false, get_or, count_by, is_overdue, IsConsistent, settled, timed_out, slot_is_due}
 use Rattle.ob_store.specs.Moves.{OnlyCloses}
-use Rattle.ob_store.specs.State.{settled}
-use Rattle.ob_store.specs.Ticks.{timed_out, slot_is_due}
 use Rattle.ob_store.proofs.store.Store.time_out.Given as goal
 
 abbrev pub invariant-loop-wait : goal.invariant-loop-wait

@@ -1,9 +1,4 @@
-use Rattle.std.proofs.Common.{◌∷◌, ◌<◌, [], Some}
-use Rattle.ob_tables.specs.Counts.{handles_among}
-use Rattle.ob_waits.specs.declared.wait.Mode.TheVariants.{Any}
-use Rattle.ob_store.specs.Parts.{parts_of, state_of}
-use Rattle.ob_store.specs.State.{with_body}
-use Rattle.ob_store.specs.Waiting.{with_wait}
+use Rattle.ob_store.proofs.Cited.{◌∷◌, ◌<◌, [], Some, handles_among, Any, parts_of, state_of, with_body, with_wait}
 use Rattle.ob_store.proofs.EnoughLaws.{enough_added, enough_joined}
 use Rattle.ob_store.proofs.KeptLaws.{handled}
 use Rattle.ob_store.proofs.MetLaws.{single, way_met}

@@ -1,11 +1,7 @@
-use Rattle.std.specs.Int.{w64, to_le_bytes}
-use Rattle.std.proofs.lemmas.Result.{on_ok_weaker}
+use Rattle.ob_store.proofs.Cited.{w64, to_le_bytes, on_ok_weaker, parts_of, objects_text, processes_text}
 use Rattle.ob_tables.specs.Spelling.{tables_text}
 use Rattle.ob_waits.specs.Spelling.{waits_text}
-use Rattle.ob_store.specs.Parts.{parts_of}
 use Rattle.ob_tables.specs.SavedLimits.{limits_text}
-use Rattle.ob_store.specs.SavedObjects.{objects_text}
-use Rattle.ob_tables.specs.SavedProcesses.{processes_text}
 use Rattle.ob_store.proofs.SavedStoreLaws.{store_again}
 use Rattle.ob_codec.proofs.SavingLaws.{six_behind}
 use Rattle.ob_store.proofs.store.Store.write.Goals as goal
