@@ -92,11 +92,10 @@ module _ (p : PartsState) (kept : StoreInvariant p) (tied : ObjectsInvariant p.o
           counted = subst (λ (n : ℕ). IsCounted (with_object o slot attributes body).seen n
               (with_entry_of p.tables.tables process entry) p.waits.waits)
               (search (arith, length-set))
-              (counted_added o.seen (length o.objects) p.tables.tables p.waits.waits sound.counted
-              (set o.seen.bodies slot (Some body)) process entry table within no_references.0 no_references.1);
+              (counted_added _ _ _ _ sound.counted _ _ _ table within no_references.0 no_references.1);
           named = search (arith, table, named_added);
           formed = search (arith, formed_added);
-          of_live = of_live_added o.seen.bodies slot body p.processes.threads p.waits.waits owned sound.of_live;
+          of_live = of_live_added _ _ _ _ _ owned sound.of_live;
           room = search (arith, blocks_at, room_unnamed);
           listing = listing;
         };
@@ -109,7 +108,5 @@ module _ (p : PartsState) (kept : StoreInvariant p) (tied : ObjectsInvariant p.o
 
   pub kept_name : (name : ObjectName) → attributes.name ≡ Some name → find_name name p.rows ≡ None
       → StoreInvariant (added (p.rows ++ (name, id_of p.objects.keeper.slots slot) ∷ []))
-  kept_name name named absent = kept_added (p.rows ++ (name, id_of o.keeper.slots slot) ∷ [])
-      (listing_name_added p.rows p.tables.tables o.objects o.births kept.sound.listing
-      (placed_agreed o tied.agreed) process entry
-      (object_in o slot attributes) name tied.born table refl refl named none within absent)
+  kept_name name named absent = kept_added _ (listing_name_added _ _ _ _ kept.sound.listing (placed_agreed o
+      tied.agreed) _ _ _ _ tied.born table refl refl named none within absent)

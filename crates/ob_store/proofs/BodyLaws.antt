@@ -25,10 +25,7 @@ pub of_live_by : (threads : List (Option ℕ)) (bodies after : List (Option Body
     → (slot_owner (get_or bodies k None) ≡ Some t) ⊎ HasWait t ws)
     → ((n : ℕ) → thread_of (get_or ws' n None) ≡ thread_of (get_or ws n None)) → AreOfLive threads bodies ws
     → AreOfLive threads after ws'
-of_live_by threads bodies after ws ws' owners waiters l = record {
-  owners = λ k t h. elim (owners k t h) [ inl old ↦ l.owners k t old | inr waits ↦ l.waiters waits.0 t waits.1 ];
-  waiters = search arith;
-}
+of_live_by threads bodies after ws ws' owners waiters l = search arith
 
 -- more threads are live
 pub of_live_more : (threads threads' : List (Option ℕ)) (bodies : List (Option Body)) (ws : List (Option Wait))
@@ -47,9 +44,8 @@ module _ (first : Scene) (after : CountedBodies) (ws' : List (Option Wait))
 
   pub of_live_settled : (threads : List (Option ℕ)) → AreOfLive threads first.objects.bodies first.waits
       → AreOfLive threads after.bodies ws'
-  of_live_settled threads l = of_live_by threads first.objects.bodies after.bodies first.waits ws'
-      (search (arith, body_is, settled_owner))
-      (λ n. ap (λ (s : Scene). thread_of (get_or s.waits n None)) value ∙ settled_thread first n) l
+  of_live_settled threads l = of_live_by _ _ _ _ ws' (search (arith, body_is, settled_owner)) (λ n. ap (λ (s : Scene).
+      thread_of (get_or s.waits n None)) value ∙ settled_thread _ n) l
 
 -- a body goes, or stays
 module _ (c : Bool) (bodies : List (Option Body)) (i : ℕ) where
@@ -62,28 +58,19 @@ module _ (bodies : List (Option Body)) (k : ℕ) (b : Body) where
   pub formed_added : (clock : ℕ) (objects : List (Option Object)) (o : Object) → k < length objects → k < length bodies
       → form_of b ≡ form_in o.descr → AreFormed clock objects bodies
       → AreFormed clock (set objects k (Some o)) (set bodies k (Some b))
-  formed_added clock objects o within bodied form f = record {
-    each = λ j p c there is. grind (arith, nat_tests, at_place, f.each j p c);
-    later = λ j. grind (arith, nat_tests, at_place, f.later j);
-  }
+  formed_added clock objects o within bodied form f = grind (arith, nat_tests, at_place)
 
   pub of_live_added : (threads : List (Option ℕ)) (ws : List (Option Wait))
       → ((t : ℕ) → owner_of b ≡ Some t → IsLive threads t) → AreOfLive threads bodies ws
       → AreOfLive threads (set bodies k (Some b)) ws
-  of_live_added threads ws live l = record {
-    owners = λ j t h. grind (arith, nat_tests, at_place, l.owners j t, live t);
-    waiters = l.waiters;
-  }
+  of_live_added threads ws live l = grind (arith, nat_tests, at_place)
 
 -- a call's change of a body
 module _ (bodies : List (Option Body)) (k : ℕ) (old new : Body) (clock : ℕ) (there : get_or bodies k None ≡ Some old)
     (yields : Yields clock old new) where
   pub formed_put : (objects : List (Option Object)) → AreFormed clock objects bodies
       → AreFormed clock objects (set bodies k (Some new))
-  formed_put objects f = record {
-    each = λ j o b is here. grind (arith, nat_tests, at_place, f.each j o b, f.each j o old);
-    later = λ j. grind (arith, nat_tests, at_place, f.later j);
-  }
+  formed_put objects f = grind (arith, nat_tests, at_place)
 
   pub of_live_put : (threads : List (Option ℕ)) (ws : List (Option Wait)) → AreOfLive threads bodies ws
       → AreOfLive threads (set bodies k (Some new)) ws

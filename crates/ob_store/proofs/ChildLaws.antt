@@ -70,9 +70,7 @@ module _ (p : PartsState) (kept : StoreInvariant p) (parent : ℕ) (w : Whole) (
     -- and that it is there
     pub child_within : (t : HandleTables) (child : ℕ) → child ≡ own
         → t ≡ record p.tables { tables = tables.with_table p.tables.tables own (Some parent) } → child < length t.tables
-    child_within t child last copied =
-        let within : own ≤ length ts = omega (arith, kept.sound.processes_kept.tabled, own_free.within) in
-        rw (last, copied) (within-put ts own child_table within)
+    child_within t child last copied = rw (last, copied) (within-put ts own child_table (omega (arith, kept.sound.processes_kept.tabled, own_free.within)))
 
     -- what a child inherits has a body
     pub inherited_live : ObjectsInvariant p.objects → (places : List (Option Entry)) → places ≡ child_table → (i : ℕ) →
@@ -85,41 +83,23 @@ module _ (p : PartsState) (kept : StoreInvariant p) (parent : ℕ) (w : Whole) (
         by (Some e) is =
             let own : get_or (table_of ts parent) i None ≡ Some e =
             search (arith, at-trimmed, get_or-map, get_or_past, length-map) in
-            handled p e.id kept.sound tied (entry_counted p.objects.objects ts p.waits.waits kept.sound.named parent i e
-            own)
+            handled p _ kept.sound tied (entry_counted _ ts _ kept.sound.named _ i e own)
 
     -- and no slot counts too many handles for that
     pub inherited_few : IsBounded p.tables.process_limit p.tables.handle_limit p.tables.tables → (k : ℕ)
         → get_or p.objects.seen.handles k 0 + 16384 ≤ 4294967295
     inherited_few b k =
-        let few = count_few p.objects.seen.handles (length p.objects.objects)
-        (λ i. slot_handles i ts) k kept.sound.counted.handles in
         let all = slot_handles-few k p.tables.process_limit p.tables.handle_limit ts b in
-        omega (arith, few, all)
+        omega (arith, count_few _ _ (λ i. slot_handles i ts) k kept.sound.counted.handles, all)
 
     handles_after : (with_handles_of p.objects (inherited (table_of p.tables.tables parent))).seen.handles
         ≡ by_slot (length p.objects.objects) (λ k. slot_handles k (tables.with_table p.tables.tables own (Some parent)))
-    handles_after = recounted p.objects.seen.handles (with_handles_of p.objects child_table).seen.handles
-        (length p.objects.objects) (λ k. slot_handles k ts)
-        (λ k. slot_handles k (tables.with_table ts own (Some parent))) kept.sound.counted.handles
-        (handles_long_after child_table p.objects)
-        (λ k lt.
-        let long = handles_long p.objects.seen (length p.objects.objects) ts p.waits.waits kept.sound.counted in
-        let more = handles_counted child_table p.objects k (omega (arith, long, lt)) in
-        let at = handles_at p.objects.seen (length p.objects.objects) ts p.waits.waits kept.sound.counted k lt in
-        let sum = slot_handles-with_table k ts own (Some parent) empty in
-        omega (arith, more, at, sum))
+    handles_after = search (arith, recounted, handles_long_after, handles_long, handles_counted, handles_at, slot_handles-with_table, empty, kept.sound.counted)
 
     named_child : IsNamed p.objects.objects (tables.with_table p.tables.tables own (Some parent)) p.waits.waits
-    named_child = record {
-      entries = λ id h. kept.sound.named.entries id
-          (let sum = handles_among-with_table id ts own (Some parent) empty in
-          let fewer = handles_in-inherited id (table_of ts parent) in
-          let among = handles_in-among id ts parent
-          (rw (← view) at table) in
-          omega (arith, sum, fewer, among, h));
-      blocks = kept.sound.named.blocks;
-    }
+    named_child =
+        let within = rw (← view) at table in
+        search (arith, within, handles_among-with_table, handles_in-inherited, handles_in-among, empty)
 
     abbrev pub with_child : ℕ → ObjectsState → PartsState
     with_child session objects = record (with_member p (Some parent) session) { objects = objects }
@@ -135,30 +115,12 @@ module _ (p : PartsState) (kept : StoreInvariant p) (parent : ℕ) (w : Whole) (
 
     pub kept_child : (session : ℕ)
         → StoreInvariant (with_child session (with_handles_of p.objects (inherited (table_of p.tables.tables parent))))
-    kept_child session = rw (handles_stay child_table p.objects) is
-      where
-        is : StoreInvariant (with_child session counted)
-        is = record {
-          sound = record {
-            limited = kept.sound.limited;
-            processes_kept = member_kept p w view kept processes threads (Some parent) session;
-            counted = record { handles = handles_after; blocks = kept.sound.counted.blocks };
-            named = named_child;
-            formed = kept.sound.formed;
-            of_live = member_live p w view kept processes threads (Some parent) session;
-            room = kept.sound.room;
-            listing = listing_process p.rows ts p.objects.objects p.objects.births kept.sound.listing own (Some parent) empty;
-          };
-          populated = member_populated p w view kept processes threads (Some parent) session;
-          settled = kept.settled;
-        }
+    kept_child session = rw (handles_stay child_table p.objects)
+        (search (arith, member_kept, member_live, member_populated, handles_after, named_child, listing_process, empty, view, processes, threads))
 
     pub settled_child : (session : ℕ) → ◌≡◌ {A = Whole} (record {
       state = settled
           (state_of (with_child session (with_handles_of p.objects (inherited (table_of p.tables.tables parent)))));
       keeper = (with_handles_of p.objects (inherited (table_of p.tables.tables parent))).keeper;
     }) (record (whole_of p) { state = settled (state.with_child (state_of p) parent session) })
-    settled_child session = ap {B = Whole} (λ (o : ObjectsState). record {
-      state = settled (state_of (with_child session o));
-      keeper = o.keeper;
-    }) (handles_stay child_table p.objects)
+    settled_child session = search (arith, handles_stay)

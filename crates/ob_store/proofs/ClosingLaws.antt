@@ -42,10 +42,7 @@ pub vacant_open : (xs : List (Option ObjectHeader)) (opens : List Bool) (k : ℕ
     → k < length xs →
     get_or xs k None ≡ None → slice_get opens k ≡ Some true
 vacant_open xs opens k opened within none =
-    let long : k < length opens = search (arith, length-map)
-    in
-    slice_get-get_or opens k true long ∙ ap (λ (z : List Bool). Some (get_or z k true)) opened
-    ∙ ap Some (read is_open xs k ∙ ap is_open none)
+    search (arith, length-map, slice_get-get_or opens k true (search (arith, length-map)), opened, read is_open xs k, none)
 
 pub opened_back : (xs : List (Option ObjectHeader)) (opens : List Bool) (k : ℕ) (y : ObjectHeader) (ended : Bool)
     → opens ≡ map is_open xs →

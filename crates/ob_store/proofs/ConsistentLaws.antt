@@ -20,11 +20,9 @@ consistent p kept tied waits ahead = record {
   born = tied.born;
   named = kept.sound.named;
   ended = λ id there.
-      let within = there_within p.objects.objects id there in
-      let h = handles_at p.objects.seen (length p.objects.objects) p.tables.tables p.waits.waits kept.sound.counted
-      id.slot within ∙ handles_are p.objects.objects p.tables.tables p.waits.waits kept.sound.named id there in
-      let b = blocks_at p.objects.seen (length p.objects.objects) p.tables.tables p.waits.waits kept.sound.counted
-      id.slot within ∙ blocks_are p.objects.objects p.tables.tables p.waits.waits kept.sound.named id there in
+      let within = there_within _ id there in
+      let h = handles_at _ _ _ _ kept.sound.counted _ within ∙ handles_are _ _ _ kept.sound.named id there in
+      let b = blocks_at _ _ _ _ kept.sound.counted _ within ∙ blocks_are _ _ _ kept.sound.named id there in
       tied.bodied.each id.slot ∙ (λ i. ltb 0 (h i + b i));
   formed = kept.sound.formed;
   distinct = subst AreDistinct kept.sound.listing.same kept.sound.listing.distinct;

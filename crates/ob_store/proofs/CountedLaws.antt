@@ -24,8 +24,8 @@ module _ (seen : CountedBodies) (n : ℕ) (ts : List (List (Option Entry))) (ws 
   -- no slot counts more handles than the tables have places
   pub handles_few : (processes handles k : ℕ) → IsBounded processes handles ts → get_or seen.handles k 0 < 4294967295
   handles_few processes handles k b =
-      let few = count_few seen.handles n (λ i. slot_handles i ts) k counted.handles in
-      let all = slot_handles-few k processes handles ts b in
+      let few = count_few _ n _ k counted.handles in
+      let all = slot_handles-few k _ _ ts b in
       omega arith
 
   -- an entry comes
@@ -58,9 +58,9 @@ module _ (seen : CountedBodies) (n : ℕ) (ts : List (List (Option Entry))) (ws 
         blocks = seen.blocks;
       }) n (without_entry_of ts p value) ws
   counted_removed bodies p value e found = record {
-    handles = recounted_one seen.handles n (λ k. slot_handles k ts)
-        (λ k. slot_handles k (without_entry_of ts p value)) e.id.slot _ counted.handles
-        (λ k other. let x = slot_handles-without_entry k ts p value e found in let y = one_in-other e k other in
+    handles = recounted_one _ n _
+        _ _ _ counted.handles
+        (λ k other. let x = slot_handles-without_entry k ts p _ e found in let y = one_in-other e k other in
         omega arith)
         (search (arith, handles_at, one_less));
     blocks = counted.blocks;
@@ -92,7 +92,7 @@ module _ (seen : CountedBodies) (n : ℕ) (ts : List (List (Option Entry))) (ws 
       let first : Scene = record { objects = record seen { bodies = bodies }; waits = ws } in
       record {
         handles = ap (λ (s : Scene). s.objects.handles) value ∙ (sizes_settled first).handles ∙ counted.handles;
-        blocks = recounted seen.blocks after.blocks n (λ k. slot_blocks k ws) (λ k. slot_blocks k ws') counted.blocks
+        blocks = recounted _ _ n _ _ counted.blocks
             (ap (λ (s : Scene). length s.objects.blocks) value ∙ (sizes_settled first).blocks)
             (λ k lt. omega (
               arith,

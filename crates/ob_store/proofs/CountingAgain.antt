@@ -24,9 +24,7 @@ in-again : (p : Places) (places : List (Option Entry)) → IsWide p →
     ((id : Id) → 0 < handles_in id places → IsThere p.objects id) → (q : Places) × (counting_in p places ≡ Ok q)
 in-again p [] wide few named = (p, refl)
 in-again p (None ∷ places) wide few named =
-    in-again p places wide
-    (search (arith, sum_by-cons))
-    (search (arith, sum_by-cons))
+    search (arith, in-again p places wide (search (arith, sum_by-cons)) (search (arith, sum_by-cons)))
 in-again p (Some e ∷ places) wide few named =
     let own : cond {A = ℕ} (names e.id (Some e)) 1 0 ≡ 1 = ap {B = ℕ} (λ (b : Bool). cond b 1 0) (same_id-same e.id) in
     let there = named e.id

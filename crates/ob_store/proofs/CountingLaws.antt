@@ -49,12 +49,8 @@ table_counts p q [] wide e = search arith
 table_counts p q (place ∷ places) wide e =
     let b = bind_ok (counting p place) (λ (z : Places). counting_in z places) q e in
     let c = place_counts p b.0 place wide b.1 in
-    then_counts p b.0 q (λ k. cond (names_slot k place) 1 0) (λ k. slot_handles_in k places)
-    (λ k. slot_handles_in k (place ∷ places))
-    (λ id. names id place ≡ true) (λ id. 0 < handles_in id places) (λ id. 0 < handles_in id (place ∷ places))
-    c (table_counts b.0 q places (still_wide p b.0 _ _ c wide) b.2)
-    (search (arith, sum_by-cons))
-    (search arith)
+    then_counts _ _ _ _ _ _ _ _ _ c (table_counts b.0 q places (still_wide p b.0 _ _ c wide) b.2)
+    (search (arith, sum_by-cons)) (search arith)
 
 pub tables_count : (p q : Places) (tables : List (List (Option Entry))) → IsWide p → counting_all p tables ≡ Ok q →
     Counts p q (λ k. slot_handles k tables) (λ id. 0 < handles_among id tables)
@@ -62,9 +58,5 @@ tables_count p q [] wide e = search arith
 tables_count p q (table ∷ tables) wide e =
     let b = bind_ok (counting_in p table) (λ (z : Places). counting_all z tables) q e in
     let c = table_counts p b.0 table wide b.1 in
-    then_counts p b.0 q (λ k. slot_handles_in k table) (λ k. slot_handles k tables)
-    (λ k. slot_handles k (table ∷ tables))
-    (λ id. 0 < handles_in id table) (λ id. 0 < handles_among id tables) (λ id. 0 < handles_among id (table ∷ tables))
-    c (tables_count b.0 q tables (still_wide p b.0 _ _ c wide) b.2)
-    (search (arith, sum_by-cons))
-    (search arith)
+    then_counts _ _ _ _ _ _ _ _ _ c (tables_count b.0 q tables (still_wide p b.0 _ _ c wide) b.2)
+    (search (arith, sum_by-cons)) (search arith)

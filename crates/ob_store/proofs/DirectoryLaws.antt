@@ -111,8 +111,7 @@ rows_gone ts ts' id xs (suc n) gone =
   where
     of_birth : (ys : ObjectSlots) → filter_map (row_of ts' n) ys ≡ filter (is_of_other id) (filter_map (row_of ts n) ys)
     of_birth [] = refl
-    of_birth (y ∷ ys) = row_gone ts ts' id n y (filter_map (row_of ts n) ys) (filter_map (row_of ts' n) ys) gone
-        (of_birth ys)
+    of_birth (y ∷ ys) = row_gone ts ts' id n y _ _ gone (of_birth ys)
 
 -- rows of other objects all stay
 pub others_stay : (id : Id) (rows : Rows) → All (λ (row : Row). same_id row.1 id ≡ false) rows
@@ -166,12 +165,7 @@ row_there ts xs k o name zero at less named has = absurd (omega arith)
 row_there ts xs k o name (suc n) at less named has = elim (cases_eq o.birth n) [
   | inl same ↦
       let its_row = own_birth ts n o same has ∙ ap (named_row o.id) named in
-      Contains-append_right (rows_of ts xs n) (filter_map (row_of ts n) xs) (
-        name,
-        o.id,
-      ) (search (arith, picked_there))
-  | inr other ↦ Contains-append_left (rows_of ts xs n) (filter_map (row_of ts n) xs) (
-    name,
-    o.id,
-  ) (row_there ts xs k o name n at (omega arith) named has)
+      Contains-append_right (rows_of ts xs n) _ _ (search (arith, picked_there))
+  | inr other ↦ Contains-append_left _ (filter_map (row_of ts n) xs) _ (row_there ts xs k o name n at (omega arith)
+      named has)
 ]

@@ -17,8 +17,8 @@ use Rattle.ob_store.proofs.LeavingLaws.{bodies_left, held, has_object, sound_lef
 place_is : (place : ℕ) → place_of (4 * (place + 1)) ≡ place
 place_is place = omega (arith, mul-div_cancel_left (place + 1) {n = 4} (omega arith))
 
-at_place : (t : List (Option Entry)) (place : ℕ) → entry_at t (4 * (place + 1)) ≡ get_or t place None
-at_place t place = grind (arith, nat_tests, place_is place)
+entry_of_place : (t : List (Option Entry)) (place : ℕ) → entry_at t (4 * (place + 1)) ≡ get_or t place None
+entry_of_place t place = grind (arith, nat_tests, place_is place)
 
 -- the entry of the next place still stands there
 left_here : (places : List (Option Entry)) (n : ℕ) → get_or (without_first n places) n None ≡ get_or places n None
@@ -54,7 +54,7 @@ module _ (ts : List (List (Option Entry))) (p : ℕ) (places : List (Option Entr
   -- the entry of the next place is that of its value
   pub left_entry : p < length ts → entry_at (table_of (tables_left ts p places n) p) (4 * (n + 1))
       ≡ get_or places n None
-  left_entry within = rw (at_place (table_of now p) n, left_table within) (left_here places n)
+  left_entry within = rw (entry_of_place (table_of now p) n, left_table within) (left_here places n)
 
   -- there is one, and it leaves
   pub left_some : p < length ts → (e : Entry) → get_or places n None ≡ Some e
@@ -98,19 +98,17 @@ module _ (p : PartsState) (process : ℕ) (places : List (Option Entry)) (n : �
       (last : was_last ≡ eqb (get_or p.objects.seen.handles e.id.slot 0) 1)
       (names : rows ≡ rows_left p.rows was_last (name_in (get_or q.objects e.id.slot None))) where
     pub next_sound : IsSound (with_left (record p { objects = q; rows = rows }) process places (n + 1))
-    next_sound = rw (left_some p.tables.tables process places n within e here)
-        at (sound_left before process value e sound tied found was_last q rows is last names)
+    next_sound = rw (left_some _ _ _ n within e here)
+        at (sound_left _ _ _ e sound tied found _ q _ is last names)
 
     pub next_ending : ObjectsInvariant q → (first : KeeperState) (s : State)
         → IsEnding first (with_left p process places n) s
         → IsEnding first (with_left (record p { objects = q; rows = rows }) process places (n + 1))
         (record s { tables = tables_left p.tables.tables process places (n + 1) })
     next_ending done first s ending = record {
-      under_way = rw (left_some p.tables.tables process places n within e here)
-          at (way_left before process value e sound tied found was_last q rows is last names
-          done first s ending.under_way);
-      enough = enough_left p.signaled p.objects.seen.bodies q.seen.bodies p.waits.waits
-          (rw is (bodies_left before process value e sound tied found)) ending.enough;
+      under_way = rw (left_some _ _ _ n within e here)
+          at (way_left _ _ _ e sound tied found _ q _ is last names done _ s ending.under_way);
+      enough = enough_left _ _ _ _ (rw is (bodies_left _ _ _ e sound tied found)) ending.enough;
     }
 
 -- no entry left
@@ -168,6 +166,5 @@ module _ (first : KeeperState) (p : PartsState) (s : State) (process : ℕ) (pla
         tables = new;
       }) (process_ended s process)
   ending_emptied new is ending =
-      let done = ending_process first (record p { tables = record p.tables { tables = last } })
-      (record s { tables = last }) process (rw is at ending) table none alone in
+      let done = ending_process _ _ _ _ (rw is at ending) table none alone in
       rw (is, ← same, ← gone) done

@@ -86,17 +86,16 @@ module _ (p : PartsState) (q r : ObjectsState) (a : SignaledState) (t : ℕ)
       → IsUnderWay first without (thread_ended s t)
   way_thread tied first s way = record {
     tied = tied;
-    sound = sound_rested p processes_left r (without_thread p.waits t) a rests way.sound refl
+    sound = sound_rested p _ r _ a rests way.sound refl
         (search (arith, length-set, some_set))
         counted
         (search (arith, blocks_dropped))
-        (formed_by p.waits.clock p.objects.objects p.objects.seen.bodies r.seen.bodies form_at way.sound.formed)
+        (formed_by _ _ _ _ form_at way.sound.formed)
         (record {
           owners = λ k u h. let own = owner_at k u h in
-              live_still p.processes.threads t u own.1 (way.sound.of_live.owners k u own.0);
-          waiters = λ n u h. let own = waiter_left t u (get_or p.waits.waits n None)
-              (rw (read (unless_of t) p.waits.waits n) at h) in
-              live_still p.processes.threads t u own.1 (way.sound.of_live.waiters n u own.0);
+              live_still _ t u own.1 (way.sound.of_live.owners k u own.0);
+          waiters = λ n u h. let own = waiter_left t u _ (rw (read (unless_of t) p.waits.waits n) at h) in
+              live_still _ t u own.1 (way.sound.of_live.waiters n u own.0);
         })
         (search (arith, body_is, fewer, room_dropped));
     rest = state_rested p processes_left r (without_thread p.waits t) a rests
@@ -105,7 +104,7 @@ module _ (p : PartsState) (q r : ObjectsState) (a : SignaledState) (t : ℕ)
           bodies = r.seen.bodies;
           waits = map (unless_of t) x.waits;
         }) way.rest;
-    bodies = rw bodies_are (left_mapped t s.bodies q.seen.bodies (search (arith, fewer)));
+    bodies = rw bodies_are (left_mapped t _ _ (search (arith, fewer)));
     keeper = ap (λ (x : KeptRest). x.keeper) rests ∙ way.keeper;
   }
     where
@@ -113,23 +112,20 @@ module _ (p : PartsState) (q r : ObjectsState) (a : SignaledState) (t : ℕ)
       counted = record {
         handles = ap (λ (x : KeptRest). x.rest.handles) rests ∙ way.sound.counted.handles;
         blocks = ap (λ (x : CountedBodies). x.blocks) seen
-            ∙ recounted p.objects.seen.blocks q.seen.blocks (length p.objects.objects)
-            (λ k. slot_blocks k p.waits.waits) (λ k. slot_blocks k dropped) way.sound.counted.blocks
+            ∙ recounted _ _ _
+            _ _ way.sound.counted.blocks
             (ap (λ (x : CountedBodies). length x.blocks) blocks ∙ (sizes_left ids p.objects.seen).blocks)
             (λ k lt. rw blocks (omega (
               arith,
-              blocks_at p.objects.seen (length p.objects.objects) p.tables.tables p.waits.waits way.sound.counted k lt,
+              blocks_at _ _ _ _ way.sound.counted k lt,
               left_all ids p.objects.seen k,
-              slot_dropped k t p.waits.waits alone,
+              slot_dropped k t _ alone,
             )));
       }
 
   pub ending_thread : ObjectsInvariant r → KeepsEnough p.signaled q.seen.bodies a r.seen.bodies
       → (first : KeeperState) (s : State) → IsEnding first p s → IsEnding first without (thread_ended s t)
-  ending_thread tied more first s ending = record {
-    under_way = way_thread tied first s ending.under_way;
-    enough = more dropped (enough_unwaited p.signaled p.objects.seen q.seen p.waits.waits t ids blocks ending.enough);
-  }
+  ending_thread tied more first s ending = search (arith, way_thread, enough_unwaited)
 
 -- no entry of an empty table is counted
 none_counted : (f : Option Entry → ℕ) → f None ≡ 0 → (t : List (Option Entry)) → ((k : ℕ) → get_or t k None ≡ None)
@@ -160,17 +156,4 @@ module _ (first : KeeperState) (p : PartsState) (s : State) (process : ℕ)
     tables = record p.tables { tables = without_entries p.tables.tables process };
   })
       (record s { tables = without_entries p.tables.tables process; processes = set s.processes process None })
-  ending_process = record {
-    under_way = record {
-      tied = way.tied;
-      sound = search (arith, slots_same, ids_same, get_or-set_other, get_or-set_same, length-set);
-      rest = ap (λ (x : State). record x {
-        tables = cleared;
-        processes = set x.processes process None;
-        bodies = p.objects.seen.bodies;
-      }) way.rest;
-      bodies = way.bodies;
-      keeper = way.keeper;
-    };
-    enough = ending.enough;
-  }
+  ending_process = search (arith, slots_same, ids_same, get_or-set_other, get_or-set_same, length-set)

@@ -14,16 +14,12 @@ enough_settled a bodies ws settled = search arith
 -- bodies that went signal nothing
 pub enough_left : (a : SignaledState) (bodies after : List (Option Body)) (ws : List (Option Wait))
     → AreLeft bodies after → IsEnough a bodies ws → IsEnough a after ws
-enough_left a bodies after ws left enough = record {
-  each = λ whole. search arith;
-}
+enough_left a bodies after ws left enough = search arith
 
 -- a thread's wait leaves
 pub enough_dropped : (a : SignaledState) (bodies : List (Option Body)) (ws : List (Option Wait)) (t : ℕ)
     → IsEnough a bodies ws → IsEnough a bodies (map (unless_of t) ws)
-enough_dropped a bodies ws t enough = record {
-  each = λ whole. search (arith, settled_dropped);
-}
+enough_dropped a bodies ws t enough = search (arith, settled_dropped)
 
 -- a slot that isn't listed with one more
 not_listed : (ids : List Id) (id : Id) (k : ℕ) → has_slot (ids ++ id ∷ []) k ≡ false
@@ -38,18 +34,7 @@ pub enough_added : (a b : SignaledState) (p q : CountedBodies) (slot : ℕ) (x :
     → q ≡ record p { bodies = set p.bodies slot x }
     → (b.whole ≡ true → b.ids ≡ a.ids ++ in_slot slot ∷ []) → (b.whole ≡ true → a.whole ≡ true)
     → KeepsEnough a p.bodies b q.bodies
-enough_added a b p q slot x is added before ws enough = record {
-  each = λ whole. let e = enough.each (before whole) in record {
-    before = e.before;
-    settled = e.settled;
-    less = λ t k out signaled.
-        let apart = not_listed a.ids (in_slot slot) k (ap (λ (ids : List Id). has_slot ids k) (sym (added whole)) ∙ out)
-        in
-        let stays : get_or q.bodies k None ≡ get_or p.bodies k None = ap (λ (o : CountedBodies). get_or o.bodies k None) is
-        ∙ get_or-set_other p.bodies slot k x None apart.1 in
-        e.less t k apart.0 (sym (ap (slot_signaled t) stays) ∙ signaled);
-  };
-}
+enough_added a b p q slot x is added before ws enough = search (arith, not_listed, get_or-set_other)
 
 -- a wait came that may be ready, and the slot of its object was noted
 pub enough_joined : (a : SignaledState) (bodies : List (Option Body)) (ws : List (Option Wait)) (t : ℕ) (id : Id)
@@ -60,8 +45,8 @@ enough_joined a bodies ws t id d settled noted =
     record {
       each = λ whole. record {
         before = set bodies id.slot None;
-        settled = settled_added (set bodies id.slot None) ws t Any (id ∷ []) d (grind (arith, nat_tests, gone))
-            (settled_less bodies (set bodies id.slot None) ws (record {
+        settled = settled_added _ ws t Any _ d (grind (arith, nat_tests, gone))
+            (settled_less _ _ ws (record {
               each = λ u x. grind (arith, nat_tests, at_place);
             }) settled);
         less = λ u k out signaled.

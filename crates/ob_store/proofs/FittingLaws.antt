@@ -56,9 +56,7 @@ module _ (s : ObjectsState) (tied : ObjectsInvariant s) where
         rw (map-range_with_len_more (slot_saved s) 0 k k (omega arith), ends_more) (search (arith, here))
 
   pub made_all : (k left : ℕ) → n ≤ k → left + sum_by made_in (take k slots) ≡ sum_by made_in slots → left ≡ 0
-  made_all k left le made =
-      let none : drop k slots ≡ [] = drop_all k slots (omega (arith, tied.agreed.wide)) in
-      omega (arith, made, sum_by-take-drop made_in slots k, ap (sum_by made_in) none)
+  made_all k left le made = search (arith, drop_all, sum_by-take-drop, tied.agreed.wide)
 
   module _ (k : ℕ) (le : k ≤ n) (made : sum_by made_in (take k slots) ≡ sum_by made_in slots) where
     pub all_fresh : (j : ℕ) → k ≤ j → j < n → slot_saved s j ≡ fresh_slot

@@ -104,8 +104,7 @@ module _ (xs : List (Option ObjectHeader)) (k : ℕ) (x : ObjectHeader) (is : ge
 -- a slot with an object has a header
 pub header_of : (s : Slots ObjectHeader) (ls : List Tag) (p : Places) (k : ℕ) → places_of s ls ≡ p
     → IsSome (get_or p.objects k None) → IsSome (get_or s.bodies k None)
-header_of s ls p k view there = header_there s.bodies ls k
-    (rw (← view) at there)
+header_of s ls p k view there = header_there _ ls k (rw (← view) at there)
 
 -- vacancy is that of the arena
 pub vacant_same : (s : Slots ObjectHeader) (ls : List Tag) (k : ℕ)

@@ -1,4 +1,5 @@
 -- What is kept is kept by each change of a store, and the state after it is the settled one.
+use Rattle.std.proofs.lemmas.Bool.Decides.{nat_tests}
 use Rattle.ob_store.proofs.Cited.{at_place, ◌≡◌, ℕ, ◌+◌, ◌<◌, ◌≤◌, List, [], ◌∷◌, length, Option, Some, None, refl, ap, ◌∙◌, sym, subst, arith, get_or, map, true, ltb, set, IsSome, Id, Slot, KeeperState, HandleFlags, Entry, handles_among, entry_at, IsBounded, table_of, with_entry_of, with_flags_of, HasBodies, WaitList, Limits, IsLive, ProcessesKept, ProcessesState, Object, ObjectsState, KeptRest, kept_rest, opened, ObjectsInvariant, PartsState, state_of, whole_of, SignaledState, Whole, objects_of, settled, generation_of, StoreInvariant, IsSound, IsCounted, AreFormed, AreOfLive, IsListing, IsPopulated, IsNamed, IsFree}
 use Rattle.ob_tables.specs.Tables as tables
 use Rattle.ob_tables.proofs.SlotCounts.{slot_handles-le}
@@ -47,8 +48,7 @@ generations_open [] = refl
 generations_open (x ∷ xs) = ap (λ (t : List ℕ). x.generation ∷ t) (generations_open xs)
 
 pub same_generations : (a b : KeeperState) → opened a ≡ opened b → map generation_of a.slots ≡ map generation_of b.slots
-same_generations a b same = sym (generations_open a.slots) ∙ ap (λ (k : KeeperState). map generation_of k.slots) same
-    ∙ generations_open b.slots
+same_generations a b same = search (arith, generations_open)
 
 pub same_shape : (a b : KeeperState) → opened a ≡ opened b → a.shape ≡ b.shape
 same_shape a b same = ap (λ (k : KeeperState). k.shape) same
@@ -75,41 +75,17 @@ module _ (p : PartsState) (l : ProcessesState) (q : ObjectsState) (ws : WaitList
       → IsNamed p.objects.objects p.tables.tables ws.waits
       → AreFormed ws.clock p.objects.objects q.seen.bodies → AreOfLive l.threads q.seen.bodies ws.waits
       → WaitsHaveRoom p.limits.max_recursion q.seen.bodies ws.waits → IsSound rested
-  sound_rested sound limit live counted named formed of_live room = record {
-    limited = record {
-      processes_are = sound.limited.processes_are;
-      handles_are = sound.limited.handles_are;
-      waits_are = limit ∙ sound.limited.waits_are;
-      shape_is = same_shape q.keeper p.objects.keeper (ap (λ (r : KeptRest). r.keeper) rest) ∙ sound.limited.shape_is;
-    };
-    processes_kept = live;
-    counted = search arith;
-    named = search arith;
-    formed = search arith;
-    of_live = of_live;
-    room = room;
-    listing = subst (λ (z : List (Option Object) × ℕ). IsListing p.rows p.tables.tables z.0 z.1)
-        (search arith) sound.listing;
-  }
+  sound_rested sound limit live counted named formed of_live room = search (arith, same_shape)
 
 -- the object of a handle has a body
 pub handled : (p : PartsState) (id : Id) → IsSound p → ObjectsInvariant p.objects → 0 < handles_among id p.tables.tables
     → IsSome (get_or p.objects.seen.bodies id.slot None)
-handled p id sound tied some =
-    let within = there_within p.objects.objects id (sound.named.entries id some) in
-    let at = handles_at p.objects.seen (length p.objects.objects) p.tables.tables p.waits.waits sound.counted id.slot
-    within in
-    let slot = slot_handles-le id p.tables.tables in
-    let yes : ltb 0 (get_or p.objects.seen.handles id.slot 0 + get_or p.objects.seen.blocks id.slot 0) ≡ true =
-    search arith in
-    tied.bodied.each id.slot ∙ yes
+handled p id sound tied some = search (arith, nat_tests, there_within, handles_at, slot_handles-le, sound.named.entries, sound.counted, tied.bodied.each)
 
 pub few_handles : (p : PartsState) (slot : ℕ) → IsSound p
     → IsBounded p.tables.process_limit p.tables.handle_limit p.tables.tables
     → get_or p.objects.seen.handles slot 0 < 4294967295
-few_handles p slot sound b = handles_few p.objects.seen
-    (length p.objects.objects) p.tables.tables p.waits.waits sound.counted p.tables.process_limit p.tables.handle_limit
-    slot b
+few_handles p slot sound b = search (arith, handles_few)
 
 -- an entry comes, of an object that has one
 abbrev pub placed : PartsState → ℕ → Entry → PartsState
@@ -170,31 +146,14 @@ module _ (p : PartsState) (w : Whole) (view : whole_of p ≡ w) (kept : StoreInv
 
     pub member_live : (parent : Option ℕ) (session : ℕ)
         → AreOfLive (with_member p parent session).processes.threads p.objects.seen.bodies p.waits.waits
-    member_live parent session = of_live_more p.processes.threads _ p.objects.seen.bodies p.waits.waits
-        (λ k. live_put p.processes.threads _ next k thread_free) kept.sound.of_live
+    member_live parent session = of_live_more _ _ _ _ (λ k. live_put _ _ _ k thread_free) kept.sound.of_live
 
     pub member_populated : (parent : Option ℕ) (session : ℕ)
         → IsPopulated (with_member p parent session).processes.processes (with_member p parent session).processes.threads
-    member_populated parent session = populated_process p.processes.processes p.processes.threads next _ session
-        process_free thread_free kept.populated
+    member_populated parent session = populated_process _ _ _ _ _ process_free thread_free kept.populated
 
     pub kept_process : (session : ℕ) → StoreInvariant (with_member p None session)
-    kept_process session = record {
-      sound = record {
-        limited = kept.sound.limited;
-        processes_kept = member_kept None session;
-        counted = counted_process p.objects.seen (length p.objects.objects) p.tables.tables p.waits.waits
-            kept.sound.counted next none_in;
-        named = named_process p.objects.objects p.tables.tables p.waits.waits kept.sound.named next none_in;
-        formed = kept.sound.formed;
-        of_live = member_live None session;
-        room = kept.sound.room;
-        listing = listing_process p.rows p.tables.tables p.objects.objects p.objects.births kept.sound.listing next None
-            none_in;
-      };
-      populated = member_populated None session;
-      settled = kept.settled;
-    }
+    kept_process session = search (arith, member_kept, member_live, member_populated, counted_process, named_process, listing_process, none_in, kept.sound, kept.settled)
 
 -- a thread comes
 abbrev pub with_thread : PartsState → ℕ → PartsState
@@ -204,20 +163,4 @@ pub kept_thread : (p : PartsState) (process : ℕ) → StoreInvariant p
     → next_number p.limits.reuse p.processes.threads ≤ p.limits.threads
     → IsLive p.processes.processes process → StoreInvariant (with_thread p process)
 kept_thread p process kept few live =
-    let old = kept.sound.processes_kept in
-    let free = next_is_free p.limits.reuse p.processes.threads old.threads_from_one in
-    record {
-      sound = record {
-        limited = kept.sound.limited;
-        processes_kept = thread_kept p.limits p.processes p.tables.tables _ process free few live old;
-        counted = kept.sound.counted;
-        named = kept.sound.named;
-        formed = kept.sound.formed;
-        of_live = of_live_more p.processes.threads _ p.objects.seen.bodies p.waits.waits
-            (λ k. live_put p.processes.threads _ process k free) kept.sound.of_live;
-        room = kept.sound.room;
-        listing = kept.sound.listing;
-      };
-      populated = populated_thread p.processes.processes p.processes.threads _ process free kept.populated;
-      settled = kept.settled;
-    }
+    search (arith, live_put, next_is_free, of_live_more, populated_thread, thread_kept)

@@ -36,14 +36,13 @@ module _ (p : PartsState) (process value : ℕ) (e : Entry)
 
   pub held : 0 < get_or p.objects.seen.handles e.id.slot 0
   held =
-      let a = handles_at o.seen (length o.objects) p.tables.tables p.waits.waits sound.counted e.id.slot within in
-      let b = one_less o.seen (length o.objects) p.tables.tables p.waits.waits sound.counted process value e found in
+      let a = handles_at _ _ _ _ sound.counted _ within in
+      let b = one_less _ _ _ _ sound.counted _ _ e found in
       omega arith
 
   pub has_object : (q : ObjectsState) → q ≡ without_handle_of p.objects e.id.slot
       → IsSome (get_or q.objects e.id.slot None)
-  has_object q is = ap (λ (x : ObjectsState). is_some (get_or x.objects e.id.slot None)) is
-      ∙ ap is_some (there_some o.objects e.id there).1
+  has_object q is = search (arith, there_some, there)
 
   named_after : IsNamed p.objects.objects (without_entry_of p.tables.tables process value) p.waits.waits
   named_after = named_removed o.objects p.tables.tables p.waits.waits sound.named process value e found
@@ -62,10 +61,9 @@ module _ (p : PartsState) (process value : ℕ) (e : Entry)
   sound_removed rows listing = record {
     limited = search arith;
     processes_kept = search (arith, nothing_left, table_changed, sound.processes_kept.vacated);
-    counted = counted_removed o.seen (length o.objects) p.tables.tables p.waits.waits sound.counted
-        handle_left.seen.bodies process value e found;
+    counted = counted_removed _ _ _ _ sound.counted _ _ _ e found;
     named = named_after;
-    formed = formed_left p.waits.clock o.objects o.seen.bodies handle_left.seen.bodies bodies_left sound.formed;
+    formed = formed_left _ _ _ _ bodies_left sound.formed;
     of_live = search (arith, of_live_gone);
     room = search (arith, bodies_left);
     listing = listing;
@@ -75,9 +73,9 @@ module _ (p : PartsState) (process value : ℕ) (e : Entry)
   handles_were : get_or p.objects.seen.handles e.id.slot 0
       ≡ handles_among e.id (without_entry_of p.tables.tables process value) + 1
   handles_were =
-      let a = handles_at o.seen (length o.objects) p.tables.tables p.waits.waits sound.counted e.id.slot within in
-      let b = one_less o.seen (length o.objects) p.tables.tables p.waits.waits sound.counted process value e found in
-      let c = handles_are o.objects tables_after p.waits.waits named_after e.id there in
+      let a = handles_at _ _ _ _ sound.counted _ within in
+      let b = one_less _ _ _ _ sound.counted _ _ e found in
+      let c = handles_are _ _ _ named_after _ there in
       omega arith
 
   listing_zero : (x : Object) → get_or p.objects.objects e.id.slot None ≡ Some x → x.id ≡ e.id
@@ -94,21 +92,7 @@ module _ (p : PartsState) (process value : ℕ) (e : Entry)
       (last : was_last ≡ eqb (get_or p.objects.seen.handles e.id.slot 0) 1)
       (names : rows ≡ rows_left p.rows was_last (name_in (get_or q.objects e.id.slot None))) where
     listing_left : IsListing rows (without_entry_of p.tables.tables process value) p.objects.objects p.objects.births
-    listing_left = rw names (by was_last (sym last))
-      where
-        its_name : name_in (get_or q.objects e.id.slot None) ≡ (there_some o.objects e.id there).0.name
-        its_name = ap (λ (x : ObjectsState). name_in (get_or x.objects e.id.slot None)) is
-            ∙ ap name_in (there_some o.objects e.id there).1
-
-        by : (b : Bool) → eqb (get_or p.objects.seen.handles e.id.slot 0) 1 ≡ b
-            → IsListing (cond b (rows_without p.rows (name_in (get_or q.objects e.id.slot None))) p.rows)
-            (without_entry_of p.tables.tables process value) p.objects.objects p.objects.births
-        by true one =
-            let x = there_some o.objects e.id there in
-            rw its_name (listing_zero x.0 x.1 x.2
-            (let h : get_or p.objects.seen.handles e.id.slot 0 ≡ 1 = grind arith in
-            let were = handles_were in omega arith) x.0.name refl)
-        by false more = search (arith, handles_were, listing_removed)
+    listing_left = search (arith, there, handles_were, listing_zero, listing_removed, there_some)
 
     abbrev pub removed : PartsState
     removed = record p {

@@ -20,9 +20,7 @@ left_blocks (id ∷ ids) o = search (arith, left_gone, left_blocks ids (without_
 
 -- they signal nothing
 pub less_gone : (bodies after : List (Option Body)) → AreLeft bodies after → IsLess bodies after
-less_gone bodies after left = record {
-  each = λ t id h. search arith;
-}
+less_gone bodies after left = search arith
 
 -- the others are of their forms
 pub formed_left : (clock : ℕ) (objects : List (Option Object)) (bodies after : List (Option Body))
@@ -40,6 +38,5 @@ pub ended_gone : (after : CountedBodies) (bodies : List (Option Body)) → HasBo
     → ended (record after { bodies = bodies }) ≡ after
 ended_gone after bodies has left =
     let is : after.bodies ≡ (ended (record after { bodies = bodies })).bodies =
-    is_ended (record after { bodies = bodies }) after.bodies left.length_is
-    (λ k. gone_ended after bodies k has (left.each k)) in
+    is_ended _ _ left.length_is (λ k. gone_ended _ _ k has (left.each k)) in
     search arith

@@ -1,4 +1,6 @@
 -- The published list has each object.
+use Rattle.ob_codec.proofs.AtPlace.{at_place}
+use Rattle.std.proofs.lemmas.Bool.Decides.{nat_tests}
 use Rattle.ob_store.proofs.Cited.{◌≡◌, ℕ, ◌<◌, List, [], ◌∷◌, ◌++◌, length, get_or, set, ap, arith, Option, Some, None, get_or-set_same, get_or-set_other, get_or_past, length-set, Id, Slot, slot_of, id_of, Object, ObjectsState, ObjectAttributes, object_in}
 use Rattle.pin_core.specs.declared.descr.Descr.{Descr}
 use Rattle.pin_core.specs.Events.{with_descr}
@@ -21,16 +23,4 @@ new_one ps p o is = search (arith, count-snoc)
 pub listed_added : (s : ObjectsState) (k : ℕ) (attributes : ObjectAttributes) → k < length s.keeper.slots
     → IsListed s.keeper.published s.objects
     → IsListed (published (stored s.keeper k attributes.descr) k).published (set s.objects k (Some (object_in s k attributes)))
-listed_added s k attributes inside old =
-    let slots = set s.keeper.slots k (with_descr (slot_of s.keeper.slots k) attributes.descr) in
-    let o : Object = object_in s k attributes in
-    let at : slot_of slots k ≡ with_descr (slot_of s.keeper.slots k) attributes.descr =
-    search (arith, get_or-set_same) in
-    let p : (id_of slots k, (slot_of slots k).descr) ≡ (o.id, o.descr) =
-    λ i. (
-      (ap (λ (x : Slot). let z : Id = record { slot = k; generation = x.generation } in z) at) i,
-      (ap (λ (x : Slot). x.descr) at) i,
-    ) in
-    listed_set (published (stored s.keeper k attributes.descr) k).published s.objects k (Some o)
-    (new_one s.keeper.published _ o p)
-    (record { each = λ j. more s.keeper.published _ (get_or s.objects j None) (old.each j) })
+listed_added s k attributes inside old = grind (arith, nat_tests, at_place, listed_set, more, new_one)

@@ -32,10 +32,7 @@ new_has id ts (Some from) = omega (arith, table_among id ts from, handles_in-inh
 
 still_has_none : (id : Id) (ts : Tables) (p : ℕ) (from : Option ℕ) → table_of ts p ≡ []
     → has_handles id (with_table ts p from) ≡ has_handles id ts
-still_has_none id ts p from none =
-    let sum = handles_among-with_table id ts p from none in
-    let fewer = new_has id ts from in
-    search arith
+still_has_none id ts p from none = search (arith, handles_among-with_table, new_has)
 
 -- tables that differ by an entry: where its object has handles without it, the same objects have handles
 still_has : (more fewer : Tables) (e : Entry) (id : Id) (b : Bool) → same_id id e.id ≡ b
@@ -54,8 +51,7 @@ pub distinct_with : (rows : Rows) (name : ObjectName) (id : Id) → AreDistinct 
     → AreDistinct (rows ++ (name, id) ∷ [])
 distinct_with rows name id distinct absent =
     subst (IsDistinct same_name) (sym (map-append (λ (row : Row). row.0) rows ((name, id) ∷ [])))
-    (IsDistinct-push same_name_equiv (keys_of rows) name distinct (sym (is_some-lookup (same_name name) rows)
-    ∙ ap is_some absent))
+    (IsDistinct-push same_name_equiv _ _ distinct (sym (is_some-lookup (same_name name) rows) ∙ ap is_some absent))
 
 -- where rows have the Id just if they have the name, those without the name are those without the Id
 name_goes : (name : ObjectName) (id : Id) (rows : Rows) → AreDistinct rows
@@ -65,31 +61,20 @@ name_goes name id [] distinct alike = refl
 name_goes name id (row ∷ rows) distinct alike =
     let later : All (λ (r : Row). same_id r.1 id ≡ same_name name r.0) rows =
     All-tail (λ (r : Row). same_id r.1 id ≡ same_name name r.0) row rows alike in
-    first_goes id row rows (without_name name rows) (same_name name row.0) (alike 0 row (omega arith))
-    (λ is. others_stay id rows (λ k d less. later k d less
-    ∙ All-from_recursion (λ (r : Row). same_name name r.0 ≡ false) rows
-    (none_past_head same_name_equiv name row rows distinct is) k d less))
-    (name_goes name id rows (IsDistinct-tail same_name row.0 (keys_of rows) distinct) later)
+    first_goes id row _ _ _ (alike 0 row (omega arith)) (λ is. others_stay id rows (λ k d less. later k d less
+    ∙ All-from_recursion (λ (r : Row). same_name name r.0 ≡ false) rows (none_past_head same_name_equiv name row rows
+    distinct is) k d less)) (name_goes name id rows (IsDistinct-tail same_name row.0 (keys_of rows) distinct) later)
 
 -- and where names are distinct, a row with its name has its Id
 row_alike : (ts : Tables) (objects : ObjectSlots) (rows : Rows) (o : Object) (name : ObjectName) (row : Row)
     → AreDistinct rows → ArePlaced objects → get_or objects o.id.slot None ≡ Some o → o.name ≡ Some name
     → Contains rows (name, o.id) → Contains rows row → IsRow ts objects row → same_id row.1 o.id ≡ same_name name row.0
 row_alike ts objects rows o name row distinct placed at named there also is =
-    both_ways (same_id row.1 o.id) (same_name name row.0) up down
-  where
-    up : same_id row.1 o.id ≡ true → same_name name row.0 ≡ true
-    up one = (same_name-Decides name row.0).1 (search arith)
-
-    down : same_name name row.0 ≡ true → same_id row.1 o.id ≡ true
-    down one =
-        let own : find_name name rows ≡ Some o.id = lookup-from_Contains same_name_equiv name o.id rows distinct there
-        in
-        let other : find_name row.0 rows ≡ Some row.1 =
-        lookup-from_Contains same_name_equiv row.0 row.1 rows distinct also in
-        let same : row.1 ≡ o.id = same_Some row.1 o.id (sym other
-        ∙ ap (λ (n : ObjectName). find_name n rows) (sym ((same_name-Decides name row.0).0 one)) ∙ own) in
-        search arith
+    both_ways (same_id row.1 o.id) (same_name name row.0)
+    (λ one. (same_name-Decides name row.0).1 (search arith))
+    (λ one. (let own : find_name name rows ≡ Some o.id = lookup-from_Contains same_name_equiv name o.id rows distinct there in
+    let other : find_name row.0 rows ≡ Some row.1 = lookup-from_Contains same_name_equiv row.0 row.1 rows distinct also in
+    let same = (same_name-Decides name row.0).0 one in search arith))
 
 -- the rows once the last entry of an object left
 rows_without : (ts : Tables) (objects : ObjectSlots) (births p value : ℕ) (e : Entry)
@@ -112,15 +97,7 @@ pub record IsFound (ts : Tables) (objects : ObjectSlots) (name : ObjectName) (id
 
 found_row : (ts : Tables) (objects : ObjectSlots) (name : ObjectName) (id : Id) → ArePlaced objects
     → IsRow ts objects (name, id) → IsFound ts objects name id
-found_row ts objects name id placed is = record {
-  object = is.object;
-  is_there = ap (λ k. get_or objects k None) (ap (λ (i : Id). i.slot) (sym is.its_id)
-      ∙ placed is.place is.object is.is_there)
-      ∙ is.is_there;
-  its_id = is.its_id;
-  its_name = is.its_name;
-  has = ltb-true 0 (handles_among id ts) is.has;
-}
+found_row ts objects name id placed is = search (arith, ltb-true)
 
 module _ (rows : Rows) (ts : Tables) (objects : ObjectSlots) (births : ℕ)
     (listing : IsListing rows ts objects births) where
@@ -137,15 +114,13 @@ module _ (rows : Rows) (ts : Tables) (objects : ObjectSlots) (births : ℕ)
   -- an entry has other flags
   pub listing_flags : (p value : ℕ) (e : Entry) (flags : HandleFlags) → entry_at (table_of ts p) value ≡ Some e
       → IsListing rows (with_flags_of ts p value flags) objects births
-  listing_flags p value e flags found = listing_alike (with_flags_of ts p value flags)
-      (λ k o at. search (arith, handles_among-with_flags))
+  listing_flags p value e flags found = listing_alike _ (λ k o at. search (arith, handles_among-with_flags))
 
   -- an entry comes for an object that has one
   pub listing_placed : (p : ℕ) (e : Entry) → 0 < handles_among e.id ts
       → IsListing rows (with_entry_of ts p e) objects births
   listing_placed p e some = elim (cases_lt p (length ts)) [
-    | inl table ↦ listing_alike (with_entry_of ts p e)
-        (λ k o at. search (arith, handles_among-with_entry))
+    | inl table ↦ listing_alike _ (λ k o at. search (arith, handles_among-with_entry))
     | inr past ↦ search (arith, set_past)
   ]
 
@@ -153,9 +128,8 @@ module _ (rows : Rows) (ts : Tables) (objects : ObjectSlots) (births : ℕ)
   pub listing_removed : (p value : ℕ) (e : Entry) → entry_at (table_of ts p) value ≡ Some e
       → 0 < handles_among e.id (without_entry_of ts p value)
       → IsListing rows (without_entry_of ts p value) objects births
-  listing_removed p value e found some = listing_alike (without_entry_of ts p value)
-      (λ k o at. still_has ts (without_entry_of ts p value) e o.id (same_id o.id e.id) refl
-      (handles_among-without_entry o.id ts p value e found) some)
+  listing_removed p value e found some = listing_alike _ (λ k o at. still_has ts (without_entry_of ts p value) e o.id
+      (same_id o.id e.id) refl (handles_among-without_entry o.id ts p value e found) some)
 
   -- an object without handles leaves its slot
   pub listing_left : (slot : ℕ) (o : Object) → get_or objects slot None ≡ Some o → handles_among o.id ts ≡ 0
@@ -215,8 +189,7 @@ module _ (rows : Rows) (ts : Tables) (objects : ObjectSlots) (births : ℕ)
         alike k d less =
             let also = Contains-get_or (rows_of ts objects births) k d less in
             let is = rows_are ts objects births k d less in
-            row_alike ts objects (rows_of ts objects births) o name
-            (get_or (rows_of ts objects births) k d) distinct placed (here objects e o at own) named there also is
+            row_alike ts _ _ o _ _ distinct placed (here objects e o at own) named there also is
 
         left : without_name name rows ≡ filter (is_of_other e.id) (rows_of ts objects births)
         left = ap (without_name name) listing.same ∙ name_goes name o.id (rows_of ts objects births) distinct alike
@@ -242,7 +215,4 @@ listing_opening slots = record { same = refl; distinct = tt }
 
 -- objects that agree with their keeper are placed
 pub placed_agreed : (s : ObjectsState) → IsAgreed s → ArePlaced s.objects
-placed_agreed s agreed k o there =
-    let within = some_within s.objects k o there in
-    let own = rw there at (agreed.each k (omega (arith, within, agreed.length_is))) in
-    ap (λ (i : Id). i.slot) own.0
+placed_agreed s agreed k o there = grind (arith, agreed.each k, agreed.length_is, some_within s.objects k o there)

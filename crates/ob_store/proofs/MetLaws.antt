@@ -26,11 +26,10 @@ module _ (p : PartsState) (t : ℕ) (waited : Id) (d : Option ℕ) (kept : Store
         (with_body (with_wait (state_of p) t Any (waited ∷ []) d) id new)
     way_met tied =
         let opened = with_opened p.limits.reuse p in
-        let sound = sound_waiting opened t Any (waited ∷ []) d (kept_opened p.limits.reuse p kept)
-        (single (λ x. 0 < handles_among x p.tables.tables) waited there) room live in
+        let sound = sound_waiting _ t Any _ d (kept_opened p.limits.reuse p kept) (single (λ x. 0 < handles_among x
+        p.tables.tables) waited there) room live in
         subst (λ (s : State). IsUnderWay p.objects.keeper (record joining { objects = q; signaled = a })
         (with_body s id new))
         (state_waiting opened t Any (waited ∷ []) d ∙ opened_joined p t Any (waited ∷ []) d kept)
-        (way_changed joining q a id old new sound bodied
-        (subst (λ clock. Yields clock old new) (sym (ap (λ (s : State). s.clock) (opened_state p.limits.reuse p))) yields)
-        put rest tied)
+        (way_changed _ q a id old new sound bodied (subst (λ clock. Yields clock old new) (sym (ap (λ (s : State).
+        s.clock) (opened_state p.limits.reuse p))) yields) put rest tied)

@@ -1,5 +1,6 @@
 -- Each Id that is named goes on being that of an object; and what a slot counts is what its object's Id counts.
-use Rattle.ob_store.proofs.Cited.{at_place, ◌≡◌, ℕ, ◌≢◌, suc, ◌<◌, ◌≤◌, List, [], ◌∷◌, length, Option, Some, None, refl, ap, ◌∙◌, arith, get_or, set, Bool, cond, eqb, sum_by, get_or_past, get_or-set_same, get_or-set_other, sum_by-cons, get_or-le-sum_by, same_id, Id, HandleFlags, Entry, entry_at, handles_among, slot_handles, table_of, with_table, with_entry_of, with_flags_of, without_entry_of, some_within, handles_among-with_table, Wait, Scene, nowhere, ids_of, slot_places, slot_blocks, blocks_among, Object, id_in, IsThere, IsNamed}
+use Rattle.std.proofs.lemmas.Bool.Decides.{nat_tests}
+use Rattle.ob_store.proofs.Cited.{at_place, ◌≡◌, ℕ, ◌≢◌, suc, ◌<◌, ◌≤◌, List, [], ◌∷◌, length, Option, Some, None, refl, ap, ◌∙◌, arith, get_or, set, Bool, cond, eqb, sum_by, get_or_past, get_or-set_same, get_or-set_other, sum_by-cons, get_or-le-sum_by, same_id, Id, HandleFlags, Entry, entry_at, handles_among, slot_handles, table_of, with_table, with_entry_of, with_flags_of, without_entry_of, some_within, handles_among-with_table, Wait, Scene, nowhere, ids_of, slot_places, slot_blocks, blocks_among, Object, id_in, IsThere, IsNamed, cases_lt, inl, inr}
 use Rattle.ob_tables.specs.Table.{at}
 use Rattle.ob_tables.proofs.Counting.{same_id-same, found_counts, handles_among-with_entry, handles_among-with_flags, handles_among-without_entry}
 use Rattle.ob_tables.proofs.SlotCounts.{slot_handles-one}
@@ -9,12 +10,7 @@ use Rattle.ob_waits.proofs.Counted.{blocks_settled}
 -- the object of an Id is in its slot
 pub there_some : (objects : List (Option Object)) (id : Id) → IsThere objects id
     → (o : Object) × (get_or objects id.slot None ≡ Some o) × (o.id ≡ id)
-there_some objects id h = by (get_or objects id.slot None) refl
-  where
-    by : (x : Option Object) → get_or objects id.slot None ≡ x
-        → (o : Object) × (get_or objects id.slot None ≡ Some o) × (o.id ≡ id)
-    by None is = search arith
-    by (Some o) is = search arith
+there_some objects id h = search arith
 
 pub there_within : (objects : List (Option Object)) (id : Id) → IsThere objects id → id.slot < length objects
 there_within objects id h = let o = there_some objects id h in some_within objects id.slot o.0 o.1
@@ -33,6 +29,15 @@ pub sum_none : {X : Type 0} (f : X → ℕ) (d : X) (xs : List X) → ((i : ℕ)
     → sum_by f xs ≡ 0
 sum_none f d [] each = refl
 sum_none f d (x ∷ xs) each = omega (arith, sum_by-cons f x xs, each 0 (omega arith), sum_none f d xs (λ i lt. each (suc i) (omega arith)))
+
+-- what is counted stands somewhere
+pub some_counts : {X : Type 0} (f : X → ℕ) (d : X) (xs : List X) (P : Type 0)
+    → ((i : ℕ) → i < length xs → 0 < f (get_or xs i d) → P) → 0 < sum_by f xs → P
+some_counts f d [] P each h = absurd (omega arith)
+some_counts f d (x ∷ xs) P each h = elim (cases_lt 0 (f x)) [
+  | inl some ↦ each 0 (omega arith) some
+  | inr none ↦ some_counts f d xs P (λ i lt. each (suc i) (omega arith)) (omega (arith, none, h, sum_by-cons f x xs))
+]
 
 -- no more is named than before
 pub named_fewer : (objects : List (Option Object)) (ts ts' : List (List (Option Entry))) (ws ws' : List (Option Wait))
@@ -60,17 +65,7 @@ module _ (objects : List (Option Object)) (ts : List (List (Option Entry))) (ws 
   pub named_added : (p : ℕ) (e : Entry) (o : Object) → p < length ts → o.id ≡ e.id
       → get_or objects e.id.slot None ≡ None → e.id.slot < length objects
       → IsNamed (set objects e.id.slot (Some o)) (with_entry_of ts p e) ws
-  named_added p e o table own none within =
-      let here : IsThere (set objects e.id.slot (Some o)) e.id = search (arith, get_or-set_same) in
-      let stays : (id : Id) → IsThere objects id → IsThere (set objects e.id.slot (Some o)) id = (λ id there.
-      let apart : id.slot ≢ e.id.slot = (λ same. let x = ap (λ k. id_in (get_or objects k None)) same in
-      let y = ap id_in none in absurd (cc (x, y, there))) in
-      ap id_in (get_or-set_other objects e.id.slot id.slot (Some o) None apart) ∙ there) in
-      record {
-        entries = λ id h. placed_entry (set objects e.id.slot (Some o)) p e table here stays id
-            (same_id e.id id) refl h;
-        blocks = λ id h. stays id (named.blocks id h);
-      }
+  named_added p e o table own none within = grind (arith, nat_tests, at_place, handles_among-with_entry, named.entries, named.blocks)
 
   -- an entry leaves
   pub named_removed : (p value : ℕ) (e : Entry) → entry_at (table_of ts p) value ≡ Some e
@@ -107,25 +102,22 @@ module _ (objects : List (Option Object)) (ts : List (List (Option Entry))) (ws 
   pub place_counted : (n i : ℕ) → n < length ws → i < length (ids_of (get_or ws n None))
       → 0 < blocks_among (get_or (ids_of (get_or ws n None)) i nowhere) ws
   place_counted n i lt in' =
-      let ids = ids_of (get_or ws n None) in
-      let x = get_or ids i nowhere in
-      let one : cond (same_id x (get_or ids i nowhere)) 1 0 ≡ 1 = ap {B = ℕ} (λ b. cond b 1 0) (same_id-same x) in
-      let a = get_or-le-sum_by (λ (y : Id). cond (same_id x y) 1 0) ids i nowhere in' in
-      let b = get_or-le-sum_by (blocks_in x) ws n None lt in
-      omega (arith, one)
+      let x = get_or (ids_of (get_or ws n None)) i nowhere in
+      let a = get_or-le-sum_by (λ (y : Id). cond (same_id x y) 1 0) (ids_of (get_or ws n None)) i nowhere in' in
+      omega (arith, ap {B = ℕ} (λ b. cond b 1 0) (same_id-same x), a, get_or-le-sum_by (blocks_in x) ws n None lt)
 
   -- and so are the blocks
   pub blocks_are : (id : Id) → IsThere objects id → slot_blocks id.slot ws ≡ blocks_among id ws
-  blocks_are id there = sum_same (λ (w : Option Wait). slot_places id.slot (ids_of w)) (blocks_in id) None ws
-      (λ n lt. sum_same (λ (x : Id). cond (eqb x.slot id.slot) 1 0) (λ (x : Id). cond (same_id id x) 1 0) nowhere
-      (ids_of (get_or ws n None))
+  blocks_are id there = sum_same _ _ _ ws
+      (λ n lt. sum_same _ _ _
+      _
       (λ i in'. let x = get_or (ids_of (get_or ws n None)) i nowhere in
       ap {B = ℕ} (λ b. cond b 1 0) (ids_agree x id (named.blocks x (place_counted n i lt in')) there)))
 
   -- no wait names a slot without an object
   pub blocks_vacant : (k : ℕ) → get_or objects k None ≡ None → slot_blocks k ws ≡ 0
-  blocks_vacant k none = sum_none (λ (w : Option Wait). slot_places k (ids_of w)) None ws
-      (λ n lt. sum_none (λ (x : Id). cond (eqb x.slot k) 1 0) nowhere (ids_of (get_or ws n None))
+  blocks_vacant k none = sum_none _ _ ws
+      (λ n lt. sum_none _ _ _
       (λ i in'. let x = get_or (ids_of (get_or ws n None)) i nowhere in
       other x (named.blocks x (place_counted n i lt in'))))
     where

@@ -25,13 +25,12 @@ module _ (xs : List (Option ObjectHeader)) (counts : List ℕ) (dues : List (Opt
       → AreNoted (set xs k (Some y)) (owned_came counts (slot_owner y.body)) (set dues k (slot_due y.body))
       (cond ended (set opens k false) opens) ls ns n
   noted_came y ended ls ns n within vacant is here more named same = record {
-    owned = moved_owned xs counts k (Some y) None (slot_owner y.body) noted.owned within (ap header_owner (sym vacant))
-        refl;
+    owned = moved_owned xs _ k _ _ _ noted.owned within (ap header_owner (sym vacant)) refl;
     timed = search (arith, mapped_set);
-    opened = opened_back xs opens k y ended noted.opened vacant is;
+    opened = opened_back xs _ k y _ noted.opened vacant is;
     labelled = λ j some. grind (arith, at_place, noted.labelled j);
     named = named;
-    room = rw same (room_set (Some y));
+    room = rw same (room_set _);
   }
 
   -- a header changes

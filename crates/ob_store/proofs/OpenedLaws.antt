@@ -22,32 +22,14 @@ abbrev pub with_opened : Bool → PartsState → PartsState
 with_opened reuse p = record p { waits = opened reuse p.waits }
 
 kept_renewed : (p : PartsState) → StoreInvariant p → StoreInvariant (record p { waits = with_renewed p.waits })
-kept_renewed p kept = record {
-  sound = record {
-    limited = kept.sound.limited;
-    processes_kept = kept.sound.processes_kept;
-    counted = search (arith, slot_blocks_renewed, kept.sound.counted);
-    named = search (arith, blocks_renewed, kept.sound.named);
-    formed = kept.sound.formed;
-    of_live = record {
-      owners = kept.sound.of_live.owners;
-      waiters = λ n t. each_renewed (λ w. thread_of w ≡ Some t → IsLive p.processes.threads t) p.waits.waits
-          (λ h. absurd (cc h)) (λ n. kept.sound.of_live.waiters n t) n;
-    };
-    room = room_renewed p.limits.max_recursion p.objects.seen.bodies p.waits.waits kept.sound.room;
-    listing = kept.sound.listing;
-  };
-  populated = kept.populated;
-  settled = settled_renewed p.objects.seen.bodies p.waits.waits kept.settled;
-}
+kept_renewed p kept =
+    let waiters : (n t : ℕ) → thread_of (get_or (with_renewed p.waits).waits n None) ≡ Some t → IsLive p.processes.threads t =
+    λ n t. each_renewed (λ w. thread_of w ≡ Some t → IsLive p.processes.threads t) p.waits.waits (λ h. absurd (cc h))
+    (λ n. kept.sound.of_live.waiters n t) n in
+    search (arith, waiters, slot_blocks_renewed, blocks_renewed, room_renewed, settled_renewed)
 
 pub kept_opened : (reuse : Bool) (p : PartsState) → StoreInvariant p → StoreInvariant (with_opened reuse p)
-kept_opened false p kept = kept
-kept_opened true p kept = by (is_full p.waits)
-  where
-    by : (full : Bool) → StoreInvariant (record p { waits = cond full (with_renewed p.waits) p.waits })
-    by true = kept_renewed p kept
-    by false = kept
+kept_opened reuse p kept = search (arith, kept_renewed)
 
 -- what is told of the next answer
 pub next_told : (s : State) (after : ℕ) (reuse : Bool) (a : Answer) → (reuse ≡ true → WaitsInvariant s.waits)
@@ -96,13 +78,7 @@ list_is p kept = search (arith, kept.sound.limited.waits_are)
 
 pub opened_state : (reuse : Bool) (p : PartsState)
     → state_of (with_opened reuse p) ≡ record (state_of p) { waits = (opened reuse p.waits).waits }
-opened_state false p = refl
-opened_state true p = by (is_full p.waits)
-  where
-    by : (full : Bool) → state_of (record p { waits = cond full (with_renewed p.waits) p.waits })
-        ≡ record (state_of p) { waits = (cond full (with_renewed p.waits) p.waits).waits }
-    by true = refl
-    by false = refl
+opened_state = grind arith
 
 -- a wait that comes to them comes to the state's
 pub opened_joined : (p : PartsState) (t : ℕ) (mode : Mode) (ids : List Id) (d : Option ℕ) → StoreInvariant p
@@ -121,8 +97,7 @@ opened_whole p t mode ids d kept = ap {B = Whole} (λ (s : State). record (whole
 pub never_full : (p : PartsState) → StoreInvariant p → WaitsInvariant p.waits.waits → p.limits.reuse ≡ true
     → is_full (with_renewed p.waits) ≡ false
 never_full p kept each reuse =
-    let few = few_renewed (length p.processes.threads) p.waits.waits each
-    (λ n t own. live_within p.processes.threads t (kept.sound.of_live.waiters n t own)) in
+    let few = few_renewed _ _ each (λ n t own. live_within _ t (kept.sound.of_live.waiters n t own)) in
     let limit = kept.sound.limited.waits_are in
     let threads = kept.sound.processes_kept.few_threads in
     let most = p.limits.in_range.threads_in_range.1 in
@@ -130,21 +105,11 @@ never_full p kept each reuse =
 
 has_room : (p : PartsState) → StoreInvariant p → WaitsInvariant p.waits.waits → p.limits.reuse ≡ true
     → is_full (opened true p.waits) ≡ false
-has_room p kept each reuse = by (is_full p.waits) refl
-  where
-    by : (full : Bool) → is_full p.waits ≡ full → is_full (cond full (with_renewed p.waits) p.waits) ≡ false
-    by true is = never_full p kept each reuse
-    by false is = is
+has_room p kept each reuse = search (arith, never_full)
 
 -- so 1450 is answered just where the state says so
 pub limit_told : (p : PartsState) (result : Result ℕ Fault) → StoreInvariant p → WaitsInvariant p.waits.waits
     → (result ≡ Err Limit → is_full (opened p.limits.reuse p.waits) ≡ true)
     → (p.limits.reuse ≡ false → is_full p.waits ≡ true → result ≡ Err Limit)
     → (result ≡ Err Limit) ↔ (are_waits_given (state_of p) ≡ true)
-limit_told p result kept each full once =
-    let same = ap (λ (l : WaitList). is_full (opened p.limits.reuse l)) (list_is p kept) in
-    (λ e. sym same ∙ full e, λ given. by p.limits.reuse refl (same ∙ given))
-  where
-    by : (reuse : Bool) → p.limits.reuse ≡ reuse → is_full (opened reuse p.waits) ≡ true → result ≡ Err Limit
-    by true is given = absurd (let none = has_room p kept each is in cc (none, given))
-    by false is given = once is given
+limit_told p result kept each full once = grind (arith, list_is p kept, has_room p kept each)

@@ -43,7 +43,7 @@ same_owned xs counts k y owned same lt = search (arith, length-set, sum_by-set)
 
 pub owned_none : (slots threads : ℕ) → slots ≤ 65536 → IsOwned (replicate slots None) (replicate threads 0)
 owned_none slots threads few = record {
-  counted = zero_counts threads (λ t. count_by (is_header_of t) (replicate slots None)) (λ t. none t slots)
+  counted = zero_counts _ _ (λ t. none t slots)
       ∙ ap (λ n. by_slot n (λ t. count_by (is_header_of t) (replicate slots None))) (sym (length-replicate threads 0));
   at_most = search (arith, length-replicate);
 }

@@ -12,8 +12,7 @@ passed s p a zero none = search arith
 passed s p a (suc d) none =
     let rest : threads_ended s p (a + d) ≡ threads_ended s p a = passed s p a d (search arith) in
     let at = ap (λ (x : State). get_or x.threads (a + d) None) rest in
-    let other = is_of_none p (get_or (threads_ended s p (a + d)).threads (a + d) None)
-    (λ h. none (a + d) (omega arith) (omega arith) (sym at ∙ h)) in
+    let other = is_of_none p _ (λ h. none (a + d) (omega arith) (omega arith) (sym at ∙ h)) in
     let more : a + suc d ≡ suc (a + d) = omega arith in
     ap (threads_ended s p) more
     ∙ ap (λ b. cond b (thread_ended (threads_ended s p (a + d)) (a + d)) (threads_ended s p (a + d))) other
@@ -42,9 +41,7 @@ pub ending_ended : (first : KeeperState) (p p' : PartsState) (s : State) (proces
     → IsEnding first p' (thread_ended (threads_ended s process thread) thread)
     → IsEnding first p' (threads_ended s process (thread + 1))
 ending_ended first p p' s process thread its before after =
-    let same = ap (λ (x : State). is_of process (get_or x.threads thread None)) before.under_way.rest in
-    let more : thread + 1 ≡ suc thread = omega arith in
-    rw (more, sym same ∙ its) after
+    search arith
 
 -- a thread of the process
 pub its_own : (p : ℕ) (x : Option ℕ) → x ≡ Some p → is_of p x ≡ true

@@ -16,12 +16,7 @@ pub populated_pass : (l : ProcessesState) → IsPopulated l.processes l.threads 
 populated_pass l populated = search (arith, below_from)
 
 pub populated_from : (l : ProcessesState) → are_populated l ≡ true → IsPopulated l.processes l.threads
-populated_from l all q live = has (get_or l.processes q None) (list_any (is_of q) l.threads) live
-    (below_at (is_populated l) (length l.processes) q all (live_within l.processes q live))
-  where
-    has : (o : Option ℕ) (some : Bool) → IsSome o → (is_none o || some) ≡ true → some ≡ true
-    has None some live pass = absurd (cc live)
-    has (Some s) some live pass = pass
+populated_from l all q live = grind (arith, below_at (is_populated l) (length l.processes) q all (live_within l.processes q live))
 
 pub populated_thread : (ps ts : List (Option ℕ)) (m process : ℕ) → IsFree ts m → IsPopulated ps ts
     → IsPopulated ps (put ts m (Some process))
@@ -31,13 +26,7 @@ populated_thread ps ts m process free populated q live =
 -- a process comes with its first thread
 pub populated_process : (ps ts : List (Option ℕ)) (n m session : ℕ) → IsFree ps n → IsFree ts m → IsPopulated ps ts
     → IsPopulated (put ps n (Some session)) (put ts m (Some n))
-populated_process ps ts n m session p t populated q live = grind (
-  arith,
-  nat_tests,
-  any_put (is_of q) ts m (Some n) refl t,
-  get_or-put ps n (Some session) p.within q None,
-  populated q,
-)
+populated_process ps ts n m session p t populated q live = search (arith, any_put, get_or-put)
 
 -- each live process but one has a live thread
 abbrev Besides : ℕ → State → Type 0

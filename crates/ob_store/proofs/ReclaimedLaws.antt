@@ -30,8 +30,7 @@ module _ (p : PartsState) (kept : StoreInvariant p) (tied : ObjectsInvariant p.o
   ended = rw (← view) at bodiless
 
   is_object : (q : Object) × (get_or p.objects.objects k None ≡ Some q)
-  is_object = found (get_or o.objects k None)
-      (rw (← view) at there)
+  is_object = found _ (rw (← view) at there)
 
   abbrev object : Object
   object = is_object.0
@@ -50,7 +49,7 @@ module _ (p : PartsState) (kept : StoreInvariant p) (tied : ObjectsInvariant p.o
             retired;
       }) p.objects.births keeper;
     })
-    kept_left = search (arith, some_set, placed_agreed, unreferenced, own_handles, own_blocks, set-get_or, counted_left, length-set, listing_left, named_left, placed_there, is_object.1, kept.populated, kept.settled, kept.sound.counted, kept.sound.formed, kept.sound.limited.handles_are, kept.sound.limited.processes_are, kept.sound.limited.shape_is, kept.sound.limited.waits_are, kept.sound.listing, kept.sound.named, kept.sound.of_live, kept.sound.processes_kept, kept.sound.room, left.seen, no_references.0, no_references.1, o.births, o.objects, o.seen, o.seen.bodies, object.id, p.limits.max_recursion, p.processes.threads, p.rows, p.tables.tables, p.waits.clock, p.waits.waits)
+    kept_left = search (arith, unreferenced, counted_left, length-set, listing_left, named_left, own_blocks, own_handles, placed_agreed, placed_there, set-get_or, some_set)
 
   -- what is kept, whatever the answer is
   pub kept_reclaimed : (answer : Reclaim) (q : ObjectsState) → Reclaimed p.objects k answer q

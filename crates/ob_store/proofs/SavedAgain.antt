@@ -1,4 +1,6 @@
 -- Objects that are kept are read again as they were written.
+use Rattle.ob_codec.proofs.AtPlace.{at_place}
+use Rattle.std.proofs.lemmas.Bool.Decides.{nat_tests}
 use Rattle.ob_store.proofs.Cited.{◌≡◌, ℕ, ◌<◌, Bool, false, List, [], ◌∷◌, ◌++◌, length, get_or, map, Option, None, Ok, refl, sym, ap, ◌∙◌, subst, arith, sum_by, AllByRecursion, range_with_len, ext_get_or, get_or-map, length-map, get_or-map-range_with_len, length-map-range_with_len, sum_by-cons, Shape, Slot, opening_slot, slot_of, Body, Rows, Entry, IsBounded, WaitList, Limits, SavedSlot, Agrees, AreBorn, ObjectsInvariant, made_in, counting_all, AreOfLive, IsCounted, IsListing, IsNamed, Object, ObjectsState, Places, places_in, names_in, object_saved, objects_at, objects_text, slot_saved, slots_saved, whole_at, with_slots, with_blocks, SlotFits, body_from, fresh_slot, keeper_slot, objects_from, places_from, slots_at, shape_of}
 use Rattle.std.specs.Prelude.{replicate}
 use Rattle.std.proofs.lemmas.List.FromFn.{get_or-range_with_len, length-range_with_len}
@@ -55,19 +57,12 @@ module _ (s : ObjectsState) (tied : ObjectsInvariant s) where
       get_or-map is_retired xs k fresh_slot false (omega (arith, xs-long)) ∙ ap is_retired (xs-at k within)))
 
   slots-back : map (slot_of s.keeper.slots) (range_with_len 0 n) ≡ s.keeper.slots
-  slots-back = ext_get_or opening_slot (map (slot_of s.keeper.slots) (range_with_len 0 n)) s.keeper.slots
-      (length-map-range_with_len (slot_of s.keeper.slots) 0 n ∙ sym tied.agreed.wide)
+  slots-back = ext_get_or opening_slot _ _ (search (arith, length-map-range_with_len, tied.agreed.wide))
       (search (arith, get_or-map-range_with_len, length-map-range_with_len))
 
   births-back : sum_by made_in (map keeper_slot xs) ≡ s.births
   births-back =
-      sum_map made_in keeper_slot xs ∙
-      sum_map (λ (x : SavedSlot). made_in (keeper_slot x)) (slot_saved s) (range_with_len 0 n)
-      ∙ sum_same (λ (k : ℕ). made_in (keeper_slot (slot_saved s k))) (λ (k : ℕ). made_in (slot_of s.keeper.slots k)) 0
-      (range_with_len 0 n)
-      (search (arith, get_or-range_with_len, length-range_with_len))
-      ∙ sym (search (arith, sum_map)) ∙ ap (sum_by made_in) slots-back ∙
-      sym tied.made
+      grind (arith, nat_tests, at_place, sum_map, slots-back, tied.made)
 
   -- before anything that refers to the objects is counted
   abbrev bare : Places
@@ -104,18 +99,7 @@ module _ (s : ObjectsState) (tied : ObjectsInvariant s) where
     whole-again : whole_at limits tables list (objects_text limits.reuse s ++ rest) ≡
         Ok ((record s { keeper = begun_over (shape_of limits) (map keeper_slot xs) }, rows), rest)
     whole-again =
-        let slots = map keeper_slot xs in
-        let born = births_again s.objects (sum_by made_in slots) (subst (AreBorn s.objects) (sym births-back) tied.born)
-        in
-        let named : names_in born.0 (places_in s) ≡ Ok rows = search (arith, births-back, names_complete) in
-        let whole : whole_objects limits slots (places_in s) ≡ Ok (with_slots (places_in s) limits slots, rows) =
-        rw (born.1, bodied_again s.seen (length s.objects) tied.bodied, named) refl in
-        let read : whole_at limits tables list (objects_text limits.reuse s ++ rest) ≡ Ok (
-          (with_slots (places_in s) limits slots, rows),
-          rest,
-        ) =
-        search (arith, slots-again, handles-again, blocks-again) in
-        search (arith, births-back)
+        search (arith, births-back, slots-again, handles-again, blocks-again, births_again, bodied_again, names_complete)
 
     pub objects_again : objects_at limits threads tables list (objects_text limits.reuse s ++ rest) ≡
         Ok ((record s { keeper = begun_over (shape_of limits) (map keeper_slot xs) }, rows), rest)

@@ -31,11 +31,6 @@ pub taken_inserted : (es : Births) (b slot c : ℕ) →
 taken_inserted [] b slot c = refl
 taken_inserted (x ∷ es) b slot c = search (arith, taken_inserted es b slot c)
 
--- a birth that isn't there once another came wasn't there before, and is another one
-not-taken : (es : Births) (b slot c : ℕ) → taken (insert_entry nat_cmp es b slot) c ≡ None → (c ≢ b) ×
-    (taken es c ≡ None)
-not-taken es b slot c e = search (arith, taken_inserted)
-
 module _ (births : ℕ) (order : Births) where
   -- one object more
   pub births_step : (slot : ℕ) (so_far : Births) (x : Object) (objects : List (Option Object)) →
@@ -43,53 +38,3 @@ module _ (births : ℕ) (order : Births) where
       (x.birth < births) × (taken so_far x.birth ≡ None) ×
       (births_from births (insert_entry nat_cmp so_far x.birth slot) (suc slot) objects ≡ Ok order)
   births_step slot so_far x objects e = search arith
-
-  -- each birth is below the count, and not among those so far
-  each-new : (slot : ℕ) (so_far : Births) (objects : List (Option Object)) → births_from births so_far slot objects ≡
-      Ok order →
-      (k : ℕ) (o : Object) → get_or objects k None ≡ Some o → (o.birth < births) × (taken so_far o.birth ≡ None)
-  each-new slot so_far [] e k o is = absurd cc
-  each-new slot so_far (None ∷ objects) e zero o is = absurd cc
-  each-new slot so_far (None ∷ objects) e (suc k) o is = each-new (suc slot) so_far objects e k o is
-  each-new slot so_far (Some x ∷ objects) e zero o is =
-      let s = births_step slot so_far x objects e in
-      rw (← same_Some x o is) (s.0, s.1)
-  each-new slot so_far (Some x ∷ objects) e (suc k) o is =
-      let later = each-new (suc slot) (insert_entry nat_cmp so_far x.birth slot) objects
-      (births_step slot so_far x objects e).2 k o is in
-      search (arith, taken_inserted)
-
-  -- a later object has another birth
-  later-apart : (slot : ℕ) (so_far : Births) (x : Object) (objects : List (Option Object)) →
-      births_from births so_far slot (Some x ∷ objects) ≡ Ok order →
-      (k : ℕ) (o : Object) → get_or objects k None ≡ Some o → o.birth ≢ x.birth
-  later-apart slot so_far x objects e k o is =
-      (not-taken so_far x.birth slot o.birth (each-new (suc slot) (insert_entry nat_cmp so_far x.birth slot) objects
-      (births_step slot so_far x objects e).2 k o is).1).0
-
-  -- no two are the same
-  none-twice : (slot : ℕ) (so_far : Births) (objects : List (Option Object)) → births_from births so_far slot objects ≡
-      Ok order →
-      (j k : ℕ) (o p : Object) → get_or objects j None ≡ Some o → get_or objects k None ≡ Some p → o.birth ≡ p.birth →
-      j ≡ k
-  none-twice slot so_far [] e j k o p is it same = absurd cc
-  none-twice slot so_far (None ∷ objects) e zero k o p is it same = absurd cc
-  none-twice slot so_far (None ∷ objects) e (suc j) zero o p is it same = absurd cc
-  none-twice slot so_far (None ∷ objects) e (suc j) (suc k) o p is it same =
-      ap suc (none-twice (suc slot) so_far objects e j k o p is it same)
-  none-twice slot so_far (Some x ∷ objects) e zero zero o p is it same = refl
-  none-twice slot so_far (Some x ∷ objects) e zero (suc k) o p is it same =
-      absurd (later-apart slot so_far x objects e k p it (sym same ∙
-      ap (λ (z : Object). z.birth) (sym (same_Some x o is))))
-  none-twice slot so_far (Some x ∷ objects) e (suc j) zero o p is it same =
-      absurd (later-apart slot so_far x objects e j o is (same ∙ ap (λ (z : Object). z.birth) (sym (same_Some x p it))))
-  none-twice slot so_far (Some x ∷ objects) e (suc j) (suc k) o p is it same =
-      ap suc (none-twice (suc slot) (insert_entry nat_cmp so_far x.birth slot) objects
-      (births_step slot so_far x objects e).2 j k o p is it same)
-
-  pub ordered_born : (objects : List (Option Object)) → births_from births [] 0 objects ≡ Ok order →
-      AreBorn objects births
-  ordered_born objects e = record {
-    below = λ k o is. (each-new 0 [] objects e k o is).0;
-    apart = none-twice 0 [] objects e;
-  }

@@ -17,35 +17,27 @@ use Rattle.ob_store.specs.SavedSlots as saved
 use Rattle.ob_store.specs.SavedSlots.{ObjectFits, object_at, object_parts, object_text, rows_text, slot_parts, slot_stands}
 
 pub object_codec : IsCodec object_text object_at ObjectFits
-object_codec = as_codec saved.object_of object_parts (λ _. refl) (λ _. refl)
-    (both_codec u64_codec (both_codec descr_codec (both_codec rights_codec
-    (both_codec (option_codec body_codec) (option_codec name_codec)))))
+object_codec = as_codec _ _ (λ _. refl) (λ _. refl) (both_codec u64_codec (both_codec descr_codec (both_codec
+    rights_codec (both_codec (option_codec body_codec) (option_codec name_codec)))))
 
 pub slot_codec : (max_gen clock : ℕ) → IsCodec slot_text (slot_at max_gen clock) (SlotFits max_gen clock)
-slot_codec max_gen clock = where_codec
-    (as_codec saved.slot_of slot_parts (λ _. refl) (λ _. refl)
-    (both_codec u32_codec (both_codec flag_codec (option_codec object_codec))))
-    (slot_stands max_gen clock)
+slot_codec max_gen clock = where_codec (as_codec _ _ (λ _. refl) (λ _. refl) (both_codec u32_codec (both_codec
+    flag_codec (option_codec object_codec)))) _
 
 -- so many slots are read as they were spelled, each of them or up to the last that ever had an object
 module _ (limits : Limits) (clock : ℕ) where
   fresh-fits : SlotFits limits.max_gen clock fresh_slot
-  fresh-fits = (
-    (omega arith, (tt, tt)),
-    (let some = limits.in_range.max_gen_in_range.0 in search (arith, le-leb)),
-  )
+  fresh-fits = search (arith, le-leb)
 
   pub rows_codec : (short : Bool) → IsCodec (rows_text short) (rows_at short limits.slots limits.max_gen clock)
       (RowsFit limits.slots limits.max_gen clock)
-  rows_codec true = some_codec (filled limits.slots) used (RowsFit limits.slots limits.max_gen clock)
-      (used_there limits.slots limits.max_gen clock (let most = limits.in_range.slots_in_range.1 in omega arith))
-      (used_back limits.slots limits.max_gen clock fresh-fits)
-      (list_codec (slot_codec limits.max_gen clock) limits.slots)
+  rows_codec true = some_codec _ _ _ (used_there _ _ _ (let most = limits.in_range.slots_in_range.1 in omega arith))
+      (used_back _ _ _ fresh-fits) (list_codec (slot_codec _ _) _)
   rows_codec false = record {
     again = λ xs rest fit. subst (λ (n : ℕ). items_at (slot_at limits.max_gen clock) n (flat_map slot_text xs ++ rest)
-        ≡ Ok (xs, rest)) fit.0 (items_again (slot_codec limits.max_gen clock) xs rest fit.1);
+        ≡ Ok (xs, rest)) fit.0 (items_again (slot_codec _ _) xs _ fit.1);
     takes = λ bytes xs rest are e.
-        (let t = items_take (slot_codec limits.max_gen clock) limits.slots bytes xs rest are e in (t.0, (t.1, t.2)));
+        (let t = items_take (slot_codec _ _) _ _ xs _ are e in (t.0, (t.1, t.2)));
   }
 
 -- an object that was put into its slot is saved as it was
@@ -59,13 +51,13 @@ module _ (n max_gen clock : ℕ) (p : Places) (slots : List Slot) (r : AreRead n
   slot-back k lt =
       let x = get_or r.xs k fresh_slot in
       let generation : (slot_of slots k).generation ≡ x.generation =
-      ap (λ (y : Slot). y.generation) (slot-here n max_gen clock p slots r q more Named counts k lt) ∙
+      ap (λ (y : Slot). y.generation) (slot-here n _ _ p _ r q _ _ counts k lt) ∙
       slot_generation x in
       let retired : get_or q.retired k false ≡ x.retired = search (arith, retired-here) in
       let object : object_saved (get_or q.objects k None) (get_or q.seen.bodies k None) ≡ x.object =
-      (λ i. object_saved (object-here n max_gen clock p slots r q more Named counts k lt i)
-      (body-here n max_gen clock p slots r q more Named counts k lt i))
-      ∙ saved-back (record { slot = k; generation = x.generation }) x.object in
+      (λ i. object_saved (object-here n _ _ p _ r q _ _ counts k lt i)
+      (body-here n _ _ p _ r q _ _ counts k lt i))
+      ∙ saved-back _ _ in
       search arith
 
   -- the slots that were read are what is saved again
@@ -84,8 +76,7 @@ whole_take : (limits : Limits) (tables : List (List (Option Entry))) (list : Wai
     whole_at limits tables list bytes ≡ Ok ((s, rows), rest) → Takes bytes (objects_text limits.reuse s) rest
 whole_take limits tables list bytes s rows rest are e =
     let w = whole_steps limits tables list bytes s rows rest e in
-    let i = bind_ok (rows_at limits.reuse limits.slots limits.max_gen list.clock bytes) (λ (xs : List SavedSlot ×
-    List ℕ). Ok (slots_from xs.0, xs.1)) ((w.p, w.slots), rest) w.read in
+    let i = bind_ok _ _ _ w.read in
     let back = ok_is (slots_from i.0.0, i.0.1) ((w.p, w.slots), rest) i.2 in
     let all = rows_all limits.reuse limits.slots limits.max_gen list.clock limits.in_range.max_gen_in_range.0 bytes
     i.0.1 i.0.0 i.1 in

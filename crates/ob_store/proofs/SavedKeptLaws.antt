@@ -1,5 +1,5 @@
 -- What holds of objects that were read, with their tables, waits and threads, and that such objects are taken.
-use Rattle.ob_store.proofs.Cited.{◌≡◌, ℕ, zero, suc, ◌+◌, ◌<◌, not, Bool, true, false, cond, List, [], ◌∷◌, length, get_or, map, Option, Some, None, Ok, refl, sym, ap, ◌∙◌, subst, arith, and_parts, list_all, count_by, sum_by, get_or-map, length-map, ◌>>=◌, bind_ok, same_id, Id, Slot, slot_of, Rows, Entry, handles_among, HasRoom, thread_of, WaitList, blocks_among, ids_of, nowhere, slot_blocks, Pending, Wait, Limits, Agrees, ObjectsInvariant, counting_all, is_its, IsLive, AreFormed, AreOfLive, IsCounted, IsListing, IsNamed, IsThere, Object, ObjectsState, Places, Births, births_from, names_in, whole_at, with_slots, slots_at, owner_stands, wait_stands, with_blocks, made_in, by_slot, shape_of}
+use Rattle.ob_store.proofs.Cited.{◌≡◌, ℕ, zero, suc, ◌+◌, ◌<◌, not, Bool, true, false, cond, List, [], ◌∷◌, length, get_or, map, Option, Some, None, Ok, refl, sym, ap, ◌∙◌, subst, arith, and_parts, list_all, count_by, sum_by, get_or-map, length-map, ◌>>=◌, bind_ok, same_id, Id, Slot, slot_of, Rows, Entry, handles_among, HasRoom, thread_of, WaitList, blocks_among, ids_of, nowhere, slot_blocks, Pending, Wait, Limits, Agrees, ObjectsInvariant, counting_all, is_its, IsLive, AreFormed, AreOfLive, IsCounted, IsListing, IsNamed, IsThere, Object, ObjectsState, Places, Births, births_from, names_in, whole_at, with_slots, slots_at, owner_stands, wait_stands, with_blocks, made_in, by_slot, shape_of, nat_tests}
 use Rattle.std.proofs.lemmas.Bool.{and_from}
 use Rattle.std.proofs.lemmas.List.Sums.{AllPass-from_list_all}
 use Rattle.ob_waits.specs.CountedBodies.{slot_room}
@@ -12,10 +12,11 @@ use Rattle.ob_store.specs.SavedObjects.{whole_objects}
 use Rattle.ob_store.specs.SavedWaits.{all_stand, may_wait_for, object_blocks, owners_stand, state_stands, waits_stand}
 use Rattle.ob_store.proofs.BySlot.{is_by_slot}
 use Rattle.ob_store.proofs.CountingAgain.{its_id}
-use Rattle.ob_store.proofs.NamedLaws.{blocks_are, blocks_vacant, place_counted}
+use Rattle.ob_store.proofs.NamedLaws.{blocks_are, blocks_vacant, place_counted, some_counts}
 use Rattle.ob_store.proofs.SavedNameLaws.{names_sound}
 use Rattle.ob_store.proofs.SavedObjectLaws.{entries_read, formed_read, handles_read}
 use Rattle.ob_store.proofs.ByPlace.{all_at, all_from}
+use Rattle.ob_tables.proofs.Counting.{one_id}
 
 -- the steps in which objects were read
 pub record IsWhole (limits : Limits) (tables : List (List (Option Entry))) (list : WaitList) (bytes : List ℕ)
@@ -34,11 +35,7 @@ pub whole_steps : (limits : Limits) (tables : List (List (Option Entry))) (list 
     (s : ObjectsState) (rows : Rows) (rest : List ℕ) → whole_at limits tables list bytes ≡ Ok ((s, rows), rest) →
     IsWhole limits tables list bytes s rows rest
 whole_steps limits tables list bytes s rows rest e =
-    let a = bind_ok (slots_at limits.reuse limits.slots limits.max_gen list.clock bytes) _ ((s, rows), rest) e in
-    let slots = a.0.0.1 in
-    let b = bind_ok (counting_all a.0.0.0 tables) (λ (q : Places). whole_objects limits slots
-    (with_blocks list.waits q) >>= λ (o : ObjectsState × Rows). Ok (o, a.0.1)) ((s, rows), rest) a.2 in
-    grind arith
+    search arith
 
 -- what waits that can be there keep
 module _ (limit : ℕ) (threads : List (Option ℕ)) (s : ObjectsState) where
@@ -47,18 +44,10 @@ module _ (limit : ℕ) (threads : List (Option ℕ)) (s : ObjectsState) where
 
   ids-there : (t : ℕ) (id : Id) (ids : List Id) → list_all (may_wait_for limit s t) ids ≡ true →
       0 < count_by (same_id id) ids → IsThere s.objects id
-  ids-there t id [] all some = absurd (omega arith)
-  ids-there t id (x ∷ ids) all some =
-      let a = and_parts (may_wait_for limit s t x) (list_all (may_wait_for limit s t) ids) all in
-      let here : IsThere s.objects x = search arith in
-      by (same_id id x) refl here (λ later. ids-there t id ids a.1 later)
-      (search arith)
-    where
-      by : (b : Bool) → same_id id x ≡ b → IsThere s.objects x →
-          (0 < count_by (same_id id) ids → IsThere s.objects id) → 0 < cond b 1 0 + count_by (same_id id) ids →
-          IsThere s.objects id
-      by true is here later some = search arith
-      by false is here later some = later (omega arith)
+  ids-there t id ids all some = some_counts (λ x. cond (same_id id x) 1 0) nowhere ids _ (λ i lt here.
+      let may = AllPass-from_list_all (may_wait_for limit s t) ids all i nowhere lt in
+      let there : IsThere s.objects (get_or ids i nowhere) = search arith in
+      rw (one_id id (get_or ids i nowhere) (grind (arith, nat_tests))) there) some
 
   state-there : (t : ℕ) (id : Id) (x : State) → state_stands limit s t x ≡ true →
       0 < count_by (same_id id) (state_ids x) → IsThere s.objects id
@@ -69,23 +58,14 @@ module _ (limit : ℕ) (threads : List (Option ℕ)) (s : ObjectsState) where
 
   pub waits_there : (waits : List (Option Wait)) → waits_stand limit threads waits s ≡ true → (id : Id) →
       0 < blocks_among id waits → IsThere s.objects id
-  waits_there [] all id some = absurd (omega arith)
-  waits_there (w ∷ waits) all id some =
-      let a = and_parts (stands w) (waits_stand limit threads waits s) all in
-      by (blocks_in id w) refl (wait-there id w a.0) (waits_there waits a.1 id)
-      (search arith)
-    where
-      by : (n : ℕ) → blocks_in id w ≡ n → (0 < blocks_in id w → IsThere s.objects id) →
-          (0 < blocks_among id waits → IsThere s.objects id) → 0 < n + blocks_among id waits → IsThere s.objects id
-      by zero is here later some = later (omega arith)
-      by (suc n) is here later some = here (omega arith)
+  waits_there waits all id some = some_counts (blocks_in id) None waits _
+      (λ n lt here. wait-there id (get_or waits n None) (all_at stands waits None refl all n) here) some
 
   state-room : (t : ℕ) (x : State) → state_stands limit s t x ≡ true →
       HasRoom limit t s.seen.bodies (state_ids x)
   state-room t (Pending mode ids) e = record {
     each = λ i lt. (and_parts (is_its (get_or ids i nowhere) _) _
-        (AllPass-from_list_all (may_wait_for limit s t) ids
-        (and_parts (list_all (may_wait_for limit s t) ids) _ e).0 i nowhere lt)).1;
+        (AllPass-from_list_all _ ids (and_parts (list_all (may_wait_for limit s t) ids) _ e).0 i nowhere lt)).1;
   }
   state-room t (Answered code) e = search arith
 
@@ -101,10 +81,9 @@ module _ (limit : ℕ) (threads : List (Option ℕ)) (s : ObjectsState) where
       HasRoom limit t s.seen.bodies (state_ids x) → state_ready t s.seen.bodies x ≡ false →
       state_stands limit s t x ≡ true
   state-taken t (Pending mode ids) there room unready =
-      and_from (list_all (may_wait_for limit s t) ids) (not (list_ready mode t s.seen.bodies ids))
-      (all_from (may_wait_for limit s t) ids nowhere (λ i lt. (let id = get_or ids i nowhere in
-      and_from (is_its id (get_or s.objects id.slot None)) (slot_room limit t (get_or s.seen.bodies id.slot None))
-      (its_id (get_or s.objects id.slot None) id (there i lt)) (room.each i lt))))
+      and_from _ _
+      (all_from _ ids _ (λ i lt. (let id = get_or ids i nowhere in
+      and_from _ _ (its_id _ id (there i lt)) (room.each i lt))))
       (ap not unready)
   state-taken t (Answered code) there room unready = refl
 
@@ -133,20 +112,17 @@ module _ (limit : ℕ) (threads : List (Option ℕ)) (s : ObjectsState) where
       IsNamed s.objects tables waits → AreOfLive threads s.seen.bodies waits → IsQuiet limit s.seen.bodies waits →
       all_stand limit threads waits s ≡ true
   all_taken tables waits named live quiet =
-      and_from (waits_stand limit threads waits s) (owners_stand threads s)
-      (all_from (λ (w : Option Wait). stands w) waits None (search (arith, wait-taken, place_counted, live.waiters, named.blocks, quiet.room.each, quiet.settled.each)))
-      (all_from (owner_stands threads) s.seen.bodies None
-      (search arith))
+      and_from _ _ (all_from (λ (w : Option Wait). stands w) waits None
+      (search (arith, wait-taken, place_counted, live.waiters, named.blocks, quiet.room.each, quiet.settled.each)))
+      (all_from (owner_stands threads) s.seen.bodies None (search arith))
 
 -- blocks that were counted by objects are counted by slots
 pub blocks_counted : (s : ObjectsState) (tables : List (List (Option Entry))) (waits : List (Option Wait)) →
     ObjectsInvariant s → IsNamed s.objects tables waits →
     map (object_blocks waits) s.objects ≡ by_slot (length s.objects) (λ k. slot_blocks k waits)
 blocks_counted s tables waits tied named =
-    is_by_slot (map (object_blocks waits) s.objects) (length s.objects) (λ k. slot_blocks k waits)
-    (length-map s.objects (object_blocks waits))
-    (λ k lt. get_or-map (object_blocks waits) s.objects k None 0 lt ∙
-    by k (get_or s.objects k None) refl (tied.agreed.each k (omega arith)))
+    is_by_slot _ _ _ (length-map s.objects (object_blocks waits)) (λ k lt. get_or-map _ _ k _ 0 lt ∙ by k (get_or
+    s.objects k None) refl (tied.agreed.each k (omega arith)))
   where
     by : (k : ℕ) (x : Option Object) → get_or s.objects k None ≡ x →
         Agrees k x (get_or s.seen.bodies k None) (get_or s.retired k false) (slot_of s.keeper.slots k) →
@@ -178,6 +154,5 @@ module _ (limits : Limits) (tables : List (List (Option Entry))) (list : WaitLis
   pub whole_listing : ObjectsInvariant s → IsCounted s.seen (length s.objects) tables list.waits →
       IsNamed s.objects tables list.waits → IsListing rows tables s.objects s.births
   whole_listing tied counted named =
-      names_sound s tables list.waits steps.order rows tied counted named
-      (subst (λ (z : ObjectsState). births_from z.births [] 0 z.objects ≡ Ok steps.order) steps.is steps.ordered)
-      (search arith)
+      names_sound s _ _ _ _ tied counted named (subst (λ (z : ObjectsState). births_from z.births [] 0 z.objects ≡ Ok
+      steps.order) steps.is steps.ordered) (search arith)

@@ -11,6 +11,8 @@ use Rattle.ob_codec.proofs.Loop.{with_front, goes_on, ends, is_done}
 use Rattle.ob_store.specs.SavedSlots.{begun_with, count_at, is_retired, with_saved}
 use Rattle.ob_store.proofs.SavedSlotLaws.{items_all}
 use Rattle.ob_store.proofs.UsedLaws.{ends_more, fresh_long, fresh_none}
+use Rattle.std.proofs.Math.Seq.{get_or-append_right}
+use Rattle.ob_store.proofs.ByPlace.{replicate_at}
 
 -- a list of which the first places are written
 abbrev pub begun : {A : Type 0} → A → ℕ → ℕ → List A → List A
@@ -26,17 +28,11 @@ module _ {A : Type 0} (none : A) (n i : ℕ) (done : List A) (long : length done
       (sym (append_assoc done (x ∷ []) (replicate (n - (i + 1)) none)))
 
   length-begun : i ≤ n → length (begun none n i done) ≡ n
-  length-begun le =
-      let a = length-append done (replicate (n - i) none) in let b = length-replicate (n - i) none in
-      omega arith
+  length-begun le = search (arith, length-append, length-replicate)
 
 past : {A : Type 0} (none : A) (done : List A) (n i : ℕ) → length done ≡ i → get_or (done ++ replicate n none) i none ≡
     none
-past none [] zero zero is = refl
-past none [] (suc n) zero is = refl
-past none [] n (suc i) is = absurd (omega arith)
-past none (x ∷ done) n zero is = absurd (omega arith)
-past none (x ∷ done) n (suc i) is = past none done n i (let l : length done ≡ i = omega arith in l)
+past none done n i is = search (arith, get_or-append_right, replicate_at)
 
 kept-at : {A : Type 0} (none : A) (xs : List A) (i : ℕ) → get_or xs i none ≡ none → set xs i none ≡ xs
 kept-at none xs i is = search (arith, set-get_or)
@@ -146,12 +142,11 @@ module _ (m n max_gen clock i : ℕ) (within : m ≤ n) (first from : List ℕ) 
       record {
         read = h.read ++ x ∷ [];
         length_is = length-append h.read (x ∷ []) ∙ (omega arith);
-        total = goes_on (slot_at max_gen clock) h.read m i from x after
-            (items_at (slot_at max_gen clock) m first) lt is h.total;
+        total = goes_on _ _ m i _ x _ _ lt is h.total;
         places = rw (
           h.places,
-          saved-is (so_far n i h.read) i x.generation x.retired x.object (empty-at n i h.read h.length_is below) apart,
-        ) (written-next n i h.read h.length_is below x);
+          saved-is _ i x.generation x.retired x.object (empty-at n i _ h.length_is below) apart,
+        ) (written-next n i _ h.length_is below x);
         begun_slots = rw h.begun_slots (sym (map-append keeper_slot h.read (x ∷ [])));
         ended_is = sym (ends_more h.read x);
       }
@@ -170,12 +165,7 @@ module _ (m n max_gen clock i : ℕ) (within : m ≤ n) (first from : List ℕ) 
   pub read_done : m ≤ i → i ≤ m
       → as_at (begun_with n) (items_at (slot_at max_gen clock) m) first ≡ Ok ((p, (slots, ended)), from)
   read_done le ge =
-      let done = is_done (slot_at max_gen clock) h.read m i from (items_at (slot_at max_gen clock) m first) le h.total
-      in
-      let places : p ≡ places_from (with_fresh n h.read) =
-      h.places ∙ ap (λ (k : ℕ). so_far n k h.read) (sym h.length_is) ∙ so_far_begun n h.read (omega (arith, h.length_is)) in
-      ap (λ (z : Read (List SavedSlot)). z >>= λ (xs : List SavedSlot × List ℕ). Ok (begun_with n xs.0, xs.1)) done
-      ∙ (search (arith, places, h.begun_slots, h.ended_is))
+      search (arith, so_far_begun, is_done)
 
 -- what was read of slots, with those that never had an object
 abbrev finished : Bool → ℕ → (Places × (List Slot × Bool)) × List ℕ → Read (Places × List Slot)

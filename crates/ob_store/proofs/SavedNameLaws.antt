@@ -25,10 +25,7 @@ module _ (ts : Tables) (p : Places) (births : ℕ) (order : Births) (is : IsOrde
     has_handles o.id ts) where
   one-row : (b k : ℕ) (o : Object) → get_or p.objects k None ≡ Some o → o.birth ≡ b →
       row_of ts b (get_or p.objects k None) ≡ slot_row p k
-  one-row b k o at born =
-      ap (row_of ts b) at ∙
-      (λ i. cond (eq-eqb o.birth b born i && sym (handled k o at) i) (named_row o.id o.name) None) ∙
-      sym (ap (handled_row (ltb 0 (get_or p.seen.handles k 0))) at)
+  one-row b k o at born = search (arith, handled, eq-eqb)
 
   none-born : (b : ℕ) → taken order b ≡ None → filter_map (row_of ts b) p.objects ≡ []
   none-born b none = picks_none (row_of ts b) p.objects (λ k. search arith)
@@ -36,9 +33,8 @@ module _ (ts : Tables) (p : Places) (births : ℕ) (order : Births) (is : IsOrde
   one-born : (b k : ℕ) → taken order b ≡ Some k → filter_map (row_of ts b) p.objects ≡ cons_option (slot_row p k) []
   one-born b k at =
       let own = is.own b k at in
-      picks_only (row_of ts b) p.objects k (some_within p.objects k own.0 own.1) refl
-      (search arith) ∙
-      ap (λ r. cons_option r []) (one-row b k own.0 own.1 own.2)
+      picks_only _ _ k (some_within _ k _ own.1) refl (search arith) ∙
+      ap (λ r. cons_option r []) (one-row b k _ own.1 own.2)
 
   -- the rows of one birth come behind those of the ones before it
   before : (low n : ℕ) (mine others : Rows) → filter_map (row_of ts low) p.objects ≡ mine →
@@ -51,8 +47,7 @@ module _ (ts : Tables) (p : Places) (births : ℕ) (order : Births) (is : IsOrde
   before-none : (low n : ℕ) (others : Rows) → taken order low ≡ None →
       rows_of ts p.objects (suc low + n) ≡ rows_of ts p.objects (suc low) ++ others →
       rows_of ts p.objects (low + suc n) ≡ rows_of ts p.objects low ++ others
-  before-none low n others none more =
-      before low n [] others (none-born low none) more ∙ ap (λ l. l ++ others) (append-nil (rows_of ts p.objects low))
+  before-none low n others none more = search (arith, before, none-born, append-nil)
 
   before-one : (low n k : ℕ) (others : Rows) → taken order low ≡ Some k →
       rows_of ts p.objects (suc low + n) ≡ rows_of ts p.objects (suc low) ++ others →
@@ -76,13 +71,10 @@ module _ (ts : Tables) (p : Places) (births : ℕ) (order : Births) (is : IsOrde
       let up : low + suc n ≡ suc low + n = omega arith in
       elim (cases_eq e.0 low) [
         | inl here ↦
-            before-one low n e.1 (filter_map (slot_row p) (values_of es))
-            (sym (same low (omega arith)) ∙
-            ap (λ (t : Bool). cond t (Some e.1) (taken es low)) (ap (is_at (nat_cmp low)) here ∙ at_same low))
-            (rows-on n (suc low) es
-            (subst (λ (l : ℕ). Rises (suc l) (suc low + n) es) here (subst (λ (h : ℕ). Rises (suc e.0) h es) up r.2))
-            (λ b above. sym (ap (λ (t : Bool). cond t (Some e.1) (taken es b))
-            (at_other b e.0 (λ is. omega arith))) ∙ same b (omega arith)))
+            before-one low n e.1 _ (sym (same low (omega arith)) ∙ ap (λ (t : Bool). cond t (Some e.1) (taken es low))
+            (ap (is_at (nat_cmp low)) here ∙ at_same low)) (rows-on n (suc low) es (subst (λ (l : ℕ). Rises (suc l) (suc
+            low + n) es) here (subst (λ (h : ℕ). Rises (suc e.0) h es) up r.2)) (λ b above. sym (ap (λ (t : Bool). cond
+            t (Some e.1) (taken es b)) (at_other b e.0 (λ is. omega arith))) ∙ same b (omega arith)))
         | inr other ↦ (let rises : Rises (suc low) (suc low + n) (e ∷ es) = (
           omega arith,
           omega arith,
@@ -96,9 +88,7 @@ module _ (ts : Tables) (p : Places) (births : ℕ) (order : Births) (is : IsOrde
 
   rows-by-order : rows_of ts p.objects births ≡ filter_map (slot_row p) (values_of order)
   rows-by-order =
-      let all : births ≡ 0 + births = omega arith in
-      ap (rows_of ts p.objects) all ∙
-      rows-on births 0 order (search arith) (λ b from. refl)
+      search (arith, rows-on births 0 order (search arith) (λ b from. refl))
 
 -- a name that is entered comes last, and is a new one
 module _ (p : Places) where
@@ -111,12 +101,9 @@ module _ (p : Places) where
   all-entered rows out [] e =
       let same = ok_is rows out e in (append-nil rows ∙ same, search arith)
   all-entered rows out (slot ∷ slots) e =
-      let b = bind_ok (with_row rows (slot_row p slot)) (λ (more : Rows). named_from p more slots) out e in
+      let b = bind_ok _ _ out e in
       let one = one-entered rows b.0 (slot_row p slot) b.1 in
-      let others = all-entered b.0 out slots b.2 in (
-        search (arith, append_assoc),
-        λ distinct. others.1 (one.1 distinct),
-      )
+      let others = all-entered b.0 out slots b.2 in search (arith, append_assoc)
 
   -- a name that stands once among rows isn't among those before it
   there-all : (P : ObjectName → Type 0) (rows more : Rows) (row : Row) →
@@ -129,9 +116,9 @@ module _ (p : Places) where
   new-name (r ∷ rows) more row distinct =
       let apart : same_name row.0 r.0 ≡ false = same_name_equiv.symm row.0 r.0 ∙
       there-all (λ y. same_name r.0 y ≡ false) rows more row
-      (IsDistinct-head same_name r.0 (keys_of (rows ++ row ∷ more)) distinct) in
+      (IsDistinct-head _ r.0 _ distinct) in
       ap (λ (t : Bool). cond t (Some r.1) (find_name row.0 rows)) apart ∙
-      new-name rows more row (IsDistinct-tail same_name r.0 (keys_of (rows ++ row ∷ more)) distinct)
+      new-name rows more row (IsDistinct-tail _ r.0 _ distinct)
 
   -- so rows in which no name stands twice are all entered
   enters-all : (rows : Rows) (slots : List ℕ) → AreDistinct (rows ++ filter_map (slot_row p) slots) →
@@ -158,8 +145,8 @@ module _ (s : ObjectsState) (ts : Tables) (ws : List (Option Wait)) (order : Bir
   its-handles k o at =
       let slot = placed_agreed s tied.agreed k o at in
       let there : IsThere s.objects o.id = ap (λ (j : ℕ). id_in (get_or s.objects j None)) slot ∙ ap id_in at in
-      ap (λ (n : ℕ). ltb 0 n) (handles_at s.seen (length s.objects) ts ws counted k (some_within s.objects k o at)
-      ∙ ap (λ (j : ℕ). slot_handles j ts) (sym slot) ∙ handles_are s.objects ts ws named o.id there)
+      ap (λ (n : ℕ). ltb 0 n) (handles_at _ _ ts ws counted k (some_within _ k o at)
+      ∙ ap (λ (j : ℕ). slot_handles j ts) (sym slot) ∙ handles_are _ ts ws named _ there)
 
   directory : rows_of ts s.objects s.births ≡ filter_map (slot_row (places_in s)) (values_of order)
   directory = rows-by-order ts (places_in s) s.births order (is_order s.births order s.objects ordered) its-handles
@@ -172,6 +159,4 @@ module _ (s : ObjectsState) (ts : Tables) (ws : List (Option Wait)) (order : Bir
 
   pub names_complete : IsListing rows ts s.objects s.births → names_in order (places_in s) ≡ Ok rows
   names_complete listing =
-      let same = listing.same ∙ directory in
-      enters-all (places_in s) [] (values_of order) (subst AreDistinct same listing.distinct) ∙
-      ap (λ (z : Rows). Ok z) (sym same)
+      search (arith, enters-all, directory)

@@ -1,5 +1,5 @@
 -- The order of births rises, and has the births of the objects, each with its slot, and no others.
-use Rattle.ob_store.proofs.Cited.{◌≡◌, ℕ, ◌⊎◌, zero, suc, ◌+◌, ◌<◌, ◌≤◌, Bool, true, false, cond, List, [], ◌∷◌, get_or, Option, Some, None, Ok, refl, sym, ap, ◌∙◌, arith, inl, inr, insert_entry, is_at, nat_cmp, Object, Births, births_from}
+use Rattle.ob_store.proofs.Cited.{◌≡◌, ℕ, ◌⊎◌, zero, suc, ◌+◌, ◌<◌, ◌≤◌, Bool, true, false, cond, List, [], ◌∷◌, get_or, Option, Some, None, Ok, refl, sym, ap, ◌∙◌, arith, inl, inr, insert_entry, is_at, nat_cmp, Object, Births, births_from, AreBorn}
 use Rattle.std.specs.declared.cmp.Ordering.{Ordering}
 use Rattle.std.specs.declared.cmp.Ordering.TheVariants.{Less, Equal, Greater}
 use Rattle.std.specs.Ordering.{match_ordering}
@@ -28,6 +28,11 @@ pub none_below : (low high : ℕ) (es : Births) (b : ℕ) → b < low → Rises 
 unfolding Rises
 none_below low high [] b less r = refl
 none_below low high (x ∷ es) b less r = search (arith, none_below (suc x.0) high es b (omega (arith, less)) r.2)
+
+taken_below : (low high : ℕ) (es : Births) (b k : ℕ) → Rises low high es → taken es b ≡ Some k → b < high
+unfolding Rises
+taken_below low high [] b k r is = absurd cc
+taken_below low high (x ∷ es) b k r is = search (arith, at_is, taken_below (suc x.0) high es b k r.2)
 
 -- the order of the births of objects
 pub record IsOrder (objects : List (Option Object)) (births : ℕ) (order : Births) : Type 0 where
@@ -115,3 +120,12 @@ module _ (births : ℕ) (order : Births) where
       | inr c ↦ search arith
     ];
   }
+
+  -- so births are distinct, and below their count
+  pub ordered_born : (objects : List (Option Object)) → births_from births [] 0 objects ≡ Ok order →
+      AreBorn objects births
+  ordered_born objects e =
+      let o = is_order objects e in record {
+        below = λ k x is. taken_below 0 births order x.birth k o.rises (o.each k x is);
+        apart = λ j k x y is it same. grind (arith, o.each j x is, o.each k y it, same);
+      }

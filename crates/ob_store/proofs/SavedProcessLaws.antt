@@ -10,8 +10,8 @@ numbers_codec limit = where_codec (list_codec (option_codec u32_codec) (limit + 
 
 pub processes_codec : (processes threads : ℕ)
     → IsCodec processes_text (processes_at processes threads) (ProcessesFit processes threads)
-processes_codec processes threads = where_codec (as_codec processes_of lists_of (λ _. refl) (λ _. refl)
-    (where_codec (both_codec (numbers_codec processes) (numbers_codec threads)) are_of_live)) are_populated
+processes_codec processes threads = where_codec (as_codec _ _ (λ _. refl) (λ _. refl) (where_codec (both_codec
+    (numbers_codec _) (numbers_codec _)) _)) _
 
 -- what they say of threads
 module _ (ps : List (Option ℕ)) where

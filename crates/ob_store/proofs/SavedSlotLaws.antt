@@ -19,37 +19,19 @@ module _ {A B : Type 0} where
   as-split : (to : A → B) (read : List ℕ → Read A) (bytes : List ℕ) (x : B) (rest : List ℕ) → as_at to read bytes ≡
       Ok (x, rest) →
       (a : A) × (read bytes ≡ Ok (a, rest)) × (to a ≡ x)
-  as-split to read bytes x rest e =
-      let b = bind_ok (read bytes) (λ (a : A × List ℕ). Ok (to a.0, a.1)) (x, rest) e in
-      let q = ok_is (to b.0.0, b.0.1) (x, rest) b.2 in
-      (b.0.0, b.1 ∙ ap (λ (z : B × List ℕ). Ok (b.0.0, z.1)) q, ap (λ (z : B × List ℕ). z.0) q)
+  as-split to read bytes x rest e = grind arith
 
   some-split : (to : A → Option B) (read : List ℕ → Read A) (bytes : List ℕ) (x : B) (rest : List ℕ) →
       some_at to read bytes ≡ Ok (x, rest) →
       (a : A × List ℕ) × (read bytes ≡ Ok a) × (to a.0 ≡ Some x)
   some-split to read bytes x rest e =
       let b = bind_ok (read bytes) (λ (a : A × List ℕ). given_at (to a.0) a.1) (x, rest) e in
-      (b.0, b.1, by (to b.0.0) b.0.1 b.2)
-    where
-      by : (o : Option B) (after : List ℕ) → given_at o after ≡ Ok (x, rest) → o ≡ Some x
-      by None after e = absurd cc
-      by (Some y) after e = ap (λ (z : B × List ℕ). Some z.0) (ok_is (y, after) (x, rest) e)
+      (b.0, b.1, grind arith)
 
   both-split : (read_a : List ℕ → Read A) (read_b : List ℕ → Read B) (bytes : List ℕ) (x : A × B) (rest : List ℕ) →
       both_at read_a read_b bytes ≡ Ok (x, rest) →
       (mid : List ℕ) × (read_a bytes ≡ Ok (x.0, mid)) × (read_b mid ≡ Ok (x.1, rest))
-  both-split read_a read_b bytes x rest e =
-      let a = bind_ok (read_a bytes) (λ (a : A × List ℕ). read_b a.1 >>= λ (b : B × List ℕ). Ok ((a.0, b.0), b.1)) (
-        x,
-        rest,
-      ) e in
-      let b = bind_ok (read_b a.0.1) (λ (b : B × List ℕ). Ok ((a.0.0, b.0), b.1)) (x, rest) a.2 in
-      let q = ok_is ((a.0.0, b.0.0), b.0.1) (x, rest) b.2 in (
-        a.0.1,
-        a.1 ∙ ap (λ (z : (A × B) × List ℕ). Ok (z.0.0, a.0.1)) q,
-        b.1 ∙
-            ap (λ (z : (A × B) × List ℕ). Ok (z.0.1, z.1)) q,
-      )
+  both-split read_a read_b bytes x rest e = grind arith
 
 -- a word has the descriptor of an object that was read
 decoded-given : (n : ℕ) (d : Descr) → decoded n ≡ Some d → IsGiven d
@@ -71,16 +53,10 @@ option-given : (bytes : List ℕ) (x : Option SavedObject) (rest : List ℕ) →
     Given x
 unfolding option_at
 option-given [] x rest e = absurd cc
-option-given (zero ∷ bytes) x rest e = subst (λ (z : Option SavedObject × List ℕ). Given z.0) (ok_is (None, bytes) (
-  x,
-  rest,
-) e) tt
+option-given (zero ∷ bytes) x rest e = search arith
 option-given (suc zero ∷ bytes) x rest e =
-    let b = bind_ok (object_at bytes) (λ (o : SavedObject × List ℕ). Ok (Some o.0, o.1)) (x, rest) e in
-    subst (λ (z : Option SavedObject × List ℕ). Given z.0) (ok_is (Some b.0.0, b.0.1) (
-      x,
-      rest,
-    ) b.2) (object-given bytes b.0.0 b.0.1 b.1)
+    let b = bind_ok _ _ _ e in
+    search (arith, object-given bytes b.0.0 b.0.1 b.1)
 option-given (suc (suc n) ∷ bytes) x rest e = absurd cc
 
 -- what is known of a slot that was read
@@ -92,7 +68,7 @@ pub slot_sound : (max_gen clock : ℕ) (bytes rest : List ℕ) (x : SavedSlot) �
     Ok (x, rest) → IsSlotSound max_gen clock x
 slot_sound max_gen clock bytes rest x e =
     let b = bind_ok (any_slot_at bytes) _ (x, rest) e in
-    let g = guard_passed (slot_stands max_gen clock b.0.0) Value b.0 (x, rest) b.2 in
+    let g = guard_passed _ _ b.0 _ b.2 in
     let a = as-split slot_of (both_at (number_at w32) (both_at reading.flag_at (option_at object_at))) bytes b.0.0 b.0.1
     b.1 in
     let c = both-split (number_at w32) (both_at reading.flag_at (option_at object_at)) bytes a.0 b.0.1 a.1 in
@@ -107,8 +83,7 @@ slot_sound max_gen clock bytes rest x e =
 -- a test of how many there are, behind which they are read
 few_passed : {A : Type 0} (few : Bool) (r : Read A) (y : A × List ℕ) → cond few r (Err Value) ≡ Ok y
     → (few ≡ true) × (r ≡ Ok y)
-few_passed true r y e = (refl, e)
-few_passed false r y e = absurd cc
+few_passed = search arith
 
 -- so many items, each of which is so
 pub items_all : {A : Type 0} (at : List ℕ → Read A) (P : A → Type 0) → ((bytes rest : List ℕ) (x : A) → at bytes ≡
@@ -123,7 +98,7 @@ items_all {A = A} at P pass d (suc n) bytes xs rest e =
       x.0 ∷ ys.0,
       ys.1,
     )) (xs, rest) e in
-    let b = bind_ok (items_at at n a.0.1) (λ (ys : List A × List ℕ). Ok (a.0.0 ∷ ys.0, ys.1)) (xs, rest) a.2 in
+    let b = bind_ok _ _ _ a.2 in
     let ih = items_all at P pass d n a.0.1 b.0.0 b.0.1 b.1 in
     grind arith
 
@@ -133,14 +108,13 @@ pub rows_all : (short : Bool) (n max_gen clock : ℕ) → 1 ≤ max_gen → (byt
     → (length xs ≡ n) × ((k : ℕ) → k < n → IsSlotSound max_gen clock (get_or xs k fresh_slot))
 unfolding list_at
 rows_all false n max_gen clock some bytes rest xs e =
-    items_all (slot_at max_gen clock) (IsSlotSound max_gen clock) (slot_sound max_gen clock) fresh_slot n bytes xs rest e
+    items_all _ _ (slot_sound _ _) _ n _ xs _ e
 rows_all true n max_gen clock some bytes rest xs e =
     let b = some-split (filled n) (list_at n (slot_at max_gen clock)) bytes xs rest e in
     let c = bind_ok (number_at w32 bytes)
     (λ (c : ℕ × List ℕ). cond (leb c.0 n) (items_at (slot_at max_gen clock) c.0 c.1) (Err Value)) b.0 b.1 in
     let few = few_passed (leb c.0.0 n) (items_at (slot_at max_gen clock) c.0.0 c.0.1) b.0 c.2 in
-    let all = items_all (slot_at max_gen clock) (IsSlotSound max_gen clock) (slot_sound max_gen clock) fresh_slot c.0.0
-    c.0.1 b.0.0 b.0.1 few.1 in
+    let all = items_all _ _ (slot_sound max_gen clock) _ _ _ _ _ few.1 in
     let g = cond_some (ends_used b.0.0) (with_fresh n b.0.0) xs b.2 in
     let fresh : IsSlotSound max_gen clock fresh_slot = record { stands = search (arith, le-leb); given = tt } in (
       ap (λ (z : List SavedSlot). length z) (sym g.1)
@@ -168,14 +142,4 @@ module _ (max_gen clock : ℕ) (x : SavedSlot) (sound : IsSlotSound max_gen cloc
   -- its body is what its descriptor says
   pub slot_formed : (k : ℕ) (o : Object) (b : Body) → object_from k x ≡ Some o → body_from x ≡ Some b →
       unset (form_of b) ≡ form_in o.descr
-  slot_formed k o b is has = by x.object stands is has
-    where
-      by : (s : Option SavedObject) → object_stands clock s ≡ true →
-          object_in_slot (record { slot = k; generation = x.generation }) s ≡ Some o → body_in s ≡ Some b →
-          unset (form_of b) ≡ form_in o.descr
-      by None holds is has = absurd cc
-      by (Some s) holds is has =
-          let body : body_stands clock s.descr (Some b) ≡ true = subst (λ (y : Option Body). body_stands clock s.descr y ≡ true) has holds in
-          let same : descr_of b ≡ s.descr = same_of_descr (descr_of b) s.descr (search (arith, body)) in
-          let descr : s.descr ≡ o.descr = search (arith, is) in
-          ap form_in (same ∙ descr)
+  slot_formed k o b is has = search (arith, stands, same_of_descr)

@@ -54,12 +54,9 @@ generations_back s tied =
 module _ (p : PartsState) (kept : StoreInvariant p) (tied : ObjectsInvariant p.objects) where
   slots-there : (n : ℕ) → n < length p.waits.waits
       → are_below p.limits.slots (ids_of (get_or p.waits.waits n None)) ≡ true
-  slots-there n within = all_from (λ (id : Id). ltb id.slot p.limits.slots)
-      (ids_of (get_or p.waits.waits n None)) nowhere
-      (λ i lt. (let id = get_or (ids_of (get_or p.waits.waits n None)) i nowhere in
-      let there = there_within p.objects.objects id (kept.sound.named.blocks id (place_counted p.objects.objects
-      p.tables.tables p.waits.waits kept.sound.named n i within lt)) in
-      lt-ltb id.slot p.limits.slots (omega (arith, ap (λ (z : Shape). z.slots) kept.sound.limited.shape_is))))
+  slots-there n within = all_from _ (ids_of (get_or p.waits.waits n None)) nowhere (λ i lt.
+      (let there = there_within p.objects.objects _ (kept.sound.named.blocks _ (place_counted _ _ _ kept.sound.named n i within lt)) in
+      lt-ltb _ p.limits.slots (omega (arith, ap (λ (z : Shape). z.slots) kept.sound.limited.shape_is))))
 
   wait-within : (w : Option Wait) → ((t : ℕ) → thread_of w ≡ Some t → IsLive p.processes.threads t)
       → are_below p.limits.slots (ids_of w) ≡ true → is_within (length p.processes.threads) p.limits.slots w ≡ true
@@ -100,10 +97,7 @@ module _ (p : PartsState) (kept : StoreInvariant p) (tied : ObjectsInvariant p.o
 
   tables_there : (rest : List ℕ) → tables_at p.limits.processes p.limits.handles (length p.processes.processes)
       (tables_text p.tables.tables ++ rest) ≡ Ok (p.tables, rest)
-  tables_there rest = subst (λ (z : ℕ × (ℕ × ℕ)). tables_at z.0 z.1.0 z.1.1 (tables_text p.tables.tables ++ rest)
-      ≡ Ok (p.tables, rest))
-      (λ i. (sound.limited.processes_are i, (sound.limited.handles_are i, sound.processes_kept.tabled i)))
-      (tables_again p.tables rest tables)
+  tables_there rest = rw (← sound.limited.processes_are, ← sound.limited.handles_are, ← sound.processes_kept.tabled) (tables_again p.tables rest tables)
 
   tables_back : (rest : List ℕ) → tables_for p.limits p.processes.processes
       (tables_text p.tables.tables ++ rest) ≡ Ok (p.tables, rest)
@@ -112,7 +106,7 @@ module _ (p : PartsState) (kept : StoreInvariant p) (tied : ObjectsInvariant p.o
   waits_back : (rest : List ℕ) → waits_at (last_wait p.limits) p.waits.clock (length p.processes.threads) p.limits.slots
       (waits_text p.waits.waits ++ rest) ≡ Ok (p.waits, rest)
   waits_back rest = rw (← sound.limited.waits_are)
-      (waits_again (length p.processes.threads) p.limits.slots p.waits rest waits (waits_within p kept tied))
+      (waits_again _ _ _ _ waits (waits_within p kept tied))
 
   same_whole : whole_with p.limits p.processes p.tables p.waits over ≡ begun_again (whole_of p)
   same_whole = search (arith, generations_back)
@@ -135,13 +129,11 @@ module _ (p : PartsState) (kept : StoreInvariant p) (tied : ObjectsInvariant p.o
       let read : parts_at p.limits p.waits.clock (processes_text p.processes ++ e)
       ≡ Ok (whole_with p.limits p.processes p.tables p.waits over, rest) =
       rw (
-        slots_there p.limits.reuse p.limits.slots (slots_saved p.objects) (processes_text p.processes) (tables_text p.tables.tables)
-            (waits_text p.waits.waits) rest
-            (xs-long p.objects tied ∙ ap (λ (z : Shape). z.slots) sound.limited.shape_is),
+        slots_there _ _ _ _ _ _ _ (xs-long _ tied ∙ ap (λ (z : Shape). z.slots) sound.limited.shape_is),
         processes_again e,
         tables_back t,
-        waits_back (objects_text p.limits.reuse p.objects ++ rest),
-        objects_back rest,
+        waits_back _,
+        objects_back _,
       ) refl in
       read ∙ ap (λ (w : Whole). Ok (w, rest)) same_whole
 
@@ -169,12 +161,7 @@ pub tables_read : (processes handles given : ℕ) (bytes : List ℕ) (t : Handle
     → tables_at processes handles given bytes ≡ Ok (t, rest)
     → (t.process_limit ≡ processes) × ((t.handle_limit ≡ handles) × (length t.tables ≡ given))
 tables_read processes handles given bytes t rest e =
-    let x = bind_ok (where_at (are_bounded given handles) (list_at given table_at) bytes)
-    (λ (x : List (List (Option Entry)) × List ℕ). Ok (with_limits processes handles x.0, x.1)) (t, rest) e in
-    let y = bind_ok (list_at given table_at bytes)
-    (λ (y : List (List (Option Entry)) × List ℕ). cond (are_bounded given handles y.0) (Ok y) (Err Value)) x.0 x.1 in
-    let g = guard_passed (are_bounded given handles y.0.0) Value y.0 x.0 y.2 in
-    grind (arith, g.1)
+    search arith
 
 -- and so are those of which the processes that aren't live have none
 pub tables_kept : (limits : Limits) (ps : List (Option ℕ)) (bytes : List ℕ) (t : HandleTables) (rest : List ℕ)
@@ -194,8 +181,7 @@ lists_were limits clock bytes l are e =
     let lc = ((processes_codec limits.processes limits.threads).takes bytes p c.0.1 are c.1).0 in
     let d = bind_ok (tables_for limits p.processes c.0.1) _ l c.2 in
     let t = d.0.0 in
-    let ld = (tables_take limits.processes limits.handles (length p.processes) c.0.1 t d.0.1 lc.rest_fits
-    (tables_kept limits p.processes c.0.1 t d.0.1 d.1).0).0 in
+    let ld = (tables_take _ _ _ _ t _ lc.rest_fits (tables_kept limits p.processes c.0.1 t d.0.1 d.1).0).0 in
     let f = bind_ok (waits_at (last_wait limits) clock (length p.threads) limits.slots d.0.1) _ l d.2 in
     let list = f.0.0 in
     let lf = (waits_take (last_wait limits) clock (length p.threads) limits.slots d.0.1 list f.0.1 ld.rest_fits f.1).0 in

@@ -10,12 +10,11 @@ use Rattle.ob_store.specs.Objects.{header_blocks}
 use Rattle.ob_store.specs.SavedWaits.{object_blocks, state_stands, wait_of, waits_stand}
 use Rattle.ob_store.proofs.LabelLaws.{object_read}
 use Rattle.ob_store.proofs.ByPlace.{all_at, all_from}
+use Rattle.ob_store.proofs.HeaderLaws.{read}
 
 -- a slot without an object has no blocks
 no-blocks : (xs : List (Option ObjectHeader)) (k : ℕ) → get_or xs k None ≡ None → get_or (map header_blocks xs) k 0 ≡ 0
-no-blocks [] k none = refl
-no-blocks (x ∷ xs) zero none = ap header_blocks none
-no-blocks (x ∷ xs) (suc k) none = no-blocks xs k none
+no-blocks xs k none = search (arith, read)
 
 module _ (s : Slots ObjectHeader) (tags : List Tag) (k : ℕ) (waits : List (Option Wait)) where
   pub blocks_vacant : get_or s.bodies k None ≡ None →
@@ -41,14 +40,9 @@ pub record HasCounted (waits : List (Option Wait)) (p : Places) (slot : ℕ) (q 
 module _ (waits : List (Option Wait)) (p q : Places) (slot : ℕ) (h : HasCounted waits p slot q) where
   pub counts_end : length p.objects ≤ slot → q ≡ with_blocks waits p
   counts_end all =
-      let long : length (map (object_blocks waits) p.objects) ≡ length p.objects =
-      length-map p.objects (object_blocks waits) in
       let same : q.seen.blocks ≡ map (object_blocks waits) p.objects =
-      ext_get_or 0 q.seen.blocks (map (object_blocks waits) p.objects) (h.length_is ∙ sym long)
-      (λ k lt. (let within : k < length p.objects = omega arith in
-      h.done k (omega arith) within ∙
-      sym (get_or-map (object_blocks waits) p.objects k None 0 within))) in
-      h.same ∙ ap (λ (blocks : List ℕ). record p { seen = record p.seen { blocks = blocks } }) same
+      ext_get_or 0 _ _ (search (arith, length-map, h.length_is)) (λ k lt. search (arith, h.done, get_or-map, h.length_is)) in
+      search arith
 
 module _ (limit : ℕ) (threads : List (Option ℕ)) (s : ObjectsState) (waits : List (Option Wait)) where
   abbrev stands : Option Wait → Bool

@@ -20,9 +20,7 @@ ends_before s named = search (arith, has_blocks, ends_first)
 -- where nothing is to end, the waits alone settle
 pub settled_waits : (s : State) → IsNamed s.objects s.tables s.waits → HasBodies (objects_of s)
     → settled s ≡ with_scene s (waits.settled (scene_of s))
-settled_waits s named bodied = ends_before s named
-    ∙ ap (λ (o : CountedBodies). with_scene s (waits.settled (record { objects = o; waits = s.waits })))
-    (sym (none_to_end (objects_of s) bodied))
+settled_waits s named bodied = search (arith, ends_before s named, none_to_end (objects_of s) bodied)
 
 -- and where no wait is ready, what is to end alone ends
 pub settled_ends : (s : State) (after : CountedBodies) → IsNamed s.objects s.tables s.waits

@@ -21,9 +21,7 @@ module _ (p : PartsState) (kept : StoreInvariant p) (tied : ObjectsInvariant p.o
   row_open : (name : ObjectName) (id : Id) → IsRow p.tables.tables p.objects.objects (name, id)
       → IsOpenByName (state_of p) name id
   row_open name id row =
-      let place : row.place ≡ id.slot = sym (placed_agreed o tied.agreed row.place row.object row.is_there)
-      ∙ ap (λ (i : Id). i.slot) row.its_id in
-      search (arith, o.objects, row.is_there, row.its_id, row.its_name, row.object)
+      search (arith, placed_agreed)
 
   -- and each such object has a row
   open_row : (name : ObjectName) (id : Id) → IsOpenByName (state_of p) name id
@@ -55,10 +53,9 @@ module _ (p : PartsState) (kept : StoreInvariant p) (tied : ObjectsInvariant p.o
         sizes = (
           long,
           tied.agreed.bodied ∙ is,
-          handles_long o.seen
-              (length o.objects) p.tables.tables p.waits.waits kept.sound.counted
+          handles_long _ _ _ _ kept.sound.counted
               ∙ long,
-          blocks_long o.seen (length o.objects) p.tables.tables p.waits.waits kept.sound.counted ∙ long,
+          blocks_long _ _ _ _ kept.sound.counted ∙ long,
         );
         slots = (refl, λ k x at. placed_agreed o tied.agreed k x at);
         bodies = (refl, unbodied);

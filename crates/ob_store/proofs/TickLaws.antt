@@ -41,12 +41,7 @@ later_before : (clock now : ℕ) (due : Option ℕ) → clock ≤ now → IsAfte
 later_before = search arith
 
 body_later : (clock now : ℕ) (b : Body) → clock ≤ now → IsAfter clock (due_of b) → IsAfter clock (due_of (after_fire now b))
-body_later clock now (Event e) later h = h
-body_later clock now (Mutex m) later h = h
-body_later clock now (Semaphore s) later h = h
-body_later clock now (Timer t) later h =
-    later_before clock now (timer.after_fire now t).due later (fired_later now t)
-body_later clock now (Host o) later h = h
+body_later = search (arith, later_before, fired_later)
 
 slot_later : (clock now : ℕ) (x : Option Body) → clock ≤ now → IsAfter clock (slot_due x)
     → IsAfter clock (slot_due (slot_fired now x))
@@ -54,15 +49,7 @@ slot_later = search (arith, body_later)
 
 formed_fired : (clock now : ℕ) (objects : List (Option Object)) (bodies : List (Option Body))
     → clock ≤ now → AreFormed clock objects bodies → AreFormed clock objects (map (slot_fired now) bodies)
-formed_fired clock now objects bodies later f = record {
-  each = λ k o b there is. by k o b (get_or bodies k None) refl there (search (arith, read));
-  later = λ k. rw (read (slot_fired now) bodies k) (slot_later clock now (get_or bodies k None) later (f.later k));
-}
-  where
-    by : (k : ℕ) (o : Object) (b : Body) (x : Option Body) → get_or bodies k None ≡ x → get_or objects k None ≡ Some o
-        → slot_fired now x ≡ Some b → unset (form_of b) ≡ form_in o.descr
-    by k o b None at there is = absurd (cc)
-    by k o b (Some c) at there is = search (arith, unset_fired)
+formed_fired clock now objects bodies later f = search (arith, unset_fired, slot_later, read)
 
 -- a tick begins: the timers that are due have fired, which q tells
 module _ (p : PartsState) (q : ObjectsState) (a : SignaledState) (now : ℕ)
@@ -78,10 +65,9 @@ module _ (p : PartsState) (q : ObjectsState) (a : SignaledState) (now : ℕ)
       (record (state_of p) { bodies = map (slot_fired now) p.objects.seen.bodies })
   way_fired = record {
     tied = tied;
-    sound = sound_rested p p.processes q p.waits a rest kept.sound refl kept.sound.processes_kept
-        (rw seen (record { handles = kept.sound.counted.handles; blocks = kept.sound.counted.blocks }))
-        kept.sound.named
-        (rw bodies_are (formed_fired _ now _ _ later kept.sound.formed))
+    sound = sound_rested p _ q _ a rest kept.sound refl kept.sound.processes_kept (rw seen (record { handles =
+        kept.sound.counted.handles; blocks = kept.sound.counted.blocks })) kept.sound.named (rw bodies_are (formed_fired
+        _ now _ _ later kept.sound.formed))
         (search (arith, read, kept.sound.of_live.owners, kept.sound.of_live.waiters))
         (search (arith, read, room_changed, kept.sound.room));
     rest = state_rested p p.processes q p.waits a rest;

@@ -30,9 +30,7 @@ pub tied_handle_left : (s : ObjectsState) (k : ℕ) → 0 < get_or s.seen.handle
     → ObjectsInvariant (with_keeper (without_handle (places_in s) k) s.births (closed s.keeper k))
 tied_handle_left s k some ends h =
     let is = and_parts (is_some (body_at s k)) (is_last_handle (places_in s) k) ends in
-    tied_ended s (without_handle (places_in s) k).seen k
-    (search arith) is.0
-    (bodied_handle_left (places_in s) k some h.bodied) h
+    tied_ended s _ k (search arith) is.0 (bodied_handle_left (places_in s) k some h.bodied) h
 
 -- a block of an object leaves, and with the last one the body
 module _ (s : ObjectsState) (q : Places) (id : Id) (seen : q.seen ≡ without_block s.seen id)
@@ -44,8 +42,7 @@ module _ (s : ObjectsState) (q : Places) (id : Id) (seen : q.seen ≡ without_bl
       → ObjectsInvariant (with_keeper q s.births (closed s.keeper id.slot))
   tied_block_ended ends =
       let is = and_parts (is_some (body_at s id.slot)) (is_last_block (places_in s) id.slot) ends in
-      rw left (tied_ended s (without_block s.seen id) id.slot
-      (search arith) is.0 (ends_left id s.seen h.bodied) h)
+      rw left (tied_ended s _ _ (search arith) is.0 (ends_left id _ h.bodied) h)
 
   pub tied_block_left : is_some (body_at s id.slot) && is_last_block (places_in s) id.slot ≡ false
       → ObjectsInvariant (with_keeper q s.births s.keeper)

@@ -1,5 +1,6 @@
 -- Waits whose time is up are answered one after another, and the state settles behind each: that is the same as all at
 -- once.
+use Rattle.std.proofs.lemmas.Bool.Decides.{nat_tests}
 use Rattle.ob_store.proofs.Cited.{◌≡◌, ℕ, ◌<◌, ◌≤◌, List, length, Option, Some, None, refl, ap, ◌∙◌, sym, arith, get_or, map, true, false, inl, inr, count_by, is_some, get_or_past, cases_lt, Body, Wait, is_overdue, ended, slot_form, CountedBodies, IsSettled, Scene, slot_blocks, settled_less, IsNamed, State, objects_of, settled, timed_out, slot_is_due, AreLeft}
 use Rattle.ob_waits.specs.Deadlines as waits_time
 use Rattle.ob_waits.specs.Waits as waits
@@ -19,9 +20,7 @@ ended_left o = search (arith, ended_at, length-ended)
 -- where no wait is ready, what is to end alone ends
 by_ends : (s : State) → IsNamed s.objects s.tables s.waits → IsSettled s.bodies s.waits
     → settled s ≡ record s { bodies = (ended (objects_of s)).bodies }
-by_ends s named quiet = settled_ends s (ended (objects_of s)) named refl
-    (settled_less s.bodies (ended (objects_of s)).bodies s.waits
-    (less_gone s.bodies (ended (objects_of s)).bodies (ended_left (objects_of s))) quiet)
+by_ends s named quiet = settled_ends s _ named refl (settled_less _ _ _ (less_gone _ _ (ended_left _)) quiet)
 
 -- one wait is answered before the others
 module _ (s : State) (now n : ℕ) (named : IsNamed s.objects s.tables s.waits) (quiet : IsSettled s.bodies s.waits)
@@ -62,14 +61,7 @@ module _ (s : State) (now n : ℕ) (named : IsNamed s.objects s.tables s.waits) 
   others_are = ap (timed_out now) one_is ∙ (search (arith, lapsed_twice))
 
   fewer_blocks : (k : ℕ) → get_or (objects_of all).blocks k 0 ≤ get_or (objects_of one).blocks k 0
-  fewer_blocks k = elim (cases_lt k (length s.objects)) [
-    | inl lt ↦ (let a = get_by_slot (length s.objects) (λ i. slot_blocks i all.waits) k lt in
-        let b = get_by_slot (length s.objects) (λ i. slot_blocks i one.waits) k lt in
-        let c : slot_blocks k all.waits ≡ slot_blocks k (map (waits_time.timed_out now) one.waits) =
-        ap (slot_blocks k) (sym same_waits) in
-        let d = slot_lapsed k now one.waits in omega arith)
-    | inr le ↦ search (arith, get_or_past, length-by_slot)
-  ]
+  fewer_blocks k = grind (arith, nat_tests, get_by_slot, slot_lapsed k now one.waits, ap (slot_blocks k) same_waits, get_or_past, length-by_slot)
 
   others_quiet : IsSettled left all.waits
   others_quiet = settled_less s.bodies left all.waits (less_gone s.bodies left (ended_left (objects_of one))) all_quiet
@@ -77,8 +69,8 @@ module _ (s : State) (now n : ℕ) (named : IsNamed s.objects s.tables s.waits) 
   pub time_out_step : settled (timed_out now (settled (with_answer s n 258))) ≡ settled (timed_out now s)
   time_out_step =
       let bodies : ended (objects_of others) ≡ ended (objects_of all) =
-      ended_twice (objects_of all) (objects_of one).blocks fewer_blocks in
-      ap settled others_are ∙ by_ends others all_named others_quiet
+      ended_twice _ _ fewer_blocks in
+      ap settled others_are ∙ by_ends _ all_named others_quiet
       ∙ ap (λ (o : CountedBodies). record all { bodies = o.bodies }) bodies ∙ sym (by_ends all all_named all_quiet)
 
   -- no timer becomes due by it
@@ -93,9 +85,7 @@ module _ (s : State) (now n : ℕ) (named : IsNamed s.objects s.tables s.waits) 
   -- and one wait fewer is overdue
   pub fewer_step : count_by (is_overdue now) (settled (with_answer s n 258)).waits < count_by (is_overdue now) s.waits
   fewer_step =
-      let same : count_by (is_overdue now) (settled one).waits ≡ count_by (is_overdue now) one.waits =
-      ap (λ (t : State). count_by (is_overdue now) t.waits) one_is in
-      let fewer = fewer_overdue now s.waits n over in omega arith
+      search (arith, one_is, fewer_overdue)
 
 -- where no time is up, the clock alone goes on
 pub time_out_last : (s : State) (now : ℕ) → settled s ≡ s → ((n : ℕ) → is_overdue now (get_or s.waits n None) ≡ false)
@@ -107,11 +97,4 @@ pub undue_settled : (first : Scene) (after : CountedBodies) (ws' : List (Option 
     → ◌≡◌ {A = Scene} (record { objects = after; waits = ws' }) (waits.settled first)
     → ((k : ℕ) → slot_is_due now (get_or first.objects.bodies k None) ≡ false) → (k : ℕ)
     → slot_is_due now (get_or after.bodies k None) ≡ false
-undue_settled first after ws' now value undue k = by (get_or after.bodies k None) refl
-  where
-    by : (x : Option Body) → get_or after.bodies k None ≡ x → slot_is_due now x ≡ false
-    by None is = refl
-    by (Some b) is =
-        let some : is_some (get_or (waits.settled first).objects.bodies k None) ≡ true = search arith in
-        let form : slot_form (Some b) ≡ slot_form (get_or first.objects.bodies k None) = search (arith, settled_form) in
-        search arith
+undue_settled first after ws' now value undue k = grind (arith, nat_tests, settled_form first k, undue k)

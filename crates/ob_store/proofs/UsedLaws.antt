@@ -15,11 +15,7 @@ fresh-is x e = search arith
 -- as many are left out as are filled in again
 used-short : (xs : List SavedSlot) → length (used xs) ≤ length xs
 used-short [] = omega arith
-used-short (x ∷ xs) = by (used xs) (used-short xs)
-  where
-    by : (ys : List SavedSlot) → length ys ≤ length xs → length (with_used x ys) ≤ suc (length xs)
-    by [] le = grind arith
-    by (y ∷ ys) le = omega arith
+used-short (x ∷ xs) = search (arith, used-short xs)
 
 pub used_filled : (xs : List SavedSlot) → with_fresh (length xs) (used xs) ≡ xs
 used_filled [] = refl
@@ -42,11 +38,7 @@ used_filled (x ∷ xs) = by (used xs) (used_filled xs)
 
 used-ends : (xs : List SavedSlot) → ends_used (used xs) ≡ true
 used-ends [] = refl
-used-ends (x ∷ xs) = by (used xs) (used-ends xs)
-  where
-    by : (ys : List SavedSlot) → ends_used ys ≡ true → ends_used (with_used x ys) ≡ true
-    by [] e = grind arith
-    by (y ∷ ys) e = e
+used-ends (x ∷ xs) = search (arith, used-ends xs)
 
 -- slots of which the last had an object stay, and those behind them that never had one don't count
 used-same : (xs : List SavedSlot) → ends_used xs ≡ true → used xs ≡ xs
@@ -68,10 +60,7 @@ ends_more (y ∷ []) x = refl
 ends_more (y ∷ z ∷ zs) x = ends_more (z ∷ zs) x
 
 pub fresh_long : (n : ℕ) (xs : List SavedSlot) → length xs ≤ n → length (with_fresh n xs) ≡ n
-fresh_long n xs le =
-    let a = length-append xs (replicate (n - length xs) fresh_slot) in
-    let b = length-replicate (n - length xs) fresh_slot in
-    omega arith
+fresh_long n xs le = search (arith, length-append, length-replicate)
 
 -- where each stands there, none is filled in
 pub fresh_none : (n : ℕ) (xs : List SavedSlot) → length xs ≡ n → with_fresh n xs ≡ xs
@@ -88,15 +77,7 @@ one_filled xs x k le =
 module _ (P : SavedSlot → Type 0) where
   all-used : (xs : List SavedSlot) → AllByRecursion P xs → AllByRecursion P (used xs)
   all-used [] all = tt
-  all-used (x ∷ xs) all = by (used xs) (all-used xs all.1)
-    where
-      by : (ys : List SavedSlot) → AllByRecursion P ys → AllByRecursion P (with_used x ys)
-      by [] each = one (is_fresh x)
-        where
-          one : (b : Bool) → AllByRecursion P (cond b [] (x ∷ []))
-          one true = tt
-          one false = (all.0, tt)
-      by (y ∷ ys) each = (all.0, each)
+  all-used (x ∷ xs) all = search (arith, all-used xs all.1)
 
   all-fresh : P fresh_slot → (xs : List SavedSlot) (n : ℕ) → AllByRecursion P xs
       → AllByRecursion P (xs ++ replicate n fresh_slot)
@@ -119,20 +100,9 @@ module _ (n max_gen clock : ℕ) where
   pub used_there : n < 2 ^ 32 → (xs : List SavedSlot) → RowsFit n max_gen clock xs
       → (filled n (used xs) ≡ Some xs) × FewFit n (SlotFits max_gen clock) (used xs)
   used_there few xs fit =
-      let short = used-short xs in
-      let is : with_fresh n (used xs) ≡ xs = rw (← fit.0) (used_filled xs) in (
-        ap (λ (b : Bool). cond b (Some (with_fresh n (used xs))) None) (used-ends xs) ∙ ap Some is,
-        ((omega (arith, fit.0), all-used (SlotFits max_gen clock) xs fit.1), le-leb (length (used xs)) n (omega (arith, fit.0))),
-      )
+      search (arith, used-short, used_filled, used-ends, all-used, le-leb)
 
   pub used_back : SlotFits max_gen clock fresh_slot → (ys xs : List SavedSlot)
       → FewFit n (SlotFits max_gen clock) ys → filled n ys ≡ Some xs → (used xs ≡ ys) × RowsFit n max_gen clock xs
   used_back fresh ys xs fits e =
-      let g = cond_some (ends_used ys) (with_fresh n ys) xs e in
-      let le = leb-true (length ys) n fits.1 in (
-        subst (λ (z : List SavedSlot). used z ≡ ys) g.1 (used_is ys (n - length ys) g.0),
-        subst (RowsFit n max_gen clock) g.1 (
-          fresh_long n ys le,
-          all-fresh (SlotFits max_gen clock) fresh ys (n - length ys) fits.0.1,
-        ),
-      )
+      search (arith, used_is, fresh_long, all-fresh, cond_some, leb-true)

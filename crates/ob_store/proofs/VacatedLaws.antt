@@ -16,6 +16,6 @@ module _ (ps : List (Option ℕ)) (ts : List (List (Option Entry))) where
   pub vacated_from : (n : ℕ) → length ts ≡ n → are_vacated ps ts n ≡ true → (q : ℕ) → get_or ps q None ≡ None
       → get_or ts q [] ≡ []
   vacated_from n long all q none = elim (cases_lt q n) [
-    | inl lt ↦ empty_of (get_or ps q None) (get_or ts q []) (below_at (is_vacated ps ts) n q all lt) none
+    | inl lt ↦ empty_of _ _ (below_at _ n q all lt) none
     | inr past ↦ search (arith, get_or_past)
   ]

@@ -1,5 +1,5 @@
 -- What is kept as a thread takes what it waits for, and as waits come, are answered and go.
-use Rattle.ob_store.proofs.Cited.{at_place, ◌≡◌, ℕ, suc, ◌+◌, ◌<◌, ◌≤◌, List, [], ◌∷◌, ◌++◌, length, Option, Some, None, refl, ap, ◌∙◌, sym, arith, get_or, set, Bool, true, false, inl, inr, count_by, length-set, get_or_past, get_or-set_same, get_or-set_other, cases_lt, same_id, Id, Body, handles_among, Mode, Wait, CountedBodies, without_blocks, HasRoom, IsSettled, thread_of, nowhere, WaitList, ids_of, new_wait, slot_blocks, slot_places, settled_less, ObjectsInvariant, IsLive, AreFormed, AreOfLive, IsCounted, IsNamed, IsSound, StoreInvariant, Object, ObjectsState, KeptRest, kept_rest, with_blocks_of, PartsState, state_of, whole_of, settled, AreLeft, IsUnderWay}
+use Rattle.ob_store.proofs.Cited.{at_place, ◌≡◌, ℕ, suc, ◌+◌, ◌<◌, ◌≤◌, List, [], ◌∷◌, ◌++◌, length, Option, Some, None, refl, ap, ◌∙◌, sym, arith, get_or, set, Bool, true, false, inl, inr, count_by, length-set, get_or_past, get_or-set_same, get_or-set_other, cases_lt, same_id, Id, Body, handles_among, Mode, Wait, CountedBodies, without_blocks, HasRoom, IsSettled, thread_of, nowhere, WaitList, ids_of, new_wait, slot_blocks, slot_places, settled_less, ObjectsInvariant, IsLive, AreFormed, AreOfLive, IsCounted, IsNamed, IsSound, StoreInvariant, Object, ObjectsState, KeptRest, kept_rest, with_blocks_of, PartsState, state_of, whole_of, settled, AreLeft, IsUnderWay, cond, nat_tests}
 use Rattle.std.specs.Prelude.{if◌then◌else◌}
 use Rattle.std.specs.Option.{IfNone, OnSome}
 use Rattle.ob_tables.proofs.Counting.{one_id}
@@ -21,8 +21,9 @@ use Rattle.ob_store.proofs.BySlot.{recounted, count_few}
 use Rattle.ob_store.proofs.CameLaws.{came_counts, came_long, came_stays}
 use Rattle.ob_store.proofs.CountedLaws.{blocks_at, blocks_long}
 use Rattle.ob_store.proofs.KeptLaws.{settled_kept, sound_rested, state_rested, whole_kept}
-use Rattle.ob_store.proofs.NamedLaws.{named_fewer}
+use Rattle.ob_store.proofs.NamedLaws.{named_fewer, some_counts}
 use Rattle.ob_store.proofs.LeftLaws.{left_blocks}
+use Rattle.std.proofs.Math.Seq.{get_or-append_seam}
 
 -- what of each thread's waits stays live when one goes
 set_waiters : (threads : List (Option ℕ)) (ws : List (Option Wait)) (n : ℕ) (x : Option Wait)
@@ -41,11 +42,7 @@ of_live_waiting threads bodies ws t mode ids d live l = record {
 }
 
 has_new : (ws : List (Option Wait)) (w : Wait) → HasWait w.thread (ws ++ Some w ∷ [])
-has_new ws w = (length ws, by ws)
-  where
-    by : (xs : List (Option Wait)) → thread_of (get_or (xs ++ Some w ∷ []) (length xs) None) ≡ Some w.thread
-    by [] = refl
-    by (x ∷ xs) = by xs
+has_new ws w = (length ws, grind (arith, nat_tests, at_place))
 
 -- a live thread takes at once what it waits for
 of_live_taken : (threads : List (Option ℕ)) (bodies : List (Option Body)) (ws : List (Option Wait)) (t : ℕ)
@@ -64,8 +61,7 @@ formed_taken : (clock : ℕ) (objects : List (Option Object)) (bodies : List (Op
     (ids : List Id) → AreFormed clock objects bodies → AreFormed clock objects (bodies_after mode t bodies ids)
 formed_taken clock objects bodies t mode ids f =
     let w = new_wait t mode ids None in
-    formed_by clock objects bodies (bodies_after mode t bodies ids)
-    (λ k h. (taken (Some w ∷ []) t (has_new [] w) mode ids bodies k).form h) f
+    formed_by _ _ _ _ (λ k h. (taken (Some w ∷ []) t (has_new [] w) mode ids bodies k).form h) f
 
 -- a thread took at once what it waits for
 module _ (p : PartsState) (q : ObjectsState) (t : ℕ) (mode : Mode) (ids : List Id)
@@ -76,12 +72,9 @@ module _ (p : PartsState) (q : ObjectsState) (t : ℕ) (mode : Mode) (ids : List
     (seen : q.seen ≡ record p.objects.seen { bodies = bodies_after mode t p.objects.seen.bodies ids }) where
   kept_taken : StoreInvariant (record p { objects = q })
   kept_taken = record {
-    sound = sound_rested p p.processes q p.waits p.signaled rest kept.sound refl kept.sound.processes_kept
-        (rw seen (record { handles = kept.sound.counted.handles; blocks = kept.sound.counted.blocks }))
-        kept.sound.named
-        (search (arith, formed_taken))
-        (search (arith, of_live_taken))
-        (search (arith, room_now));
+    sound = sound_rested p _ q _ p.signaled rest kept.sound refl kept.sound.processes_kept (rw seen (record { handles =
+        kept.sound.counted.handles; blocks = kept.sound.counted.blocks })) kept.sound.named
+        (search (arith, formed_taken)) (search (arith, of_live_taken)) (search (arith, room_now));
     populated = kept.populated;
     settled = search (arith, settled_now);
   }
@@ -111,12 +104,8 @@ module _ (p : PartsState) (q : ObjectsState) (t : ℕ) (mode : Mode) (ids : List
 -- what holds of each of some Ids holds of one that is among them
 among : (P : Id → Type 0) (ids : List Id) → ((i : ℕ) → i < length ids → P (get_or ids i nowhere)) → (id : Id)
     → 0 < count_by (same_id id) ids → P id
-among P [] each id h = absurd (omega arith)
-among P (x ∷ ids) each id h = by (same_id id x) refl (among P ids (λ i lt. each (suc i) (omega arith)) id)
-  where
-    by : (b : Bool) → same_id id x ≡ b → (0 < count_by (same_id id) ids → P id) → P id
-    by true is rest = rw (one_id id x is) (each 0 (omega arith))
-    by false is rest = search arith
+among P ids each id h = some_counts (λ x. cond (same_id id x) 1 0) nowhere ids (P id)
+    (λ i lt some. rw (one_id id (get_or ids i nowhere) (grind (arith, nat_tests))) (each i lt)) h
 
 -- the counts of blocks have room for one more wait
 pub few_blocks : (p : PartsState) → StoreInvariant p → rules.WaitsInvariant p.waits.waits
@@ -153,9 +142,7 @@ module _ (p : PartsState) (t : ℕ) (mode : Mode) (ids : List Id) (d : Option �
         (length p.objects.objects) p.tables.tables (waits.with_wait p.waits t mode ids d).waits
     counted_after = record {
       handles = kept.sound.counted.handles;
-      blocks = recounted p.objects.seen.blocks (with_blocks_of p.objects ids).seen.blocks (length p.objects.objects)
-          (λ k. slot_blocks k p.waits.waits) (λ k. slot_blocks k more.waits) kept.sound.counted.blocks
-          (came_long ids p.objects)
+      blocks = recounted _ _ _ _ _ kept.sound.counted.blocks (came_long ids _)
           (search (arith, blocks_at, blocks_long, came_counts, slot_added));
     }
 
@@ -204,12 +191,12 @@ module _ (p : PartsState) (q : ObjectsState) (n code : ℕ) (ids : List Id)
   counted_left = record {
     handles = ap (λ (x : CountedBodies). x.handles) seen ∙ (sizes_left ids p.objects.seen).handles
         ∙ kept.sound.counted.handles;
-    blocks = recounted p.objects.seen.blocks q.seen.blocks (length p.objects.objects) (λ k. slot_blocks k p.waits.waits)
-        (λ k. slot_blocks k after) kept.sound.counted.blocks
+    blocks = recounted _ _ _ _
+        _ kept.sound.counted.blocks
         (ap (λ (x : CountedBodies). length x.blocks) seen ∙ (sizes_left ids p.objects.seen).blocks)
         (λ k lt. rw seen (omega (
           arith,
-          blocks_at p.objects.seen (length p.objects.objects) p.tables.tables p.waits.waits kept.sound.counted k lt,
+          blocks_at _ _ _ _ kept.sound.counted k lt,
           left_all ids p.objects.seen k,
           slot_answered k p.waits.waits n code,
           ap (slot_places k) are,
@@ -219,21 +206,16 @@ module _ (p : PartsState) (q : ObjectsState) (n code : ℕ) (ids : List Id)
   pub way_expired : ObjectsInvariant q → IsUnderWay p.objects.keeper expired (with_answer (state_of p) n code)
   way_expired tied = record {
     tied = tied;
-    sound = sound_rested p p.processes q (waits.with_answer p.waits n code) p.signaled rest kept.sound refl
-        kept.sound.processes_kept counted_left
-        (search (arith, blocks_answered))
-        (search (arith, left_blocks))
-        (search (arith, set_waiters, answered_thread, fewer, fewer.each))
-        (search (arith, left_blocks, room_answered));
+    sound = sound_rested p _ q _ p.signaled rest kept.sound refl kept.sound.processes_kept counted_left
+        (search (arith, blocks_answered)) (search (arith, left_blocks))
+        (search (arith, set_waiters, answered_thread, fewer, fewer.each)) (search (arith, left_blocks, room_answered));
     rest = state_rested p p.processes q (waits.with_answer p.waits n code) p.signaled rest;
     bodies = fewer;
     keeper = ap (λ (r : KeptRest). r.keeper) rest;
   }
 
   pub settled_expired : IsSettled q.seen.bodies (waits.with_answer p.waits n code).waits
-  settled_expired = settled_answered q.seen.bodies p.waits.waits n code
-      (settled_less p.objects.seen.bodies q.seen.bodies p.waits.waits
-      (search (arith, fewer)) kept.settled)
+  settled_expired = settled_answered _ _ n _ (settled_less _ _ _ (search (arith, fewer)) kept.settled)
 
 -- a wait that was answered is over
 abbrev over : PartsState → ℕ → PartsState
@@ -242,32 +224,7 @@ over p n = record p { waits = waits.without_wait p.waits n }
 kept_over : (p : PartsState) (n code : ℕ) → StoreInvariant p
     → Some (shown.Answered code) ≡ state_at (get_or p.waits.waits n None) → StoreInvariant (over p n)
 kept_over p n code kept is =
-    let gone = waits.without_wait p.waits n in
-    record {
-      sound = sound_rested p p.processes p.objects gone p.signaled refl kept.sound refl kept.sound.processes_kept
-          (record {
-            handles = kept.sound.counted.handles;
-            blocks = recounted p.objects.seen.blocks p.objects.seen.blocks (length p.objects.objects)
-                (λ k. slot_blocks k p.waits.waits) (λ k. slot_blocks k gone.waits) kept.sound.counted.blocks refl
-                (λ k lt.
-                let at = blocks_at p.objects.seen (length p.objects.objects) p.tables.tables p.waits.waits
-                kept.sound.counted k lt in
-                let x = slot_removed k p.waits.waits n in
-                let none : slot_places k (ids_of (get_or p.waits.waits n None)) ≡ 0 = search arith in
-                omega arith);
-          })
-          (named_fewer p.objects.objects p.tables.tables p.tables.tables p.waits.waits gone.waits (λ id. omega arith)
-          (λ id. let x = blocks_removed id p.waits.waits n in omega arith) kept.sound.named)
-          kept.sound.formed
-          (record {
-            owners = kept.sound.of_live.owners;
-            waiters = set_waiters p.processes.threads p.waits.waits n None
-                (λ u h. absurd (cc)) kept.sound.of_live.waiters;
-          })
-          (room_removed p.limits.max_recursion p.objects.seen.bodies p.waits.waits n kept.sound.room);
-      populated = kept.populated;
-      settled = settled_removed p.objects.seen.bodies p.waits.waits n kept.settled;
-    }
+    search (arith, sound_rested, recounted, blocks_at, slot_removed, named_fewer, blocks_removed, set_waiters, room_removed, settled_removed)
 
 -- where a wait stands is told, and it is over where it is answered
 abbrev pub told : PartsState → ℕ → Option WaitState → PartsState
