@@ -1,5 +1,5 @@
 -- A new object with its first entry comes to a vacant slot.
-use Rattle.ob_store.proofs.Cited.{◌≡◌, ℕ, ◌+◌, ◌<◌, List, [], ◌∷◌, ◌++◌, length, Some, None, refl, subst, arith, get_or, set, map, true, map-set_same, length-set, Id, Slot, opening_slot, id_of, HandleFlags, is_vacant_at, Body, owner_of, ObjectName, Rows, find_name, Entry, with_entry_of, form_of, ObjectsState, ObjectAttributes, object_in, places_in, vacancy, IsAgreed, ObjectsInvariant, PartsState, state_of, State, generation_of, IsLive, StoreInvariant, IsCounted, IsListing, form_in}
+use Rattle.ob_store.proofs.Cited.{◌≡◌, ℕ, ◌+◌, ◌<◌, List, [], ◌∷◌, ◌++◌, length, Some, None, refl, subst, arith, get_or, map, true, map-set_same, length-set, Id, Slot, opening_slot, id_of, HandleFlags, is_vacant_at, Body, owner_of, ObjectName, Rows, find_name, Entry, with_entry_of, form_of, IsAgreed, ObjectsInvariant, PartsState, state_of, IsLive, StoreInvariant, IsCounted, IsListing, form_in, ObjectsState, ObjectAttributes, places_in, vacancy, State, generation_of}
 use Rattle.std.proofs.Math.ListN.{get_or-map}
 use Rattle.ob_rights.specs.declared.rights.Rights.{Rights}
 use Rattle.ob_arena.proofs.SlotLemmas.{vacant_within, vacant_empty}

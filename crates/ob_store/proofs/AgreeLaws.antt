@@ -1,5 +1,5 @@
 -- How the objects go on agreeing with the keeper, slot by slot.
-use Rattle.ob_store.proofs.Cited.{◌≡◌, ℕ, ◌≢◌, ◌<◌, List, length, Option, None, arith, get_or, set, Bool, true, false, is_some, map-set_same, get_or_past, Slot, slot_of, KeeperState, Body, Object, ObjectsState, with_keeper, places_in, without_header, opened, IsAgreed}
+use Rattle.ob_store.proofs.Cited.{◌≡◌, ℕ, ◌≢◌, ◌<◌, List, length, Option, None, arith, get_or, set, Bool, true, false, is_some, map-set_same, get_or_past, Slot, slot_of, Body, Object, ObjectsState, with_keeper, places_in, without_header, opened, IsAgreed, KeeperState}
 use Rattle.pin_core.specs.declared.word.Phase.TheVariants as phase
 use Rattle.pin_words.specs.Keepers.{with_slots, with_looks, closed}
 use Rattle.pin_words.specs.declared.view.Look.{Look}

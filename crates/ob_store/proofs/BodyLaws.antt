@@ -1,7 +1,7 @@
 -- What holds of bodies goes on so: their forms, their owners, the room that waits have, and that none is ready.
-use Rattle.ob_store.proofs.Cited.{at_place, nat_tests, ◌≡◌, ℕ, ◌⊎◌, ◌<◌, List, length, Option, Some, None, ap, ◌∙◌, arith, get_or, set, Bool, true, cond, inl, inr, is_some, Body, owner_of, is_signaled, Wait, CountedBodies, form_of, slot_form, slot_owner, thread_of, Scene, Object, IsLive, AreFormed, AreOfLive, Yields, form_in}
+use Rattle.ob_store.proofs.Cited.{at_place, nat_tests, ◌≡◌, ℕ, ◌⊎◌, ◌<◌, List, length, Option, Some, None, ap, ◌∙◌, arith, get_or, set, Bool, true, cond, is_some, Body, owner_of, is_signaled, Wait, thread_of, Object, IsLive, AreFormed, AreOfLive, Yields, form_in, CountedBodies, form_of, slot_owner, Scene}
 use Rattle.ob_waits.specs.CountedBodies.{slot_signaled}
-use Rattle.ob_waits.specs.Form.{HasWait}
+use Rattle.ob_waits.specs.Form.{slot_form, HasWait}
 use Rattle.ob_waits.specs.Waits.{settled}
 use Rattle.ob_waits.proofs.Settling.{IsLess}
 use Rattle.ob_waits.proofs.Staying.{settled_form, settled_owner, settled_thread}

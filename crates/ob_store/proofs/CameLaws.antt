@@ -1,5 +1,6 @@
 -- The blocks of a list came: what stays, and how many more each slot counts.
-use Rattle.ob_store.proofs.Cited.{nat_tests, at_place, ◌≡◌, ℕ, ◌+◌, ◌<◌, List, [], ◌∷◌, length, refl, arith, get_or, cond, eqb, length-set, sum_by-cons, Id, slot_places, ObjectsState, with_blocks_of}
+use Rattle.ob_store.proofs.Cited.{nat_tests, at_place, ◌≡◌, ℕ, ◌+◌, ◌<◌, List, [], ◌∷◌, length, refl, arith, get_or, cond, eqb, length-set, sum_by-cons, Id, ObjectsState, with_blocks_of}
+use Rattle.ob_waits.specs.Waits.{slot_places}
 use Rattle.ob_store.specs.Objects.{with_block_of}
 
 -- all but the counts of blocks

@@ -1,5 +1,5 @@
 -- What is kept is kept where a child comes with what it inherits.
-use Rattle.ob_store.proofs.Cited.{nat_tests, at_place, ◌≡◌, ℕ, ◌+◌, ◌<◌, ◌≤◌, List, [], ◌∷◌, length, Option, Some, None, refl, ap, arith, get_or, IfSome, IsSome, length-set, length-map, get_or-map, get_or_past, sum_by-cons, Entry, slot_handles, slot_handles_in, HandleTables, IsBounded, table_of, handles_among-with_table, slot_handles-few, ObjectsState, ObjectsInvariant, Whole, settled, by_slot, PartsState, state_of, whole_of, StoreInvariant, IsNamed, IsFree}
+use Rattle.ob_store.proofs.Cited.{nat_tests, at_place, ◌≡◌, ℕ, ◌+◌, ◌<◌, ◌≤◌, List, [], ◌∷◌, length, Option, Some, None, refl, arith, get_or, IfSome, IsSome, length-set, length-map, get_or-map, get_or_past, sum_by-cons, Entry, slot_handles, slot_handles_in, HandleTables, IsBounded, table_of, ObjectsInvariant, PartsState, state_of, whole_of, StoreInvariant, IsNamed, handles_among-with_table, slot_handles-few, ObjectsState, Whole, settled, by_slot, IsFree}
 use Rattle.ob_tables.specs.Inheritance.{inherited}
 use Rattle.ob_tables.specs.Tables as tables
 use Rattle.ob_tables.proofs.Counting.{handles_in-inherited, handles_in-among}

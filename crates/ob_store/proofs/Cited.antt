@@ -10,7 +10,6 @@ pub use Rattle.ob_codec.specs.Codecs.{where_codec}
 pub use Rattle.ob_codec.specs.Laws.{IsCodec}
 pub use Rattle.ob_codec.specs.Reading.{◌>>=◌}
 pub use Rattle.ob_codec.specs.Steps.{bind_ok, ok_is}
-pub use Rattle.ob_codec.specs.declared.fault.TextFault.TheVariants.{Value}
 pub use Rattle.ob_name.specs.Listing.{Rows, find_name, AreDistinct}
 pub use Rattle.ob_name.specs.Names.{ObjectName}
 pub use Rattle.ob_name.specs.Order.{Row}
@@ -22,12 +21,12 @@ pub use Rattle.ob_store.specs.Counting.{counting_all, counting_in, is_its}
 pub use Rattle.ob_store.specs.Directory.{rows_of}
 pub use Rattle.ob_store.specs.Ends.{slot_left_by, thread_ended, threads_ended}
 pub use Rattle.ob_store.specs.Kept.{StoreInvariant, IsCounted, IsListing, form_in, AreFormed, AreOfLive, Yields, IsNamed, IsThere, id_in, IsSound, IsPopulated}
-pub use Rattle.ob_store.specs.Objects.{ObjectsState, ObjectAttributes, object_in, places_in, vacancy, Object, with_keeper, without_header, opened, with_blocks_of, Tag, objects_in, header_body, Places, with_handle, name_in, without_handle, KeptRest, kept_rest, places_of, object_of, vacant_places, no_tag, tag_of, tags_in}
+pub use Rattle.ob_store.specs.Objects.{ObjectsState, ObjectAttributes, places_in, vacancy, Object, with_keeper, without_header, opened, with_blocks_of, Tag, objects_in, header_body, Places, with_handle, name_in, without_handle, KeptRest, kept_rest, places_of, object_of, vacant_places, no_tag, tag_of, tags_in, object_in}
 pub use Rattle.ob_store.specs.Parts.{PartsState, state_of, whole_of, parts_of}
 pub use Rattle.ob_store.specs.SavedBirths.{Births, births_from}
 pub use Rattle.ob_store.specs.SavedNames.{names_in}
 pub use Rattle.ob_store.specs.SavedObjects.{with_slots, object_saved, slot_saved, slots_saved, objects_at, objects_text, whole_at}
-pub use Rattle.ob_store.specs.SavedSlots.{SlotFits, ends_used, fresh_slot, used, body_from, keeper_slot, objects_from, places_from, slots_at, filled, rows_at, slot_at, slot_text, slots_from, object_from, with_fresh}
+pub use Rattle.ob_store.specs.SavedSlots.{SlotFits, ends_used, fresh_slot, used, body_from, keeper_slot, objects_from, places_from, slots_at, slot_at, slot_text, filled, object_from, with_fresh}
 pub use Rattle.ob_store.specs.SavedWaits.{with_blocks_at, with_blocks, owner_stands, wait_stands}
 pub use Rattle.ob_store.specs.Signaled.{SignaledState, KeepsEnough}
 pub use Rattle.ob_store.specs.State.{State, generation_of, settled, by_slot, Whole, objects_of, with_body, shape_of}
@@ -39,7 +38,7 @@ pub use Rattle.ob_store.specs.declared.label.Label.{Label}
 pub use Rattle.ob_store.specs.declared.object_header.ObjectHeader.{ObjectHeader}
 pub use Rattle.ob_store.specs.declared.saved_slot.SavedObject.{SavedObject}
 pub use Rattle.ob_store.specs.declared.saved_slot.SavedSlot.{SavedSlot}
-pub use Rattle.ob_tables.proofs.Counting.{handles_among-with_table, some_within}
+pub use Rattle.ob_tables.proofs.Counting.{handles_among-with_table, one_id, some_within}
 pub use Rattle.ob_tables.proofs.GivenLaws.{IsFree}
 pub use Rattle.ob_tables.proofs.Inheriting.{none_of}
 pub use Rattle.ob_tables.proofs.SlotCounts.{slot_handles-few}
@@ -54,9 +53,9 @@ pub use Rattle.ob_waits.proofs.Settled.{settled_less}
 pub use Rattle.ob_waits.specs.CountedBodies.{CountedBodies, slot_acquired, without_blocks, without_block}
 pub use Rattle.ob_waits.specs.Deadlines.{is_overdue}
 pub use Rattle.ob_waits.specs.Ends.{ended}
-pub use Rattle.ob_waits.specs.Form.{form_of, slot_form, slot_owner, slot_due}
+pub use Rattle.ob_waits.specs.Form.{form_of, slot_owner, slot_due}
 pub use Rattle.ob_waits.specs.Rules.{thread_of, HasBodies, IsSettled, HasRoom}
-pub use Rattle.ob_waits.specs.Waits.{Scene, slot_places, slot_blocks, new_wait, WaitList, nowhere, ids_of, blocks_among}
+pub use Rattle.ob_waits.specs.Waits.{Scene, slot_blocks, new_wait, WaitList, nowhere, ids_of, blocks_among}
 pub use Rattle.ob_waits.specs.declared.wait.Mode.{Mode}
 pub use Rattle.ob_waits.specs.declared.wait.Mode.TheVariants.{Any}
 pub use Rattle.ob_waits.specs.declared.wait.State.TheVariants.{Pending}
@@ -68,17 +67,16 @@ pub use Rattle.pin_core.specs.declared.shape.Shape.{Shape}
 pub use Rattle.pin_core.specs.declared.world.Slot.{Slot}
 pub use Rattle.pin_words.specs.Keepers.{KeeperState}
 pub use Rattle.pin_words.specs.Views.{id_of}
-pub use Rattle.std.proofs.Common.{◌≡◌, ℕ, ◌+◌, ◌<◌, List, [], ◌∷◌, ◌++◌, length, Some, None, refl, subst, arith, get_or, set, map, true, ◌≢◌, Option, Bool, false, ◌≤◌, ◌⊎◌, ap, ◌∙◌, cond, inl, inr, zero, suc, replicate, sym, eqb, not, ltb, ◌-◌, Ok, ◌&&◌, ◌*◌, take, drop, Err, leb, append_assoc, rules}
+pub use Rattle.std.proofs.Common.{◌≡◌, ℕ, ◌+◌, ◌<◌, List, [], ◌∷◌, ◌++◌, length, Some, None, refl, subst, arith, get_or, map, true, ◌≢◌, Option, set, Bool, false, ◌≤◌, ◌⊎◌, ap, ◌∙◌, cond, zero, suc, replicate, sym, eqb, not, ltb, ◌-◌, Ok, ◌&&◌, inl, inr, ◌*◌, take, drop, Err, leb, append_assoc, rules}
 pub use Rattle.std.proofs.Math.Seq.{map-set_same}
 pub use Rattle.std.proofs.lemmas.Bool.{and_parts, cases_eq, cases_lt, le-leb}
 pub use Rattle.std.proofs.lemmas.Bool.Decides.{nat_tests}
-pub use Rattle.std.proofs.lemmas.List.{get_or-map, length-set, get_or_past, get_or-replicate, length-replicate, get_or-set_same, get_or-set_other, ext_get_or, length-map, set-get_or, append-nil}
+pub use Rattle.std.proofs.lemmas.List.{length-set, get_or-map, get_or_past, get_or-replicate, length-replicate, get_or-set_same, get_or-set_other, ext_get_or, length-map, set-get_or, append-nil}
 pub use Rattle.std.proofs.lemmas.List.FromFn.{get_or-map-range_with_len, length-map-range_with_len}
 pub use Rattle.std.proofs.lemmas.List.Sums.{sum_by-cons, get_or-le-sum_by}
-pub use Rattle.std.proofs.lemmas.Option.{same_Some}
 pub use Rattle.std.proofs.lemmas.Result.{on_ok_weaker}
 pub use Rattle.std.specs.BTreeMap.{insert_entry, is_at}
 pub use Rattle.std.specs.Int.{w64, to_le_bytes}
 pub use Rattle.std.specs.List.{AllByRecursion, list_all, range_with_len, Contains, flat_map}
 pub use Rattle.std.specs.Ordering.{nat_cmp}
-pub use Rattle.std.specs.Prelude.{is_some, sum_by, IfSome, IsSome, count_by, is_none}
+pub use Rattle.std.specs.Prelude.{is_some, sum_by, IfSome, IsSome, count_by}

@@ -1,5 +1,5 @@
 -- The slots whose objects ended, while bodies go and objects leave.
-use Rattle.ob_store.proofs.Cited.{◌≡◌, ℕ, ◌<◌, List, length, Option, Some, None, refl, ap, ◌∙◌, sym, arith, get_or, set, map, Bool, true, false, cond, IsSome, is_some, length-map, Body, slot_acquired, is_open, ObjectHeader, Tag, objects_in, header_body}
+use Rattle.ob_store.proofs.Cited.{◌≡◌, ℕ, ◌<◌, List, length, Option, Some, None, refl, ap, ◌∙◌, sym, arith, get_or, set, map, Bool, true, false, cond, length-map, Body, slot_acquired, ObjectHeader, Tag, objects_in, header_body, IsSome, is_some, is_open}
 use Rattle.std.specs.Prelude.{not, slice_get}
 use Rattle.std.proofs.lemmas.Option.{slice_get-get_or}
 use Rattle.least.specs.Taken.{is_free_within}
@@ -10,14 +10,12 @@ use Rattle.ob_store.proofs.HeaderLaws.{read, mapped_same, mapped_set, mapped_sta
 
 -- the set of numbers has those slots that have an object without a body
 pub closing_read : (xs : List (Option ObjectHeader)) (ls : List Tag) (opens : List Bool) (k : ℕ)
-    → opens ≡ map is_open xs
-    → is_free_within opens k ≡ is_closing_in (objects_in xs ls) (map header_body xs) k
+    → opens ≡ map is_open xs → is_free_within opens k ≡ is_closing_in (objects_in xs ls) (map header_body xs) k
 closing_read xs ls opens k opened = search (arith, object_read, read)
 
 -- a slot with an object, by its body
 pub opened_at : (xs : List (Option ObjectHeader)) (opens : List Bool) (k : ℕ) (x : ObjectHeader)
-    → opens ≡ map is_open xs
-    → get_or xs k None ≡ Some x → slice_get opens k ≡ Some (is_some x.body)
+    → opens ≡ map is_open xs → get_or xs k None ≡ Some x → slice_get opens k ≡ Some (is_some x.body)
 opened_at xs opens k x opened there =
     let within : k < length opens = search (arith, length-map, some_there) in
     slice_get-get_or opens k true within ∙ ap (λ (z : List Bool). Some (get_or z k true)) opened
@@ -25,28 +23,24 @@ opened_at xs opens k x opened there =
 
 -- a body goes, or stays
 pub opened_left_at : (xs : List (Option ObjectHeader)) (opens : List Bool) (k : ℕ) (x y : ObjectHeader) (b : Bool)
-    (o : Option Body)
-    → opens ≡ map is_open xs → get_or xs k None ≡ Some x → o ≡ cond b x.body None → y.body ≡ cond b None x.body
-    → cond (is_some o) (set opens k false) opens ≡ map is_open (set xs k (Some y))
+    (o : Option Body) → opens ≡ map is_open xs → get_or xs k None ≡ Some x → o ≡ cond b x.body None
+    → y.body ≡ cond b None x.body → cond (is_some o) (set opens k false) opens ≡ map is_open (set xs k (Some y))
 opened_left_at = search (arith, mapped_set, mapped_stays)
 
 -- a body that goes was there
 pub gone_was_there : (xs : List (Option ObjectHeader)) (opens : List Bool) (k : ℕ) (x : ObjectHeader) (b : Bool)
-    (o : Option Body)
-    → opens ≡ map is_open xs → get_or xs k None ≡ Some x → o ≡ cond b x.body None → is_some o ≡ true
+    (o : Option Body) → opens ≡ map is_open xs → get_or xs k None ≡ Some x → o ≡ cond b x.body None → is_some o ≡ true
     → slice_get opens k ≡ Some true
 gone_was_there = search (arith, opened_at)
 
 -- an object comes to a vacant slot, ended or not
-pub vacant_open : (xs : List (Option ObjectHeader)) (opens : List Bool) (k : ℕ) → opens ≡ map is_open xs
-    → k < length xs →
-    get_or xs k None ≡ None → slice_get opens k ≡ Some true
+pub vacant_open : (xs : List (Option ObjectHeader)) (opens : List Bool) (k : ℕ) → opens ≡ map is_open xs → k < length xs
+    → get_or xs k None ≡ None → slice_get opens k ≡ Some true
 vacant_open xs opens k opened within none =
     search (arith, length-map, slice_get-get_or opens k true (search (arith, length-map)), opened, read is_open xs k, none)
 
 pub opened_back : (xs : List (Option ObjectHeader)) (opens : List Bool) (k : ℕ) (y : ObjectHeader) (ended : Bool)
-    → opens ≡ map is_open xs →
-    get_or xs k None ≡ None → is_some y.body ≡ not ended
+    → opens ≡ map is_open xs → get_or xs k None ≡ None → is_some y.body ≡ not ended
     → cond ended (set opens k false) opens ≡ map is_open (set xs k (Some y))
 opened_back xs opens k y ended opened none is = search (arith, mapped_same, mapped_set)
 

@@ -1,5 +1,5 @@
 -- What a store keeps, told of its state.
-use Rattle.ob_store.proofs.Cited.{ap, ◌+◌, length, refl, ◌∙◌, subst, ltb, Shape, AreDistinct, ObjectsInvariant, PartsState, whole_of, StoreInvariant, IsConsistent}
+use Rattle.ob_store.proofs.Cited.{ap, ◌+◌, refl, ◌∙◌, subst, ltb, Shape, AreDistinct, ObjectsInvariant, PartsState, whole_of, StoreInvariant, IsConsistent}
 use Rattle.ob_waits.specs.Deadlines.{AreAhead}
 use Rattle.ob_waits.specs.Rules as rules
 use Rattle.ob_store.proofs.CountedLaws.{handles_at, blocks_at}

@@ -1,5 +1,5 @@
 -- What is stored of references goes on being what is counted, as each change changes both.
-use Rattle.ob_store.proofs.Cited.{◌≡◌, ℕ, ◌+◌, ◌-◌, ◌<◌, List, [], ◌∷◌, length, Option, Some, None, ap, ◌∙◌, arith, get_or, set, Body, HandleFlags, Entry, entry_at, slot_handles, table_of, with_table, with_entry_of, with_flags_of, without_entry_of, IsBounded, slot_handles-few, Wait, CountedBodies, Scene, slot_blocks, IsCounted}
+use Rattle.ob_store.proofs.Cited.{◌≡◌, ℕ, ◌+◌, ◌-◌, ◌<◌, List, [], ◌∷◌, length, Option, Some, None, ap, ◌∙◌, arith, get_or, set, Body, HandleFlags, Entry, entry_at, slot_handles, table_of, with_table, with_entry_of, with_flags_of, without_entry_of, IsBounded, Wait, CountedBodies, IsCounted, slot_handles-few, Scene, slot_blocks}
 use Rattle.std.specs.Prelude.{replicate}
 use Rattle.ob_tables.proofs.SlotCounts.{one_in-same, one_in-other, slot_handles-with_entry, slot_handles-without_entry, slot_handles-with_flags, slot_handles-with_table}
 use Rattle.ob_waits.specs.Waits.{settled}

@@ -1,5 +1,6 @@
 -- What is counted in a store that is kept is counted again, so that what it saves isn't refused.
-use Rattle.ob_store.proofs.Cited.{◌≡◌, ℕ, ◌+◌, ◌<◌, ◌≤◌, Bool, true, cond, List, [], ◌∷◌, length, Option, Some, None, Ok, refl, sym, ap, ◌∙◌, arith, ext_get_or, length-replicate, sum_by-cons, same_Some, Id, Entry, handles_in, handles_among, slot_handles_in, slot_handles, IsBounded, slot_handles-few, Wait, counting_all, counting_in, is_its, IsCounted, IsNamed, IsThere, id_in, Object, Places, with_handle}
+use Rattle.ob_store.proofs.Cited.{◌≡◌, ℕ, ◌+◌, ◌<◌, ◌≤◌, Bool, true, cond, List, [], ◌∷◌, length, Option, Some, None, Ok, refl, sym, ap, ◌∙◌, arith, ext_get_or, length-replicate, sum_by-cons, Id, Entry, IsBounded, Wait, IsCounted, IsNamed, IsThere, id_in, Object, Places, with_handle, handles_in, handles_among, slot_handles_in, slot_handles, slot_handles-few, counting_all, counting_in, is_its}
+use Rattle.std.proofs.lemmas.Option.{same_Some}
 use Rattle.ob_store.proofs.ByPlace.{replicate_at}
 use Rattle.std.proofs.lemmas.Bool.{and_from, lt-ltb}
 use Rattle.ob_tables.specs.Counts.{names, names_slot}
@@ -56,10 +57,8 @@ all-again p (table ∷ tables) wide few named =
     (rest.0, rw a.1 rest.1)
 
 pub counting_again : (p : Places) (processes limit : ℕ) (tables : List (List (Option Entry)))
-    (waits : List (Option Wait)) →
-    IsCounted p.seen (length p.objects) tables waits → IsNamed p.objects tables waits →
-    IsBounded processes limit tables →
-    counting_all (uncounted p) tables ≡ Ok p
+    (waits : List (Option Wait)) → IsCounted p.seen (length p.objects) tables waits → IsNamed p.objects tables waits
+    → IsBounded processes limit tables → counting_all (uncounted p) tables ≡ Ok p
 counting_again p processes limit tables waits counted named bounded =
     let n = length p.objects in
     let wide : IsWide (uncounted p) = sym (length-replicate {A = ℕ} n 0) in

@@ -1,7 +1,6 @@
 -- What counting leaves: all is as it was but for the handles, which are more by the entries that name a slot.
-use Rattle.ob_store.proofs.Cited.{◌≡◌, ℕ, ◌+◌, ◌<◌, true, cond, List, [], ◌∷◌, length, get_or, Option, Some, Ok, sym, ap, ◌∙◌, arith, length-set, get_or-set_same, get_or-set_other, sum_by-cons, Id, bind_ok, Entry, handles_in, handles_among, slot_handles_in, slot_handles, counting_all, counting_in, is_its, IsThere, id_in, Object, Places, with_handle}
+use Rattle.ob_store.proofs.Cited.{◌≡◌, ℕ, ◌+◌, ◌<◌, true, cond, List, [], ◌∷◌, length, get_or, Option, Some, Ok, sym, ap, ◌∙◌, arith, length-set, get_or-set_same, get_or-set_other, sum_by-cons, Id, bind_ok, Entry, IsThere, id_in, Object, Places, with_handle, handles_in, handles_among, slot_handles_in, slot_handles, one_id, counting_all, counting_in, is_its}
 use Rattle.ob_tables.specs.Counts.{names, names_slot}
-use Rattle.ob_tables.proofs.Counting.{one_id}
 use Rattle.ob_store.specs.Counting.{counting, may_count}
 use Rattle.ob_store.proofs.NamedLaws.{there_within}
 

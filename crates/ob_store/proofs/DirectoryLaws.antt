@@ -1,5 +1,5 @@
 -- How the rows of the directory change with the handles and with the objects, and whose rows they are.
-use Rattle.ob_store.proofs.Cited.{◌≡◌, ℕ, ◌≢◌, zero, suc, ◌<◌, List, [], ◌∷◌, ◌++◌, length, Option, Some, None, refl, ap, ◌∙◌, arith, get_or, set, Bool, true, false, cond, not, ◌&&◌, ltb, inl, inr, Contains, cases_eq, get_or-set_other, get_or-set_same, length-set, set-get_or, Id, same_id, ObjectName, Rows, Row, Entry, handles_among, Object, rows_of}
+use Rattle.ob_store.proofs.Cited.{◌≡◌, ℕ, ◌≢◌, zero, suc, ◌<◌, List, [], ◌∷◌, ◌++◌, length, Option, Some, None, refl, ap, ◌∙◌, arith, get_or, set, Bool, true, false, cond, not, ◌&&◌, ltb, inl, inr, cases_eq, Id, same_id, ObjectName, Rows, Row, Entry, handles_among, Object, Contains, get_or-set_other, get_or-set_same, length-set, set-get_or, rows_of}
 use Rattle.std.specs.List.{All, cons_option, filter, filter_map}
 use Rattle.std.proofs.lemmas.List.{set-set}
 use Rattle.std.proofs.lemmas.List.Elements.{All-append, All-nil, All-tail, Contains-append_left, Contains-append_right, filter-append}
@@ -137,8 +137,7 @@ pub rows_left : (ts : Tables) (xs : ObjectSlots) (k : ℕ) (o : Object) (n : ℕ
 rows_left ts xs k o n within at none = search (arith, picks_stay)
 
 pub rows_added : (ts : Tables) (xs : ObjectSlots) (k : ℕ) (o : Object) (n : ℕ) → k < length xs → get_or xs k None ≡ None
-    → o.birth ≡ n → has_handles o.id ts ≡ true
-    → ((j : ℕ) (p : Object) → get_or xs j None ≡ Some p → p.birth < n)
+    → o.birth ≡ n → has_handles o.id ts ≡ true → ((j : ℕ) (p : Object) → get_or xs j None ≡ Some p → p.birth < n)
     → rows_of ts (set xs k (Some o)) (suc n) ≡ rows_of ts xs n ++ cons_option (named_row o.id o.name) []
 rows_added ts xs k o n within empty born has below = search (arith, picks_stay, picks_one, rows_alike)
 

@@ -1,5 +1,5 @@
 -- The entries of a table leave one after another.
-use Rattle.ob_store.proofs.Cited.{◌≡◌, ℕ, zero, suc, ◌+◌, ◌*◌, ◌<◌, List, [], ◌∷◌, length, Option, Some, None, refl, ap, ◌∙◌, sym, subst, arith, get_or, set, Bool, eqb, get_or-set_same, length-set, set-get_or, nat_tests, Entry, entry_at, HandleTables, table_of, without_entry_of, IsSome, KeeperState, Rows, ObjectsInvariant, IsSound, ObjectsState, name_in, PartsState, State, IsEnding, tables_left, with_left}
+use Rattle.ob_store.proofs.Cited.{get_or-set_same, length-set, set-get_or, nat_tests, Entry, IsSome, KeeperState, Rows, ObjectsInvariant, IsSound, PartsState, State, ◌≡◌, ℕ, zero, suc, ◌+◌, ◌*◌, ◌<◌, List, [], ◌∷◌, length, Option, Some, None, refl, ap, ◌∙◌, sym, subst, arith, get_or, set, Bool, eqb, entry_at, HandleTables, table_of, without_entry_of, ObjectsState, name_in, IsEnding, tables_left, with_left}
 use Rattle.std.proofs.Common.{add-one, set-set}
 use Rattle.std.proofs.Math.Nat.{mul-div_cancel_left}
 use Rattle.ob_tables.specs.Table.{place_of}
@@ -73,10 +73,8 @@ module _ (ts : List (List (Option Entry))) (p : ℕ) (places : List (Option Entr
 
 -- the entry of the next place leaves
 module _ (p : PartsState) (process : ℕ) (places : List (Option Entry)) (n : ℕ) (e : Entry)
-    (sound : IsSound (with_left p process places n))
-    (tied : ObjectsInvariant p.objects)
-    (within : process < length p.tables.tables)
-    (here : get_or places n None ≡ Some e) where
+    (sound : IsSound (with_left p process places n)) (tied : ObjectsInvariant p.objects)
+    (within : process < length p.tables.tables) (here : get_or places n None ≡ Some e) where
   abbrev before : PartsState
   before = with_left p process places n
 
@@ -98,8 +96,7 @@ module _ (p : PartsState) (process : ℕ) (places : List (Option Entry)) (n : �
       (last : was_last ≡ eqb (get_or p.objects.seen.handles e.id.slot 0) 1)
       (names : rows ≡ rows_left p.rows was_last (name_in (get_or q.objects e.id.slot None))) where
     pub next_sound : IsSound (with_left (record p { objects = q; rows = rows }) process places (n + 1))
-    next_sound = rw (left_some _ _ _ n within e here)
-        at (sound_left _ _ _ e sound tied found _ q _ is last names)
+    next_sound = rw (left_some _ _ _ n within e here) at (sound_left _ _ _ e sound tied found _ q _ is last names)
 
     pub next_ending : ObjectsInvariant q → (first : KeeperState) (s : State)
         → IsEnding first (with_left p process places n) s

@@ -1,5 +1,6 @@
 -- Threads and processes end: what is sound stays so, and is on its way to the settled state.
-use Rattle.ob_store.proofs.Cited.{◌≡◌, ℕ, ◌≢◌, ◌<◌, List, length, Option, Some, None, refl, ap, ◌∙◌, arith, get_or, set, map, true, is_some, sum_by, length-set, length-map, get_or-set_other, get_or-set_same, Id, KeeperState, Body, owner_of, Entry, table_of, handles_among, slot_handles, Wait, slot_form, slot_owner, CountedBodies, without_blocks, thread_of, slot_blocks, ObjectsInvariant, slot_left_by, thread_ended, IsLive, ProcessesState, IsCounted, ObjectsState, KeptRest, kept_rest, PartsState, SignaledState, KeepsEnough, State, AreLeft, IsEnding, IsUnderWay}
+use Rattle.ob_store.proofs.Cited.{◌≡◌, ℕ, ◌≢◌, ◌<◌, List, length, Option, Some, None, refl, ap, ◌∙◌, arith, get_or, set, map, true, is_some, sum_by, length-set, length-map, get_or-set_other, get_or-set_same, Id, KeeperState, Body, Entry, handles_among, slot_handles, Wait, slot_owner, CountedBodies, without_blocks, thread_of, ObjectsInvariant, slot_left_by, thread_ended, IsLive, ProcessesState, IsCounted, ObjectsState, KeptRest, kept_rest, PartsState, SignaledState, KeepsEnough, State, AreLeft, IsEnding, IsUnderWay, owner_of, table_of}
+use Rattle.ob_waits.specs.Form.{slot_form}
 use Rattle.ob_body.specs.Body.{after_abandon}
 use Rattle.ob_tables.specs.Tables.{without_entries}
 use Rattle.ob_tables.proofs.Counting.{handles_among-without_entries}

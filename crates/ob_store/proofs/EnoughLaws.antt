@@ -1,6 +1,5 @@
 -- The slots by which it is enough to settle, while bodies and waits go and mutexes are abandoned.
-use Rattle.ob_store.proofs.Cited.{◌≡◌, ℕ, List, [], ◌∷◌, ◌++◌, Option, Some, None, ap, ◌∙◌, sym, arith, get_or, set, map, true, false, at_place, nat_tests, get_or-set_other, Id, Body, Wait, CountedBodies, without_blocks, IsSettled, Any, new_wait, settled_less, SignaledState, KeepsEnough, AreLeft}
-use Rattle.ob_waits.specs.CountedBodies.{slot_signaled}
+use Rattle.ob_store.proofs.Cited.{◌≡◌, ℕ, List, [], ◌∷◌, ◌++◌, Option, Some, None, arith, get_or, set, map, true, false, at_place, nat_tests, get_or-set_other, Id, Body, Wait, CountedBodies, without_blocks, IsSettled, Any, AreLeft, new_wait, settled_less, SignaledState, KeepsEnough}
 use Rattle.ob_waits.specs.Waits.{has_slot, unless_of}
 use Rattle.ob_waits.proofs.Settled.{settled_added, settled_dropped}
 use Rattle.ob_store.specs.Signaled.{IsEnough, in_slot}

@@ -1,5 +1,5 @@
 -- Slots that are kept may be so, those that have a spelling fit, and which of them ever had an object.
-use Rattle.ob_store.proofs.Cited.{◌≡◌, ◌⊎◌, ℕ, ◌+◌, ◌-◌, ◌<◌, ◌≤◌, Bool, true, false, List, [], ◌++◌, length, get_or, map, replicate, take, drop, Option, sym, ap, ◌∙◌, arith, inl, inr, sum_by, AllByRecursion, range_with_len, cases_lt, le-leb, ext_get_or, length-replicate, get_or-map-range_with_len, length-map-range_with_len, get_or-le-sum_by, Slot, opening_slot, slot_of, Body, SavedSlot, Agrees, ObjectsInvariant, made_in, AreFormed, Object, ObjectsState, object_saved, slot_saved, slots_saved, SlotFits, ends_used, fresh_slot, used}
+use Rattle.ob_store.proofs.Cited.{◌≡◌, ◌⊎◌, ℕ, ◌+◌, ◌-◌, ◌<◌, ◌≤◌, Bool, true, false, List, ◌++◌, length, get_or, map, replicate, take, drop, Option, sym, ap, ◌∙◌, arith, inl, inr, sum_by, AllByRecursion, range_with_len, cases_lt, le-leb, Slot, opening_slot, slot_of, Body, SavedSlot, Agrees, ObjectsInvariant, made_in, AreFormed, Object, ObjectsState, object_saved, slot_saved, slots_saved, ext_get_or, length-replicate, get_or-map-range_with_len, length-map-range_with_len, get_or-le-sum_by, SlotFits, ends_used, fresh_slot, used}
 use Rattle.std.proofs.lemmas.List.{drop_all, length-append, length-drop, get_or-drop, get_or_append_left, get_or-append-add}
 use Rattle.std.proofs.lemmas.List.FromFn.{map-range_with_len_more}
 use Rattle.std.proofs.lemmas.List.Sums.{sum_by-take-drop, sum_by_more, sum_by_more_le}

@@ -1,5 +1,5 @@
 -- One header changed: what becomes of the lists that are read off the headers.
-use Rattle.ob_store.proofs.Cited.{◌≡◌, ℕ, ◌-◌, ◌+◌, ◌<◌, List, length, Option, Some, None, ap, ◌∙◌, sym, arith, get_or, set, map, replicate, Bool, true, false, cond, eqb, IfSome, IsSome, map-set_same, length-map, get_or-map, get_or_past, get_or-set_same, set-get_or, padded, Id, Body, Slots, is_vacant_at, map-replicate, slot_acquired, without_block, ObjectHeader, with_blocks_at, Object, Places, places_of, Tag, object_of, objects_in, header_body, vacancy, vacant_places, with_handle, without_handle, without_header, no_tag}
+use Rattle.ob_store.proofs.Cited.{◌≡◌, ℕ, ◌-◌, ◌+◌, ◌<◌, List, length, Option, Some, None, ap, ◌∙◌, sym, arith, get_or, set, map, replicate, Bool, true, false, cond, eqb, IfSome, IsSome, map-set_same, padded, Id, Body, map-replicate, slot_acquired, without_block, ObjectHeader, with_blocks_at, length-map, get_or-map, get_or_past, get_or-set_same, set-get_or, Slots, is_vacant_at, Object, Places, places_of, Tag, object_of, objects_in, header_body, vacancy, vacant_places, with_handle, without_handle, without_header, no_tag}
 use Rattle.std.proofs.lemmas.List.{map-set}
 use Rattle.least.proofs.PaddedLemmas.{padded_length}
 use Rattle.ob_arena.specs.Slots.{least_vacant, vacant_count}

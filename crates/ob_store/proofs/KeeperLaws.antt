@@ -1,5 +1,5 @@
 -- What holds of objects and their keeper holds over another keeper that begins with the same slots.
-use Rattle.ob_store.proofs.Cited.{arith, get_or_past, KeeperState, IsAgreed, ObjectsInvariant, ObjectsState}
+use Rattle.ob_store.proofs.Cited.{arith, get_or_past, ObjectsState, KeeperState, IsAgreed, ObjectsInvariant}
 use Rattle.pin_core.specs.Opened.{shown_from}
 use Rattle.pin_core.proofs.Openings.{shown-once}
 use Rattle.pin_words.specs.Keepers.{IsFreshWith}

@@ -1,6 +1,5 @@
 -- What is kept is kept by each change of a store, and the state after it is the settled one.
-use Rattle.std.proofs.lemmas.Bool.Decides.{nat_tests}
-use Rattle.ob_store.proofs.Cited.{at_place, ◌≡◌, ℕ, ◌+◌, ◌<◌, ◌≤◌, List, [], ◌∷◌, length, Option, Some, None, refl, ap, ◌∙◌, sym, subst, arith, get_or, map, true, ltb, set, IsSome, Id, Slot, KeeperState, HandleFlags, Entry, handles_among, entry_at, IsBounded, table_of, with_entry_of, with_flags_of, HasBodies, WaitList, Limits, IsLive, ProcessesKept, ProcessesState, Object, ObjectsState, KeptRest, kept_rest, opened, ObjectsInvariant, PartsState, state_of, whole_of, SignaledState, Whole, objects_of, settled, generation_of, StoreInvariant, IsSound, IsCounted, AreFormed, AreOfLive, IsListing, IsPopulated, IsNamed, IsFree}
+use Rattle.ob_store.proofs.Cited.{nat_tests, at_place, ◌≡◌, ℕ, ◌<◌, ◌≤◌, List, [], ◌∷◌, length, Option, Some, None, refl, ap, subst, arith, get_or, map, set, IsSome, Id, Slot, KeeperState, HandleFlags, Entry, handles_among, entry_at, IsBounded, table_of, with_entry_of, with_flags_of, WaitList, Limits, ObjectsInvariant, PartsState, state_of, whole_of, SignaledState, StoreInvariant, IsSound, IsCounted, AreFormed, AreOfLive, IsPopulated, IsNamed, HasBodies, IsLive, ProcessesKept, ProcessesState, ObjectsState, KeptRest, kept_rest, opened, Whole, objects_of, settled, generation_of, IsFree}
 use Rattle.ob_tables.specs.Tables as tables
 use Rattle.ob_tables.proofs.SlotCounts.{slot_handles-le}
 use Rattle.ob_waits.specs.Rules.{WaitsHaveRoom}

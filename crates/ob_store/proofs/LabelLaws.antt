@@ -1,8 +1,7 @@
 -- The objects that are read off the headers and their tags, and the tags that are read off labels and names.
-use Rattle.ob_store.proofs.Cited.{◌≡◌, ℕ, zero, suc, ◌-◌, ◌∷◌, ◌++◌, [], ◌<◌, List, length, Option, Some, None, refl, ap, ◌∙◌, sym, arith, get_or, set, replicate, false, cond, IsSome, padded, ObjectName, Label, ObjectHeader, Tag, name_in, object_of, objects_in, no_tag, tag_of, tags_in, at_place, nat_tests, ext_get_or, length-replicate, Object}
+use Rattle.ob_store.proofs.Cited.{◌≡◌, ℕ, zero, suc, ◌-◌, ◌∷◌, ◌++◌, [], ◌<◌, List, length, Option, Some, None, refl, ap, ◌∙◌, arith, get_or, set, replicate, false, cond, IsSome, padded, ObjectName, Label, ObjectHeader, at_place, nat_tests, ext_get_or, length-replicate, Tag, name_in, object_of, objects_in, no_tag, tag_of, tags_in}
 use Rattle.std.proofs.lemmas.List.{get_or_default}
 use Rattle.ob_store.specs.Objects.{object_at, no_label}
-use Rattle.least.proofs.PaddedLemmas.{padded_at}
 use Rattle.ob_store.proofs.ByPlace.{replicate_at}
 
 pub object_read : (xs : List (Option ObjectHeader)) (ls : List Tag) (k : ℕ)
@@ -86,16 +85,21 @@ tags_push ls ns same = ext_get_or no_tag _ _ (grind (arith, at_place, tags_lengt
 pub tag_read : (ls : List Label) (ns : List (Option ObjectName)) (k : ℕ) (l : Label) (n : Option ObjectName)
     → l ≡ get_or ls k l → n ≡ get_or ns k n → k < length ls → k < length ns
     → tag_of l n ≡ get_or (tags_in ls ns) k (tag_of l n)
-tag_read ls ns k l n is named labelled within = grind (arith, tag_at, tags_length, get_or_default ls k l no_label labelled,
-    get_or_default ns k n None within, get_or_default (tags_in ls ns) k no_tag (tag_of l n))
+tag_read ls ns k l n is named labelled within = grind (
+  arith,
+  tag_at,
+  tags_length,
+  get_or_default ls k l no_label labelled,
+  get_or_default ns k n None within,
+  get_or_default (tags_in ls ns) k no_tag (tag_of l n),
+)
 
 -- an object has the name that stands beside its label, where that says so
 pub name_here : (xs : List (Option ObjectHeader)) (ls : List Label) (ns : List (Option ObjectName)) (k : ℕ) (l : Label)
     (n : Option ObjectName) → IsSome (get_or (objects_in xs (tags_in ls ns)) k None) → l ≡ get_or ls k l
     → n ≡ get_or ns k n → k < length ls → k < length ns
     → cond l.is_named n None ≡ name_in (get_or (objects_in xs (tags_in ls ns)) k None)
-name_here xs ls ns k l n there is named labelled within =
-    search (arith, object_read, tag_at, get_or_default)
+name_here xs ls ns k l n there is named labelled within = search (arith, object_read, tag_at, get_or_default)
 
 -- a label comes without a name, or with one
 pub tags_plain : (ls : List Label) (ns : List (Option ObjectName)) (k : ℕ) (l : Label) → l.is_named ≡ false

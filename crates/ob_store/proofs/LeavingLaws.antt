@@ -1,5 +1,5 @@
 -- The entry of a handle leaves: what is sound stays so, and is on its way to the settled state.
-use Rattle.ob_store.proofs.Cited.{at_place, ◌≡◌, ℕ, ◌+◌, ◌<◌, List, length, Option, Some, None, refl, ap, ◌∙◌, sym, arith, get_or, Bool, true, false, cond, eqb, [], is_some, IsSome, nat_tests, KeeperState, ObjectName, Rows, Entry, entry_at, handles_among, table_of, without_entry_of, Object, ObjectsState, name_in, ObjectsInvariant, IsThere, IsNamed, IsListing, IsSound, PartsState, State, AreLeft, IsUnderWay}
+use Rattle.ob_store.proofs.Cited.{at_place, ◌≡◌, ℕ, ◌+◌, ◌<◌, List, length, Option, Some, None, arith, get_or, Bool, eqb, [], IsSome, nat_tests, KeeperState, ObjectName, Rows, Entry, handles_among, table_of, without_entry_of, ObjectsInvariant, IsThere, IsNamed, IsListing, IsSound, PartsState, State, AreLeft, IsUnderWay, entry_at, Object, ObjectsState, name_in}
 use Rattle.ob_tables.specs.Table.{without_entry}
 use Rattle.ob_store.specs.Objects.{without_handle_of}
 use Rattle.ob_store.specs.Moves.{rows_left, rows_without}
@@ -15,9 +15,7 @@ use Rattle.ob_store.proofs.KeptLaws.{same_generations, table_changed}
 nothing_left : (value : ℕ) → without_entry [] value ≡ []
 nothing_left value = search arith
 
-module _ (p : PartsState) (process value : ℕ) (e : Entry)
-    (sound : IsSound p)
-    (tied : ObjectsInvariant p.objects)
+module _ (p : PartsState) (process value : ℕ) (e : Entry) (sound : IsSound p) (tied : ObjectsInvariant p.objects)
     (found : entry_at (table_of p.tables.tables process) value ≡ Some e) where
   abbrev o : ObjectsState
   o = p.objects

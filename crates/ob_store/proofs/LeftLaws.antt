@@ -1,5 +1,5 @@
 -- Bodies that went, as references left.
-use Rattle.ob_store.proofs.Cited.{◌≡◌, ℕ, ◌⊎◌, List, [], ◌∷◌, Option, None, get_or, set, Bool, cond, arith, length-set, Id, Body, ended, CountedBodies, without_block, without_blocks, HasBodies, Object, AreFormed, AreLeft}
+use Rattle.ob_store.proofs.Cited.{◌≡◌, ℕ, ◌⊎◌, List, [], ◌∷◌, Option, None, get_or, set, Bool, cond, arith, length-set, Id, Body, CountedBodies, without_block, without_blocks, HasBodies, Object, AreFormed, AreLeft, ended}
 use Rattle.ob_waits.specs.Ends.{slot_ended}
 use Rattle.ob_waits.proofs.EndsLast.{is_ended}
 use Rattle.ob_waits.proofs.Settling.{IsLess}

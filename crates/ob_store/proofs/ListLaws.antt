@@ -1,9 +1,6 @@
 -- The published list has each object.
-use Rattle.ob_codec.proofs.AtPlace.{at_place}
-use Rattle.std.proofs.lemmas.Bool.Decides.{nat_tests}
-use Rattle.ob_store.proofs.Cited.{◌≡◌, ℕ, ◌<◌, List, [], ◌∷◌, ◌++◌, length, get_or, set, ap, arith, Option, Some, None, get_or-set_same, get_or-set_other, get_or_past, length-set, Id, Slot, slot_of, id_of, Object, ObjectsState, ObjectAttributes, object_in}
+use Rattle.ob_store.proofs.Cited.{at_place, nat_tests, ◌≡◌, ℕ, ◌<◌, List, [], ◌∷◌, ◌++◌, length, set, arith, Option, Some, get_or-set_same, get_or-set_other, get_or_past, length-set, Id, Object, ObjectsState, ObjectAttributes, object_in}
 use Rattle.pin_core.specs.declared.descr.Descr.{Descr}
-use Rattle.pin_core.specs.Events.{with_descr}
 use Rattle.pin_core.proofs.Counts.{count-snoc}
 use Rattle.pin_words.specs.Keepers.{stored, published}
 use Rattle.ob_store.specs.Agreement.{Listed, IsListed}

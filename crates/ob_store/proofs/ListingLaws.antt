@@ -1,5 +1,5 @@
 -- The names that are entered go on being the directory, and distinct, as handles and objects come and leave.
-use Rattle.ob_store.proofs.Cited.{◌≡◌, ℕ, ◌+◌, ◌<◌, ◌≤◌, [], ◌∷◌, ◌++◌, length, replicate, Some, None, refl, ap, ◌∙◌, sym, subst, arith, get_or, set, Bool, true, false, not, ◌&&◌, ltb, inl, inr, Option, Contains, cases_lt, append-nil, get_or_past, same_Some, HandleFlags, Id, same_id, ObjectName, AreDistinct, Rows, find_name, Row, Entry, handles_among, handles_in, entry_at, table_of, with_entry_of, with_flags_of, with_table, without_entry_of, handles_among-with_table, some_within, Object, ObjectsState, AreBorn, IsAgreed, rows_of, IsListing}
+use Rattle.ob_store.proofs.Cited.{HandleFlags, Id, same_id, ObjectName, Row, Entry, handles_among, handles_in, entry_at, Object, ObjectsState, AreBorn, IsAgreed, rows_of, IsListing, ◌≡◌, ℕ, ◌+◌, ◌<◌, ◌≤◌, [], ◌∷◌, ◌++◌, length, replicate, Some, None, refl, ap, ◌∙◌, sym, subst, arith, get_or, set, Bool, true, false, not, ◌&&◌, ltb, inl, inr, Option, Contains, cases_lt, append-nil, get_or_past, AreDistinct, Rows, find_name, table_of, with_entry_of, with_flags_of, with_table, without_entry_of, handles_among-with_table, some_within}
 use Rattle.std.proofs.Common.{is_some}
 use Rattle.std.specs.Cmp.{both_ways}
 use Rattle.std.specs.List.{All, IsDistinct, filter}
@@ -150,9 +150,8 @@ module _ (rows : Rows) (ts : Tables) (objects : ObjectSlots) (births : ℕ)
 
     -- the last entry of an object leaves: a name leaves with it
     pub listing_removed_last : (p value : ℕ) (e : Entry) (o : Object) → entry_at (table_of ts p) value ≡ Some e
-        → handles_among e.id (without_entry_of ts p value) ≡ 0
-        → get_or objects e.id.slot None ≡ Some o → o.id ≡ e.id → o.name ≡ None
-        → IsListing rows (without_entry_of ts p value) objects births
+        → handles_among e.id (without_entry_of ts p value) ≡ 0 → get_or objects e.id.slot None ≡ Some o → o.id ≡ e.id
+        → o.name ≡ None → IsListing rows (without_entry_of ts p value) objects births
     listing_removed_last p value e o found none at own nameless = record {
       same = listing.same ∙ sym (rows_without ts objects births p value e found none
           ∙ others_stay e.id (rows_of ts objects births) others);
@@ -182,8 +181,7 @@ module _ (rows : Rows) (ts : Tables) (objects : ObjectSlots) (births : ℕ)
         has = search (arith, found_counts)
 
         there : Contains (rows_of ts objects births) (name, o.id)
-        there = row_there ts objects o.id.slot o name births (here objects e o at own)
-            (search arith) named has
+        there = row_there ts objects o.id.slot o name births (here objects e o at own) (search arith) named has
 
         alike : All (λ (row : Row). same_id row.1 o.id ≡ same_name name row.0) (rows_of ts objects births)
         alike k d less =
@@ -197,8 +195,7 @@ module _ (rows : Rows) (ts : Tables) (objects : ObjectSlots) (births : ℕ)
 
     -- a new object comes to an empty slot, with its first entry: its name comes last
     pub listing_added : (p : ℕ) (e : Entry) (o : Object) → AreBorn objects births → p < length ts → o.id ≡ e.id
-        → o.birth ≡ births → o.name ≡ None
-        → get_or objects e.id.slot None ≡ None → e.id.slot < length objects
+        → o.birth ≡ births → o.name ≡ None → get_or objects e.id.slot None ≡ None → e.id.slot < length objects
         → IsListing rows (with_entry_of ts p e) (set objects e.id.slot (Some o)) (births + 1)
     listing_added p e o born table own number nameless empty within = search (arith, handles_among-with_entry, rows_added, rows_same, append-nil)
 

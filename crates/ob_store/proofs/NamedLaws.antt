@@ -1,6 +1,5 @@
 -- Each Id that is named goes on being that of an object; and what a slot counts is what its object's Id counts.
-use Rattle.std.proofs.lemmas.Bool.Decides.{nat_tests}
-use Rattle.ob_store.proofs.Cited.{at_place, ◌≡◌, ℕ, ◌≢◌, suc, ◌<◌, ◌≤◌, List, [], ◌∷◌, length, Option, Some, None, refl, ap, ◌∙◌, arith, get_or, set, Bool, cond, eqb, sum_by, get_or_past, get_or-set_same, get_or-set_other, sum_by-cons, get_or-le-sum_by, same_id, Id, HandleFlags, Entry, entry_at, handles_among, slot_handles, table_of, with_table, with_entry_of, with_flags_of, without_entry_of, some_within, handles_among-with_table, Wait, Scene, nowhere, ids_of, slot_places, slot_blocks, blocks_among, Object, id_in, IsThere, IsNamed, cases_lt, inl, inr}
+use Rattle.ob_store.proofs.Cited.{nat_tests, at_place, ◌≡◌, ℕ, suc, ◌<◌, ◌≤◌, List, [], ◌∷◌, length, Option, Some, None, refl, ap, arith, get_or, set, cond, eqb, inl, inr, sum_by, get_or_past, sum_by-cons, get_or-le-sum_by, same_id, Id, HandleFlags, Entry, handles_among, slot_handles, table_of, with_table, with_entry_of, with_flags_of, without_entry_of, Wait, Object, IsThere, IsNamed, cases_lt, entry_at, some_within, handles_among-with_table, Scene, nowhere, ids_of, slot_blocks, blocks_among}
 use Rattle.ob_tables.specs.Table.{at}
 use Rattle.ob_tables.proofs.Counting.{same_id-same, found_counts, handles_among-with_entry, handles_among-with_flags, handles_among-without_entry}
 use Rattle.ob_tables.proofs.SlotCounts.{slot_handles-one}
@@ -50,12 +49,6 @@ module _ (objects : List (Option Object)) (ts : List (List (Option Entry))) (ws 
   -- the Id of an entry
   pub named_entry : (p value : ℕ) (e : Entry) → entry_at (table_of ts p) value ≡ Some e → IsThere objects e.id
   named_entry p value e found = named.entries e.id (found_counts ts p value e found)
-
-  -- an entry comes, of an object that is there
-  placed_entry : (objects' : List (Option Object)) (p : ℕ) (e : Entry) → p < length ts → IsThere objects' e.id
-      → ((id : Id) → IsThere objects id → IsThere objects' id)
-      → (id : Id) (c : Bool) → same_id e.id id ≡ c → 0 < handles_among id (with_entry_of ts p e) → IsThere objects' id
-  placed_entry = search (arith, handles_among-with_entry)
 
   pub named_placed : (p : ℕ) (e : Entry) → p < length ts → 0 < handles_among e.id ts
       → IsNamed objects (with_entry_of ts p e) ws

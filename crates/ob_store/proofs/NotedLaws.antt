@@ -1,5 +1,5 @@
 -- What is noted beside the headers, while one of them changes.
-use Rattle.ob_store.proofs.Cited.{at_place, ℕ, arith, ◌≡◌, ◌<◌, ◌≤◌, List, length, Option, Some, None, ap, refl, sym, get_or, map, set, Bool, false, cond, IsSome, is_some, length-set, Body, ObjectName, slot_due, slot_owner, Label, ObjectHeader, header_due}
+use Rattle.ob_store.proofs.Cited.{at_place, ℕ, arith, ◌≡◌, ◌<◌, ◌≤◌, List, length, Option, Some, None, ap, refl, sym, get_or, map, set, Bool, false, cond, length-set, Body, ObjectName, slot_due, slot_owner, Label, ObjectHeader, IsSome, is_some, header_due}
 use Rattle.std.specs.Prelude.{not}
 use Rattle.ob_store.specs.Owners.{owned_came, owned_left, owned_moved, header_owner}
 use Rattle.ob_store.specs.Timers.{AreNoted, due_left}

@@ -1,5 +1,5 @@
 -- Numbers of waits begin anew: what is kept stays so, and there is always one left.
-use Rattle.ob_store.proofs.Cited.{◌≡◌, ℕ, ◌+◌, Bool, true, false, cond, List, length, Option, Some, None, refl, sym, ap, ◌∙◌, arith, get_or, Err, nat_tests, Wait, thread_of, Id, Mode, WaitList, IsLive, StoreInvariant, PartsState, state_of, whole_of, Pending, State, Whole, settled, with_wait}
+use Rattle.ob_store.proofs.Cited.{nat_tests, Wait, Id, Mode, IsLive, StoreInvariant, PartsState, state_of, whole_of, State, Whole, settled, ◌≡◌, ℕ, ◌+◌, Bool, true, false, cond, List, Option, Some, None, refl, ap, ◌∙◌, arith, get_or, Err, thread_of, WaitList, Pending, with_wait}
 use Rattle.std.proofs.Common.{◌↔◌}
 use Rattle.ob_waits.specs.Rules.{WaitsInvariant}
 use Rattle.ob_waits.specs.Waits.{is_full, state_at, state_shown, with_renewed}

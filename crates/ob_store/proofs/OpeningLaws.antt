@@ -1,5 +1,5 @@
 -- The state before any call is kept.
-use Rattle.ob_store.proofs.Cited.{◌≡◌, ℕ, zero, suc, ◌≤◌, [], ◌∷◌, None, refl, arith, map-replicate, sum_by, length-replicate, opening_slot, KeeperState, HandleTables, WaitList, Limits, ObjectsInvariant, made_in, ObjectsState, with_keeper, vacant_places, PartsState, whole_of, Whole, shape_of, StoreInvariant}
+use Rattle.ob_store.proofs.Cited.{◌≡◌, ℕ, zero, suc, ◌≤◌, [], ◌∷◌, None, refl, arith, map-replicate, length-replicate, opening_slot, HandleTables, WaitList, Limits, ObjectsInvariant, made_in, ObjectsState, with_keeper, vacant_places, PartsState, whole_of, StoreInvariant, sum_by, KeeperState, Whole, shape_of}
 use Rattle.ob_store.proofs.ByPlace.{replicate_at}
 use Rattle.std.specs.Prelude.{replicate}
 use Rattle.pin_words.specs.Keepers.{IsFresh}

@@ -1,5 +1,5 @@
 -- How many mutexes each thread owns, while bodies change.
-use Rattle.ob_store.proofs.Cited.{at_place, ◌≡◌, ℕ, zero, suc, ◌-◌, ◌+◌, ◌<◌, ◌≤◌, List, length, Option, Some, None, refl, ap, ◌∙◌, sym, arith, get_or, set, map, replicate, Bool, true, false, cond, inl, inr, count_by, IsSome, length-set, length-map, length-replicate, get_or_past, get_or-set_same, get_or-set_other, get_or-map, get_or-le-sum_by, cases_lt, Body, is_owner, Slots, is_vacant_at, slot_owner, ObjectHeader, slot_left_by, Places, Tag, objects_in, places_of, header_body, vacancy, by_slot}
+use Rattle.ob_store.proofs.Cited.{at_place, ◌≡◌, ℕ, zero, suc, ◌-◌, ◌+◌, ◌<◌, ◌≤◌, List, length, Option, Some, None, refl, ap, ◌∙◌, sym, arith, get_or, set, map, replicate, Bool, true, false, cond, inl, inr, count_by, IsSome, length-set, length-map, length-replicate, get_or_past, get_or-set_same, get_or-set_other, get_or-map, cases_lt, Body, is_owner, Slots, is_vacant_at, slot_owner, ObjectHeader, slot_left_by, Places, Tag, objects_in, places_of, header_body, vacancy, by_slot, get_or-le-sum_by}
 use Rattle.std.proofs.lemmas.List.Sums.{sum_by-set, count_by-le-length}
 use Rattle.ob_store.specs.Owners.{header_owner, is_header_of, owned_left, owned_came, owned_moved, IsOwned}
 use Rattle.ob_store.proofs.LabelLaws.{object_read, objects_length}
@@ -26,9 +26,8 @@ pub owned_few : (xs : List (Option ObjectHeader)) (counts : List ℕ) → IsOwne
 owned_few xs counts owned t = search (arith, count_by-le-length, count_few)
 
 pub moved_owned : (xs : List (Option ObjectHeader)) (counts : List ℕ) (k : ℕ) (y : Option ObjectHeader)
-    (before after : Option ℕ)
-    → IsOwned xs counts → k < length xs → before ≡ header_owner (get_or xs k None) → after ≡ header_owner y
-    → IsOwned (set xs k y) (owned_moved counts before after)
+    (before after : Option ℕ) → IsOwned xs counts → k < length xs → before ≡ header_owner (get_or xs k None)
+    → after ≡ header_owner y → IsOwned (set xs k y) (owned_moved counts before after)
 moved_owned xs counts k y before after owned lt was now = search (arith, at_left, at_came, length-set, count_at, get_or-le-sum_by, is_by_slot, sum_by-set)
 
 pub some_there : (xs : List (Option ObjectHeader)) (k : ℕ) (x : ObjectHeader) → get_or xs k None ≡ Some x
@@ -37,8 +36,7 @@ some_there xs k x is = search (arith, get_or_past)
 
 -- a header changed, and its owner not
 pub same_owned : (xs : List (Option ObjectHeader)) (counts : List ℕ) (k : ℕ) (y : Option ObjectHeader)
-    → IsOwned xs counts
-    → header_owner y ≡ header_owner (get_or xs k None) → k < length xs → IsOwned (set xs k y) counts
+    → IsOwned xs counts → header_owner y ≡ header_owner (get_or xs k None) → k < length xs → IsOwned (set xs k y) counts
 same_owned xs counts k y owned same lt = search (arith, length-set, sum_by-set)
 
 pub owned_none : (slots threads : ℕ) → slots ≤ 65536 → IsOwned (replicate slots None) (replicate threads 0)
@@ -54,9 +52,8 @@ owned_none slots threads few = record {
 
 -- a header changed, with its owner or not
 pub owned_set : (xs : List (Option ObjectHeader)) (counts : List ℕ) (k : ℕ) (x y : ObjectHeader)
-    (before after : Option ℕ)
-    → IsOwned xs counts → get_or xs k None ≡ Some x → before ≡ slot_owner x.body → after ≡ slot_owner y.body
-    → IsOwned (set xs k (Some y)) (owned_moved counts before after)
+    (before after : Option ℕ) → IsOwned xs counts → get_or xs k None ≡ Some x → before ≡ slot_owner x.body
+    → after ≡ slot_owner y.body → IsOwned (set xs k (Some y)) (owned_moved counts before after)
 owned_set xs counts k x y before after owned there was now = grind (arith, at_place, moved_owned)
 
 pub owned_stays : (xs : List (Option ObjectHeader)) (counts : List ℕ) (k : ℕ) (x y : ObjectHeader) → IsOwned xs counts
@@ -65,9 +62,8 @@ owned_stays xs counts k x y owned there same = grind (arith, at_place, same_owne
 
 -- a body goes, or stays
 pub owned_left_at : (xs : List (Option ObjectHeader)) (counts : List ℕ) (k : ℕ) (x y : ObjectHeader) (b : Bool)
-    (o : Option Body)
-    → IsOwned xs counts → get_or xs k None ≡ Some x → o ≡ cond b x.body None → y.body ≡ cond b None x.body
-    → IsOwned (set xs k (Some y)) (owned_left counts (slot_owner o))
+    (o : Option Body) → IsOwned xs counts → get_or xs k None ≡ Some x → o ≡ cond b x.body None
+    → y.body ≡ cond b None x.body → IsOwned (set xs k (Some y)) (owned_left counts (slot_owner o))
 owned_left_at xs counts k x y true o owned there went none =
     owned_set xs counts k x y (slot_owner o) None owned there (ap slot_owner went) (sym (ap slot_owner none))
 owned_left_at xs counts k x y false o owned there went same = grind (arith, at_place, owned_stays)
@@ -112,6 +108,5 @@ vacant_header s tags p k view is = search (arith, object_read, objects_length)
 
 -- a slot with an object is there
 pub object_within : (s : Slots ObjectHeader) (labels : List Tag) (k : ℕ)
-    → IsSome (get_or (objects_in s.bodies labels) k None)
-    → k < length s.bodies
+    → IsSome (get_or (objects_in s.bodies labels) k None) → k < length s.bodies
 object_within s labels k there = search (arith, get_or_past, objects_length)

@@ -40,8 +40,7 @@ pub ending_ended : (first : KeeperState) (p p' : PartsState) (s : State) (proces
     → is_of process (get_or p.processes.threads thread None) ≡ true → IsEnding first p (threads_ended s process thread)
     → IsEnding first p' (thread_ended (threads_ended s process thread) thread)
     → IsEnding first p' (threads_ended s process (thread + 1))
-ending_ended first p p' s process thread its before after =
-    search arith
+ending_ended first p p' s process thread its before after = search arith
 
 -- a thread of the process
 pub its_own : (p : ℕ) (x : Option ℕ) → x ≡ Some p → is_of p x ≡ true

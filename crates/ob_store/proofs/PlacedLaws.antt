@@ -1,5 +1,5 @@
 -- What a slot counts refers to its object; and a thread's process has its table.
-use Rattle.ob_store.proofs.Cited.{nat_tests, at_place, ◌≡◌, ℕ, ◌<◌, List, length, Option, Some, None, ap, ◌∙◌, sym, arith, get_or, IfSome, get_or_past, handles_among, blocks_among, Entry, Limits, IsLive, ProcessesKept, ProcessesState, Object, ObjectsState, object_of, tag_of, ObjectsInvariant, IsSound, IsThere, PartsState}
+use Rattle.ob_store.proofs.Cited.{nat_tests, at_place, ◌≡◌, ℕ, ◌<◌, List, length, Option, Some, None, ◌∙◌, sym, arith, get_or, get_or_past, handles_among, blocks_among, Entry, Limits, IsLive, ProcessesKept, ProcessesState, Object, ObjectsState, object_of, tag_of, ObjectsInvariant, IsSound, IsThere, PartsState, IfSome}
 use Rattle.std.specs.Prelude.{OnSome}
 use Rattle.std.specs.Option.{option_map}
 use Rattle.ob_store.specs.declared.found.Found.{Found}

@@ -1,5 +1,5 @@
 -- Each live process has a live thread: as a test of what is read, and as it is kept.
-use Rattle.ob_store.proofs.Cited.{at_place, ◌≡◌, ℕ, ◌≢◌, zero, suc, Bool, true, false, cond, List, [], ◌∷◌, length, Option, Some, None, refl, ap, ◌∙◌, arith, get_or, set, inl, inr, IsSome, is_none, cases_eq, nat_tests, thread_ended, threads_ended, IsLive, ProcessesState, IsPopulated, State, IsFree}
+use Rattle.ob_store.proofs.Cited.{at_place, IsPopulated, State, ◌≡◌, ℕ, ◌≢◌, zero, suc, Bool, true, false, cond, List, [], ◌∷◌, length, Option, Some, None, refl, ap, ◌∙◌, arith, get_or, set, inl, inr, cases_eq, thread_ended, threads_ended, IsLive, ProcessesState, IsFree}
 use Rattle.std.proofs.Common.{◌||◌}
 use Rattle.std.specs.List.{list_any}
 use Rattle.std.proofs.lemmas.Bool.{eq-eqb}
@@ -49,8 +49,7 @@ threads_left s p zero besides = besides
 threads_left s p (suc n) besides = search (arith, thread_left, threads_left s p n besides)
 
 -- so each has one where that one ends
-process_left : (s : State) (p : ℕ) → Besides p s
-    → IsPopulated (process_ended s p).processes (process_ended s p).threads
+process_left : (s : State) (p : ℕ) → Besides p s → IsPopulated (process_ended s p).processes (process_ended s p).threads
 process_left s p besides q live = grind (arith, at_place)
 
 pub populated_exited : (s : State) (p : ℕ) → IsPopulated s.processes s.threads

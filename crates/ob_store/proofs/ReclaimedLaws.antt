@@ -1,5 +1,5 @@
 -- An ended object leaves its slot, to which nothing refers.
-use Rattle.ob_store.proofs.Cited.{at_place, ◌≡◌, ℕ, ◌+◌, ◌<◌, ◌≤◌, List, Option, Some, None, ap, ◌∙◌, sym, arith, get_or, set, map, Bool, true, is_some, map-set_same, length-set, set-get_or, nat_tests, Slot, opening_slot, KeeperState, Object, ObjectsState, places_in, with_keeper, without_header, ObjectsInvariant, PartsState, state_of, whole_of, Whole, generation_of, StoreInvariant}
+use Rattle.ob_store.proofs.Cited.{at_place, ◌≡◌, ℕ, ◌+◌, ◌<◌, ◌≤◌, List, Option, Some, None, ap, ◌∙◌, sym, arith, get_or, set, map, Bool, true, is_some, map-set_same, nat_tests, Slot, opening_slot, Object, ObjectsState, places_in, with_keeper, without_header, PartsState, state_of, whole_of, Whole, generation_of, StoreInvariant, length-set, set-get_or, KeeperState, ObjectsInvariant}
 use Rattle.std.proofs.Math.ListN.{get_or-map}
 use Rattle.std.proofs.lemmas.List.{map-set}
 use Rattle.pin_core.specs.declared.word.Phase.TheVariants as phase
@@ -26,17 +26,11 @@ module _ (p : PartsState) (kept : StoreInvariant p) (tied : ObjectsInvariant p.o
   abbrev o : ObjectsState
   o = p.objects
 
-  ended : get_or p.objects.seen.bodies k None ≡ None
-  ended = rw (← view) at bodiless
-
   is_object : (q : Object) × (get_or p.objects.objects k None ≡ Some q)
   is_object = found _ (rw (← view) at there)
 
   abbrev object : Object
   object = is_object.0
-
-  no_references : (get_or p.objects.seen.handles k 0 ≡ 0) × (get_or p.objects.seen.blocks k 0 ≡ 0)
-  no_references = unreferenced o k ended tied
 
   -- the object leaves, whatever is said of the slot then
   module _ (retired : List Bool) (keeper : KeeperState) (shape : keeper.shape ≡ p.objects.keeper.shape) where

@@ -1,16 +1,12 @@
 -- Objects that are kept are read again as they were written.
-use Rattle.ob_codec.proofs.AtPlace.{at_place}
-use Rattle.std.proofs.lemmas.Bool.Decides.{nat_tests}
-use Rattle.ob_store.proofs.Cited.{◌≡◌, ℕ, ◌<◌, Bool, false, List, [], ◌∷◌, ◌++◌, length, get_or, map, Option, None, Ok, refl, sym, ap, ◌∙◌, subst, arith, sum_by, AllByRecursion, range_with_len, ext_get_or, get_or-map, length-map, get_or-map-range_with_len, length-map-range_with_len, sum_by-cons, Shape, Slot, opening_slot, slot_of, Body, Rows, Entry, IsBounded, WaitList, Limits, SavedSlot, Agrees, AreBorn, ObjectsInvariant, made_in, counting_all, AreOfLive, IsCounted, IsListing, IsNamed, Object, ObjectsState, Places, places_in, names_in, object_saved, objects_at, objects_text, slot_saved, slots_saved, whole_at, with_slots, with_blocks, SlotFits, body_from, fresh_slot, keeper_slot, objects_from, places_from, slots_at, shape_of}
+use Rattle.ob_store.proofs.Cited.{at_place, nat_tests, ◌≡◌, ℕ, ◌<◌, Bool, false, List, [], ◌∷◌, ◌++◌, length, get_or, map, Option, None, Ok, refl, sym, ap, ◌∙◌, arith, AllByRecursion, range_with_len, ext_get_or, get_or-map, length-map, get_or-map-range_with_len, length-map-range_with_len, sum_by-cons, Shape, Slot, opening_slot, slot_of, Body, Rows, Entry, IsBounded, WaitList, Limits, SavedSlot, Agrees, ObjectsInvariant, made_in, Object, ObjectsState, Places, places_in, with_blocks, shape_of, sum_by, counting_all, AreOfLive, IsCounted, IsListing, IsNamed, object_saved, objects_at, objects_text, slot_saved, slots_saved, whole_at, SlotFits, body_from, fresh_slot, keeper_slot, objects_from, places_from, slots_at}
 use Rattle.std.specs.Prelude.{replicate}
-use Rattle.std.proofs.lemmas.List.FromFn.{get_or-range_with_len, length-range_with_len}
 use Rattle.ob_store.specs.Counting.{uncounted}
 use Rattle.ob_store.specs.Kept.{IsQuiet}
-use Rattle.ob_store.specs.SavedObjects.{begun_over, whole_objects}
+use Rattle.ob_store.specs.SavedObjects.{begun_over}
 use Rattle.ob_store.specs.SavedSlots.{body_in, is_retired}
 use Rattle.ob_store.proofs.BySlot.{zero_counts}
 use Rattle.ob_store.proofs.CountingAgain.{counting_again}
-use Rattle.ob_store.proofs.NamedLaws.{sum_same}
 use Rattle.ob_store.proofs.SavedCodecs.{rows_codec}
 use Rattle.ob_store.proofs.SavedKeptLaws.{all_taken, blocks_counted}
 use Rattle.ob_store.proofs.SavedLaws.{objects-long}
@@ -61,8 +57,7 @@ module _ (s : ObjectsState) (tied : ObjectsInvariant s) where
       (search (arith, get_or-map-range_with_len, length-map-range_with_len))
 
   births-back : sum_by made_in (map keeper_slot xs) ≡ s.births
-  births-back =
-      grind (arith, nat_tests, at_place, sum_map, slots-back, tied.made)
+  births-back = grind (arith, nat_tests, at_place, sum_map, slots-back, tied.made)
 
   -- before anything that refers to the objects is counted
   abbrev bare : Places

@@ -1,5 +1,5 @@
 -- Births that were ordered are distinct, and below their count.
-use Rattle.ob_store.proofs.Cited.{◌≡◌, ℕ, ◌≢◌, zero, suc, ◌<◌, true, false, cond, List, [], ◌∷◌, get_or, Option, Some, None, Ok, refl, sym, ap, ◌∙◌, arith, insert_entry, is_at, nat_cmp, same_Some, AreBorn, Object, Births, births_from}
+use Rattle.ob_store.proofs.Cited.{insert_entry, is_at, nat_cmp, Object, Births, births_from, ◌≡◌, ℕ, ◌≢◌, suc, ◌<◌, true, false, cond, List, [], ◌∷◌, Option, Some, None, Ok, refl, ◌∙◌, arith}
 use Rattle.std.proofs.Common.{eq-eqb, ne_eqb}
 use Rattle.std.specs.Cmp.{unsigned_tied}
 use Rattle.std.specs.Map.{lookup}

@@ -1,5 +1,5 @@
 -- Slots are read as they were spelled, and the objects that are read were spelled so.
-use Rattle.ob_store.proofs.Cited.{◌≡◌, ℕ, ◌<◌, Bool, true, false, List, ◌++◌, length, get_or, Option, None, Ok, refl, sym, ap, ◌∙◌, subst, arith, flat_map, le-leb, ext_get_or, get_or-map-range_with_len, length-map-range_with_len, where_codec, IsCodec, bind_ok, ok_is, Id, Slot, slot_of, Rows, Entry, WaitList, Wait, Limits, SavedObject, SavedSlot, ObjectsState, Places, object_saved, objects_at, objects_text, slot_saved, slots_saved, whole_at, with_slots, with_blocks, SlotFits, filled, fresh_slot, rows_at, slot_at, slot_text, slots_from, used}
+use Rattle.ob_store.proofs.Cited.{◌≡◌, ℕ, ◌<◌, Bool, true, false, List, ◌++◌, length, get_or, Option, None, Ok, refl, sym, ap, ◌∙◌, subst, arith, flat_map, le-leb, ext_get_or, get_or-map-range_with_len, length-map-range_with_len, bind_ok, ok_is, Id, Slot, slot_of, Rows, Entry, WaitList, Wait, Limits, SavedObject, SavedSlot, ObjectsState, Places, object_saved, objects_at, objects_text, slot_saved, slots_saved, whole_at, with_slots, with_blocks, where_codec, IsCodec, SlotFits, fresh_slot, slot_at, slot_text}
 use Rattle.ob_codec.specs.Codecs.{as_codec, both_codec, flag_codec, items_again, items_take, list_codec, option_codec, some_codec, u32_codec, u64_codec}
 use Rattle.ob_codec.specs.Laws.{Takes}
 use Rattle.ob_codec.specs.Reading.{items_at}
@@ -14,7 +14,7 @@ use Rattle.ob_store.proofs.SavedKeptLaws.{whole_steps}
 use Rattle.ob_store.proofs.SavedSlotLaws.{rows_all, slot_generation}
 use Rattle.ob_store.proofs.UsedLaws.{RowsFit, used_back, used_there}
 use Rattle.ob_store.specs.SavedSlots as saved
-use Rattle.ob_store.specs.SavedSlots.{ObjectFits, object_at, object_parts, object_text, rows_text, slot_parts, slot_stands}
+use Rattle.ob_store.specs.SavedSlots.{rows_at, slots_from, ObjectFits, object_at, object_text, rows_text}
 
 pub object_codec : IsCodec object_text object_at ObjectFits
 object_codec = as_codec _ _ (λ _. refl) (λ _. refl) (both_codec u64_codec (both_codec descr_codec (both_codec

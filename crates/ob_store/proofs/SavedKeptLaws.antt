@@ -1,22 +1,19 @@
 -- What holds of objects that were read, with their tables, waits and threads, and that such objects are taken.
-use Rattle.ob_store.proofs.Cited.{◌≡◌, ℕ, zero, suc, ◌+◌, ◌<◌, not, Bool, true, false, cond, List, [], ◌∷◌, length, get_or, map, Option, Some, None, Ok, refl, sym, ap, ◌∙◌, subst, arith, and_parts, list_all, count_by, sum_by, get_or-map, length-map, ◌>>=◌, bind_ok, same_id, Id, Slot, slot_of, Rows, Entry, handles_among, HasRoom, thread_of, WaitList, blocks_among, ids_of, nowhere, slot_blocks, Pending, Wait, Limits, Agrees, ObjectsInvariant, counting_all, is_its, IsLive, AreFormed, AreOfLive, IsCounted, IsListing, IsNamed, IsThere, Object, ObjectsState, Places, Births, births_from, names_in, whole_at, with_slots, slots_at, owner_stands, wait_stands, with_blocks, made_in, by_slot, shape_of, nat_tests}
+use Rattle.ob_store.proofs.Cited.{◌≡◌, ℕ, ◌<◌, not, Bool, true, false, cond, List, [], length, get_or, map, Option, Some, None, Ok, refl, sym, ap, ◌∙◌, subst, arith, list_all, count_by, sum_by, get_or-map, length-map, same_id, Id, Slot, slot_of, Rows, Entry, handles_among, Wait, Limits, Agrees, ObjectsInvariant, made_in, counting_all, is_its, IsLive, Object, ObjectsState, Places, Births, births_from, names_in, whole_at, with_slots, slots_at, by_slot, shape_of, nat_tests, and_parts, HasRoom, thread_of, WaitList, blocks_among, ids_of, nowhere, slot_blocks, Pending, AreFormed, AreOfLive, IsCounted, IsListing, IsNamed, IsThere, owner_stands, wait_stands, with_blocks, one_id}
 use Rattle.std.proofs.lemmas.Bool.{and_from}
 use Rattle.std.proofs.lemmas.List.Sums.{AllPass-from_list_all}
-use Rattle.ob_waits.specs.CountedBodies.{slot_room}
 use Rattle.ob_waits.specs.Rules.{WaitHasRoom}
-use Rattle.ob_waits.specs.Waits.{blocks_in, is_ready, list_ready, state_ids, state_ready}
+use Rattle.ob_waits.specs.Waits.{blocks_in, is_ready, state_ids, state_ready}
 use Rattle.ob_waits.specs.declared.wait.State.{State}
 use Rattle.ob_waits.specs.declared.wait.State.TheVariants.{Answered}
 use Rattle.ob_store.specs.Kept.{IsQuiet}
-use Rattle.ob_store.specs.SavedObjects.{whole_objects}
-use Rattle.ob_store.specs.SavedWaits.{all_stand, may_wait_for, object_blocks, owners_stand, state_stands, waits_stand}
+use Rattle.ob_store.specs.SavedWaits.{all_stand, may_wait_for, object_blocks, state_stands, waits_stand}
 use Rattle.ob_store.proofs.BySlot.{is_by_slot}
 use Rattle.ob_store.proofs.CountingAgain.{its_id}
 use Rattle.ob_store.proofs.NamedLaws.{blocks_are, blocks_vacant, place_counted, some_counts}
 use Rattle.ob_store.proofs.SavedNameLaws.{names_sound}
 use Rattle.ob_store.proofs.SavedObjectLaws.{entries_read, formed_read, handles_read}
 use Rattle.ob_store.proofs.ByPlace.{all_at, all_from}
-use Rattle.ob_tables.proofs.Counting.{one_id}
 
 -- the steps in which objects were read
 pub record IsWhole (limits : Limits) (tables : List (List (Option Entry))) (list : WaitList) (bytes : List ℕ)
@@ -34,8 +31,7 @@ pub record IsWhole (limits : Limits) (tables : List (List (Option Entry))) (list
 pub whole_steps : (limits : Limits) (tables : List (List (Option Entry))) (list : WaitList) (bytes : List ℕ)
     (s : ObjectsState) (rows : Rows) (rest : List ℕ) → whole_at limits tables list bytes ≡ Ok ((s, rows), rest) →
     IsWhole limits tables list bytes s rows rest
-whole_steps limits tables list bytes s rows rest e =
-    search arith
+whole_steps limits tables list bytes s rows rest e = search arith
 
 -- what waits that can be there keep
 module _ (limit : ℕ) (threads : List (Option ℕ)) (s : ObjectsState) where
@@ -61,8 +57,7 @@ module _ (limit : ℕ) (threads : List (Option ℕ)) (s : ObjectsState) where
   waits_there waits all id some = some_counts (blocks_in id) None waits _
       (λ n lt here. wait-there id (get_or waits n None) (all_at stands waits None refl all n) here) some
 
-  state-room : (t : ℕ) (x : State) → state_stands limit s t x ≡ true →
-      HasRoom limit t s.seen.bodies (state_ids x)
+  state-room : (t : ℕ) (x : State) → state_stands limit s t x ≡ true → HasRoom limit t s.seen.bodies (state_ids x)
   state-room t (Pending mode ids) e = record {
     each = λ i lt. (and_parts (is_its (get_or ids i nowhere) _) _
         (AllPass-from_list_all _ ids (and_parts (list_all (may_wait_for limit s t) ids) _ e).0 i nowhere lt)).1;
@@ -131,9 +126,8 @@ blocks_counted s tables waits tied named =
     by k (Some o) is agrees = search (arith, blocks_are)
 
 -- what was read
-module _ (limits : Limits) (tables : List (List (Option Entry))) (list : WaitList) (bytes : List ℕ)
-    (s : ObjectsState) (rows : Rows) (rest : List ℕ)
-    (read : whole_at limits tables list bytes ≡ Ok ((s, rows), rest)) where
+module _ (limits : Limits) (tables : List (List (Option Entry))) (list : WaitList) (bytes : List ℕ) (s : ObjectsState)
+    (rows : Rows) (rest : List ℕ) (read : whole_at limits tables list bytes ≡ Ok ((s, rows), rest)) where
   steps : IsWhole limits tables list bytes s rows rest
   steps = search arith
 

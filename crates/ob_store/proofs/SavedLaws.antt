@@ -1,14 +1,15 @@
 -- Slots that are read one after the other.
-use Rattle.ob_store.proofs.Cited.{◌≡◌, ℕ, zero, suc, ◌+◌, ◌-◌, ◌<◌, ◌≤◌, ◌&&◌, not, Bool, true, false, cond, leb, List, [], ◌∷◌, ◌++◌, length, get_or, set, map, Option, Some, None, Ok, Err, refl, sym, ap, ◌∙◌, append_assoc, arith, is_none, length-map, set-get_or, get_or-replicate, length-replicate, is_vacant_at, Value, ◌>>=◌, Slot, opening_slot, SavedObject, SavedSlot, Object, Places, vacancy, vacant_places, body_from, ends_used, filled, fresh_slot, keeper_slot, object_from, objects_from, places_from, slot_at, slots_at, slots_from, with_fresh}
+use Rattle.ob_store.proofs.Cited.{is_vacant_at, Slot, opening_slot, SavedObject, SavedSlot, Object, Places, vacancy, vacant_places, ◌≡◌, ℕ, zero, suc, ◌+◌, ◌-◌, ◌<◌, ◌≤◌, ◌&&◌, not, Bool, true, false, cond, leb, List, [], ◌∷◌, ◌++◌, length, get_or, set, map, Option, Some, None, Ok, Err, refl, sym, ap, ◌∙◌, append_assoc, arith, length-map, set-get_or, get_or-replicate, length-replicate, ◌>>=◌, body_from, ends_used, filled, fresh_slot, keeper_slot, object_from, objects_from, places_from, slot_at, slots_at, with_fresh}
+use Rattle.ob_codec.specs.declared.fault.TextFault.TheVariants.{Value}
 use Rattle.std.proofs.Common.{length-append}
 use lib.LanesLaws.{map-replicate}
-use Rattle.std.specs.Prelude.{replicate}
+use Rattle.std.specs.Prelude.{is_none, replicate}
 use Rattle.std.proofs.lemmas.List.{set_at, map-append}
 use Rattle.std.specs.Int.{w32}
 use Rattle.ob_codec.specs.declared.fault.ReadFault.{ReadFault}
 use Rattle.ob_codec.specs.Reading.{Fails, Read, as_at, given_at, items_at, list_at, number_at}
 use Rattle.ob_codec.proofs.Loop.{with_front, goes_on, ends, is_done}
-use Rattle.ob_store.specs.SavedSlots.{begun_with, count_at, is_retired, with_saved}
+use Rattle.ob_store.specs.SavedSlots.{slots_from, begun_with, count_at, is_retired, with_saved}
 use Rattle.ob_store.proofs.SavedSlotLaws.{items_all}
 use Rattle.ob_store.proofs.UsedLaws.{ends_more, fresh_long, fresh_none}
 use Rattle.std.proofs.Math.Seq.{get_or-append_right}
@@ -109,10 +110,8 @@ objects-fresh k [] zero = refl
 objects-fresh k [] (suc m) = ap (λ (r : List (Option Object)). None ∷ r) (objects-fresh (suc k) [] m)
 objects-fresh k (x ∷ xs) m = ap (λ (r : List (Option Object)). object_from k x ∷ r) (objects-fresh (suc k) xs m)
 
-so_far_begun : (n : ℕ) (xs : List SavedSlot) → length xs ≤ n
-    → so_far n (length xs) xs ≡ places_from (with_fresh n xs)
-so_far_begun n xs le =
-    search (arith, objects-fresh, map-append, map-replicate, fresh_long)
+so_far_begun : (n : ℕ) (xs : List SavedSlot) → length xs ≤ n → so_far n (length xs) xs ≡ places_from (with_fresh n xs)
+so_far_begun n xs le = search (arith, objects-fresh, map-append, map-replicate, fresh_long)
 
 -- what a loop has read of m rows of n slots once it stands at the slot i
 pub record HasRead (m n max_gen clock i : ℕ) (first from : List ℕ) (p : Places) (slots : List Slot) (ended : Bool)
@@ -156,16 +155,14 @@ module _ (m n max_gen clock i : ℕ) (within : m ≤ n) (first from : List ℕ) 
 
   pub read_ends : (e : ReadFault) → i < m → Fails e (slot_at max_gen clock from) →
       Fails e (as_at (begun_with n) (items_at (slot_at max_gen clock) m) first)
-  read_ends e lt fails = fails-as e (items_at (slot_at max_gen clock) m first) _
-      (search (arith, ends))
+  read_ends e lt fails = fails-as e (items_at (slot_at max_gen clock) m first) _ (search (arith, ends))
 
   pub read_long : m ≤ i → i ≤ m → length slots ≡ m
   read_long le ge = search (arith, h.begun_slots, h.length_is, length-map)
 
   pub read_done : m ≤ i → i ≤ m
       → as_at (begun_with n) (items_at (slot_at max_gen clock) m) first ≡ Ok ((p, (slots, ended)), from)
-  read_done le ge =
-      search (arith, so_far_begun, is_done)
+  read_done le ge = search (arith, so_far_begun, is_done)
 
 -- what was read of slots, with those that never had an object
 abbrev finished : Bool → ℕ → (Places × (List Slot × Bool)) × List ℕ → Read (Places × List Slot)

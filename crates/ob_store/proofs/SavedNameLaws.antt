@@ -1,5 +1,5 @@
 -- The names that a load enters are the directory, where no name stands twice.
-use Rattle.ob_store.proofs.Cited.{◌≡◌, ℕ, zero, suc, ◌+◌, ◌≤◌, ◌&&◌, Bool, false, cond, ltb, List, [], ◌∷◌, ◌++◌, length, get_or, Option, Some, None, Ok, refl, sym, ap, ◌∙◌, subst, arith, inl, inr, is_at, AllByRecursion, nat_cmp, cases_eq, append-nil, ◌>>=◌, bind_ok, ok_is, ObjectName, AreDistinct, Rows, find_name, Row, slot_handles, some_within, Wait, ObjectsInvariant, rows_of, IsCounted, IsListing, IsNamed, IsThere, id_in, Object, ObjectsState, Places, places_in, names_in, Births, births_from}
+use Rattle.ob_store.proofs.Cited.{is_at, nat_cmp, cases_eq, ◌>>=◌, bind_ok, ok_is, ObjectName, Row, slot_handles, some_within, Wait, ObjectsInvariant, IsCounted, IsListing, IsNamed, IsThere, id_in, Object, ObjectsState, Places, places_in, Births, births_from, ◌≡◌, ℕ, zero, suc, ◌+◌, ◌≤◌, Bool, false, cond, ltb, List, [], ◌∷◌, ◌++◌, length, get_or, Option, Some, None, Ok, refl, sym, ap, ◌∙◌, subst, arith, inl, inr, AllByRecursion, append-nil, AreDistinct, Rows, find_name, rows_of, names_in}
 use Rattle.std.proofs.Common.{eq-eqb}
 use Rattle.std.specs.List.{IsDistinct, cons_option, filter_map}
 use Rattle.std.specs.Map.{keys_of, values_of}
@@ -7,8 +7,8 @@ use Rattle.std.proofs.lemmas.List.{append_assoc}
 use Rattle.std.proofs.lemmas.Map.Keys.{IsDistinct-head, IsDistinct-tail}
 use Rattle.ob_name.specs.Listing.{same_name}
 use Rattle.ob_name.specs.Same.{same_name_equiv}
-use Rattle.ob_store.specs.Directory.{named_row, row_of}
-use Rattle.ob_store.specs.SavedNames.{handled_row, named_from, slot_row, with_row}
+use Rattle.ob_store.specs.Directory.{row_of}
+use Rattle.ob_store.specs.SavedNames.{named_from, slot_row, with_row}
 use Rattle.ob_store.proofs.CountedLaws.{handles_at}
 use Rattle.ob_store.proofs.DirectoryLaws.{Tables, has_handles, picks_none, picks_only}
 use Rattle.ob_store.proofs.ListingLaws.{distinct_with, placed_agreed}
@@ -57,9 +57,8 @@ module _ (ts : Tables) (p : Places) (births : ℕ) (order : Births) (is : IsOrde
       cons_end (rows_of ts p.objects low) others (slot_row p k)
 
   -- the rows from one birth on
-  rows-on : (n low : ℕ) (es : Births) → Rises low (low + n) es →
-      ((b : ℕ) → low ≤ b → taken es b ≡ taken order b) →
-      rows_of ts p.objects (low + n) ≡ rows_of ts p.objects low ++ filter_map (slot_row p) (values_of es)
+  rows-on : (n low : ℕ) (es : Births) → Rises low (low + n) es → ((b : ℕ) → low ≤ b → taken es b ≡ taken order b)
+      → rows_of ts p.objects (low + n) ≡ rows_of ts p.objects low ++ filter_map (slot_row p) (values_of es)
   unfolding Rises
   rows-on zero low [] r same =
       ap (rows_of ts p.objects) (let e : low + 0 ≡ low = omega arith in e) ∙ sym (append-nil (rows_of ts p.objects low))
@@ -87,8 +86,7 @@ module _ (ts : Tables) (p : Places) (births : ℕ) (order : Births) (is : IsOrde
       ]
 
   rows-by-order : rows_of ts p.objects births ≡ filter_map (slot_row p) (values_of order)
-  rows-by-order =
-      search (arith, rows-on births 0 order (search arith) (λ b from. refl))
+  rows-by-order = search (arith, rows-on births 0 order (search arith) (λ b from. refl))
 
 -- a name that is entered comes last, and is a new one
 module _ (p : Places) where
@@ -158,5 +156,4 @@ module _ (s : ObjectsState) (ts : Tables) (ws : List (Option Wait)) (order : Bir
       record { same = sym (directory ∙ all.0); distinct = all.1 tt }
 
   pub names_complete : IsListing rows ts s.objects s.births → names_in order (places_in s) ≡ Ok rows
-  names_complete listing =
-      search (arith, enters-all, directory)
+  names_complete listing = search (arith, enters-all, directory)

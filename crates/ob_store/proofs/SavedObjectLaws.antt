@@ -1,7 +1,5 @@
 -- Objects that were read are tied to a keeper that begins with their slots.
-use Rattle.ob_codec.proofs.AtPlace.{at_place}
-use Rattle.std.proofs.lemmas.Bool.Decides.{nat_tests}
-use Rattle.ob_store.proofs.Cited.{◌≡◌, ℕ, zero, suc, ◌+◌, ◌<◌, ◌≤◌, Bool, true, false, cond, ltb, List, [], ◌∷◌, length, get_or, map, Option, Some, None, Ok, refl, sym, ap, ◌∙◌, arith, inl, inr, is_none, is_some, sum_by, cases_lt, get_or-map, get_or-replicate, get_or_past, length-map, length-replicate, bind_ok, ok_is, Id, Slot, slot_of, Body, Entry, handles_among, slot_handles, HasBodies, Wait, Limits, SavedSlot, IsAgreed, ObjectsInvariant, made_in, counting_all, AreFormed, IsThere, Places, Births, births_from, with_slots, body_from, fresh_slot, keeper_slot, object_from, objects_from, places_from, rows_at, slots_at, slots_from, with_blocks, by_slot}
+use Rattle.ob_store.proofs.Cited.{at_place, nat_tests, ◌≡◌, ℕ, zero, suc, ◌+◌, ◌<◌, ◌≤◌, Bool, true, false, List, [], ◌∷◌, length, get_or, map, Option, None, Ok, refl, sym, ap, ◌∙◌, arith, inl, inr, sum_by, cases_lt, get_or-map, get_or-replicate, get_or_past, length-map, length-replicate, Id, Slot, slot_of, Entry, handles_among, slot_handles, HasBodies, Wait, Limits, SavedSlot, IsAgreed, ObjectsInvariant, made_in, counting_all, AreFormed, IsThere, Places, Births, births_from, body_from, fresh_slot, keeper_slot, object_from, objects_from, places_from, slots_at, with_blocks, by_slot, with_slots}
 use Rattle.ob_waits.specs.CountedBodies as waits
 use Rattle.ob_store.specs.SavedObjects.{are_bodied, is_bodied}
 use Rattle.ob_store.proofs.ByPlace.{below_at}
@@ -34,8 +32,7 @@ pub record AreRead (n max_gen clock : ℕ) (p : Places) (slots : List Slot) : Ty
 slots-are-read : (short : Bool) (n max_gen clock : ℕ) → 1 ≤ max_gen → (bytes : List ℕ) (p : Places) (slots : List Slot)
     (rest : List ℕ) → slots_at short n max_gen clock bytes ≡ Ok ((p, slots), rest) →
     AreRead n max_gen clock p slots
-slots-are-read short n max_gen clock some bytes p slots rest e =
-    search (arith, rows_all)
+slots-are-read short n max_gen clock some bytes p slots rest e = search (arith, rows_all)
 
 module _ (n max_gen clock : ℕ) (p : Places) (slots : List Slot) (r : AreRead n max_gen clock p slots) (q : Places)
     (more : ℕ → ℕ) (Named : Id → Type 0) (counts : Counts p q more Named) where
@@ -108,8 +105,7 @@ module _ (n max_gen clock : ℕ) (p : Places) (slots : List Slot) (r : AreRead n
 
 pub slots_read : (limits : Limits) (clock : ℕ) (bytes : List ℕ) (p : Places) (slots : List Slot) (rest : List ℕ) →
     slots_at limits.reuse limits.slots limits.max_gen clock bytes ≡ Ok ((p, slots), rest) → length slots ≡ limits.slots
-slots_read limits clock bytes p slots rest e =
-    search (arith, length-map, rows_all)
+slots_read limits clock bytes p slots rest e = search (arith, length-map, rows_all)
 
 module _ (limits : Limits) (clock : ℕ) (tables : List (List (Option Entry))) (bytes : List ℕ) (p q : Places)
     (slots : List Slot) (rest : List ℕ)
@@ -119,8 +115,7 @@ module _ (limits : Limits) (clock : ℕ) (tables : List (List (Option Entry))) (
   are = slots-are-read _ _ _ _ limits.in_range.max_gen_in_range.0 _ p _ _ read
 
   pub counts : Counts p q (λ k. slot_handles k tables) (λ id. 0 < handles_among id tables)
-  counts = tables_count p q tables
-      (search (arith, length-replicate, objects-long)) counted
+  counts = tables_count p q tables (search (arith, length-replicate, objects-long)) counted
 
   pub tied_read : (order : Births) → births_from (sum_by made_in slots) [] 0 q.objects ≡ Ok order →
       (waits : List (Option Wait)) → are_bodied (with_blocks waits q).seen (length q.objects) ≡ true →

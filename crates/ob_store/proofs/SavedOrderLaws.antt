@@ -1,5 +1,5 @@
 -- The order of births rises, and has the births of the objects, each with its slot, and no others.
-use Rattle.ob_store.proofs.Cited.{◌≡◌, ℕ, ◌⊎◌, zero, suc, ◌+◌, ◌<◌, ◌≤◌, Bool, true, false, cond, List, [], ◌∷◌, get_or, Option, Some, None, Ok, refl, sym, ap, ◌∙◌, arith, inl, inr, insert_entry, is_at, nat_cmp, Object, Births, births_from, AreBorn}
+use Rattle.ob_store.proofs.Cited.{◌≡◌, ℕ, ◌⊎◌, zero, suc, ◌+◌, ◌<◌, ◌≤◌, Bool, true, false, cond, List, [], ◌∷◌, get_or, Option, Some, None, Ok, refl, sym, ap, ◌∙◌, arith, inl, inr, insert_entry, is_at, Object, Births, births_from, AreBorn, nat_cmp}
 use Rattle.std.specs.declared.cmp.Ordering.{Ordering}
 use Rattle.std.specs.declared.cmp.Ordering.TheVariants.{Less, Equal, Greater}
 use Rattle.std.specs.Ordering.{match_ordering}

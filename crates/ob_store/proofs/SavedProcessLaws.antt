@@ -1,7 +1,7 @@
 -- Processes and threads are read as they were spelled, and what is read is kept.
-use Rattle.ob_store.proofs.Cited.{◌≡◌, ℕ, ◌+◌, List, None, Option, Some, arith, get_or, refl, true, where_codec, IsCodec, Entry, Limits, IsLive, ProcessesKept, ProcessesState, IsPopulated, processes_text}
+use Rattle.ob_store.proofs.Cited.{◌≡◌, ℕ, ◌+◌, List, None, Option, Some, arith, get_or, refl, true, IsCodec, Entry, Limits, IsLive, ProcessesKept, ProcessesState, IsPopulated, where_codec, processes_text}
 use Rattle.ob_codec.specs.Codecs.{as_codec, both_codec, list_codec, option_codec, u32_codec}
-use Rattle.ob_tables.specs.SavedProcesses.{AreWithin, ListsFit, ProcessesFit, are_numbers, are_of_live, are_populated, is_of_live, lists_of, numbers_at, numbers_text, processes_at, processes_of}
+use Rattle.ob_tables.specs.SavedProcesses.{AreWithin, ListsFit, ProcessesFit, are_numbers, are_of_live, is_of_live, numbers_at, numbers_text, processes_at}
 use Rattle.ob_store.proofs.ByPlace.{all_from}
 use Rattle.ob_store.proofs.PopulatedLaws.{populated_pass}
 
@@ -17,9 +17,6 @@ processes_codec processes threads = where_codec (as_codec _ _ (λ _. refl) (λ _
 module _ (ps : List (Option ℕ)) where
   pub live_at : (o : Option ℕ) → is_of_live ps o ≡ true → (p : ℕ) → o ≡ Some p → IsLive ps p
   live_at o e p is = search arith
-
-  pub live_from : (o : Option ℕ) → ((p : ℕ) → o ≡ Some p → IsLive ps p) → is_of_live ps o ≡ true
-  live_from = search arith
 
   live_pass : (ts : List (Option ℕ)) → ((t p : ℕ) → get_or ts t None ≡ Some p → IsLive ps p)
       → are_of_live (ps, ts) ≡ true

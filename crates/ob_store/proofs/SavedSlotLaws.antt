@@ -1,5 +1,6 @@
 -- What is known of slots that were read.
-use Rattle.ob_store.proofs.Cited.{◌≡◌, ℕ, zero, suc, ◌-◌, ◌<◌, ◌≤◌, ◌&&◌, Bool, true, false, cond, leb, List, [], ◌∷◌, length, get_or, Option, Some, None, Ok, Err, refl, sym, ap, ◌∙◌, subst, arith, le-leb, Value, ◌>>=◌, bind_ok, ok_is, w64, Body, form_of, SavedObject, SavedSlot, form_in, Object, body_from, ends_used, filled, fresh_slot, keeper_slot, object_from, rows_at, slot_at, with_fresh}
+use Rattle.ob_store.proofs.Cited.{◌≡◌, ℕ, zero, suc, ◌-◌, ◌<◌, ◌≤◌, ◌&&◌, Bool, true, false, cond, leb, List, [], ◌∷◌, length, get_or, Option, Some, None, Ok, Err, sym, ap, ◌∙◌, subst, arith, Body, form_of, SavedObject, SavedSlot, Object, le-leb, ◌>>=◌, bind_ok, ok_is, w64, form_in, body_from, ends_used, filled, fresh_slot, keeper_slot, object_from, slot_at, with_fresh}
+use Rattle.ob_codec.specs.declared.fault.TextFault.TheVariants.{Value}
 use Rattle.std.proofs.lemmas.Bool.{leb-true}
 use Rattle.std.proofs.lemmas.Option.{cond_some}
 use Rattle.ob_codec.specs.Reading.{Read, as_at, both_at, given_at, items_at, list_at, number_at, option_at, some_at}
@@ -11,19 +12,17 @@ use Rattle.pin_core.specs.Descrs.{IsGiven, decoded}
 use Rattle.pin_core.specs.Spelling.{descr_at}
 use Rattle.pin_core.proofs.Moves.{same_of_descr}
 use Rattle.ob_store.specs.Kept.{unset}
-use Rattle.ob_store.specs.SavedSlots.{any_slot_at, body_in, body_stands, content_at, descr_of, may_retire, object_at, object_in_slot, object_of, object_stands, slot_of, slot_stands}
+use Rattle.ob_store.specs.SavedSlots.{rows_at, any_slot_at, content_at, may_retire, object_at, object_of, object_stands, slot_of, slot_stands}
 use Rattle.ob_store.proofs.UsedLaws.{fresh_at, fresh_long}
 
 -- what was read in parts
 module _ {A B : Type 0} where
-  as-split : (to : A → B) (read : List ℕ → Read A) (bytes : List ℕ) (x : B) (rest : List ℕ) → as_at to read bytes ≡
-      Ok (x, rest) →
-      (a : A) × (read bytes ≡ Ok (a, rest)) × (to a ≡ x)
+  as-split : (to : A → B) (read : List ℕ → Read A) (bytes : List ℕ) (x : B) (rest : List ℕ)
+      → as_at to read bytes ≡ Ok (x, rest) → (a : A) × (read bytes ≡ Ok (a, rest)) × (to a ≡ x)
   as-split to read bytes x rest e = grind arith
 
-  some-split : (to : A → Option B) (read : List ℕ → Read A) (bytes : List ℕ) (x : B) (rest : List ℕ) →
-      some_at to read bytes ≡ Ok (x, rest) →
-      (a : A × List ℕ) × (read bytes ≡ Ok a) × (to a.0 ≡ Some x)
+  some-split : (to : A → Option B) (read : List ℕ → Read A) (bytes : List ℕ) (x : B) (rest : List ℕ)
+      → some_at to read bytes ≡ Ok (x, rest) → (a : A × List ℕ) × (read bytes ≡ Ok a) × (to a.0 ≡ Some x)
   some-split to read bytes x rest e =
       let b = bind_ok (read bytes) (λ (a : A × List ℕ). given_at (to a.0) a.1) (x, rest) e in
       (b.0, b.1, grind arith)
@@ -107,8 +106,7 @@ pub rows_all : (short : Bool) (n max_gen clock : ℕ) → 1 ≤ max_gen → (byt
     → rows_at short n max_gen clock bytes ≡ Ok (xs, rest)
     → (length xs ≡ n) × ((k : ℕ) → k < n → IsSlotSound max_gen clock (get_or xs k fresh_slot))
 unfolding list_at
-rows_all false n max_gen clock some bytes rest xs e =
-    items_all _ _ (slot_sound _ _) _ n _ xs _ e
+rows_all false n max_gen clock some bytes rest xs e = items_all _ _ (slot_sound _ _) _ n _ xs _ e
 rows_all true n max_gen clock some bytes rest xs e =
     let b = some-split (filled n) (list_at n (slot_at max_gen clock)) bytes xs rest e in
     let c = bind_ok (number_at w32 bytes)

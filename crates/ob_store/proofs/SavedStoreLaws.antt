@@ -1,14 +1,13 @@
 -- A store that is kept is read again as it was written, and what is read of a store was written so.
-use Rattle.ob_store.proofs.Cited.{◌≡◌, ℕ, ◌*◌, ◌<◌, ◌≤◌, ltb, Bool, true, false, cond, List, [], ◌∷◌, ◌++◌, length, get_or, map, Option, Some, None, Ok, Err, append_assoc, refl, sym, ap, ◌∙◌, subst, arith, w64, to_le_bytes, AllByRecursion, flat_map, le-leb, ext_get_or, get_or-map, length-map, where_codec, IsCodec, bind_ok, Value, Id, Shape, opening_slot, HandleTables, Entry, thread_of, WaitList, ids_of, nowhere, Wait, Limits, SavedSlot, ObjectsInvariant, IsLive, ProcessesState, StoreInvariant, IsSound, ObjectsState, PartsState, whole_of, objects_at, objects_text, slots_saved, processes_text, SlotFits, fresh_slot, keeper_slot, slot_text, Whole, generation_of, shape_of}
+use Rattle.ob_store.proofs.Cited.{w64, to_le_bytes, AllByRecursion, flat_map, bind_ok, Shape, opening_slot, HandleTables, thread_of, WaitList, ids_of, nowhere, Wait, Limits, SavedSlot, ObjectsInvariant, IsLive, ProcessesState, StoreInvariant, IsSound, ObjectsState, PartsState, whole_of, ◌≡◌, ℕ, ◌*◌, ◌<◌, ◌≤◌, Bool, true, false, cond, List, [], ◌∷◌, ◌++◌, length, get_or, map, Option, Some, None, Ok, append_assoc, refl, sym, ap, ◌∙◌, subst, arith, le-leb, ext_get_or, get_or-map, length-map, where_codec, IsCodec, objects_at, objects_text, slots_saved, processes_text, SlotFits, fresh_slot, keeper_slot, slot_text, Whole, generation_of, shape_of}
 use Rattle.std.proofs.Common.{◌^◌}
 use Rattle.std.proofs.lemmas.Bool.{lt-ltb}
 use Rattle.std.proofs.lemmas.List.{length-append}
 use Rattle.ob_codec.specs.Codecs.{u64_codec}
 use Rattle.ob_codec.specs.Laws.{Takes}
-use Rattle.ob_codec.specs.Reading.{has_at, list_at, where_at}
+use Rattle.ob_codec.specs.Reading.{has_at}
 use Rattle.ob_codec.specs.Spelling.{AreBytes}
-use Rattle.ob_codec.specs.Steps.{guard_passed}
-use Rattle.ob_tables.specs.Spelling.{TablesFit, are_bounded, table_at, tables_at, tables_text, with_limits}
+use Rattle.ob_tables.specs.Spelling.{TablesFit, tables_at, tables_text}
 use Rattle.ob_tables.specs.SpellingLaws.{tables_again, tables_take}
 use Rattle.ob_waits.specs.Spelling.{WaitsFit, are_below, are_within, is_within, waits_at, waits_text}
 use Rattle.ob_waits.specs.SpellingLaws.{waits_again, waits_take}
@@ -105,8 +104,7 @@ module _ (p : PartsState) (kept : StoreInvariant p) (tied : ObjectsInvariant p.o
 
   waits_back : (rest : List ℕ) → waits_at (last_wait p.limits) p.waits.clock (length p.processes.threads) p.limits.slots
       (waits_text p.waits.waits ++ rest) ≡ Ok (p.waits, rest)
-  waits_back rest = rw (← sound.limited.waits_are)
-      (waits_again _ _ _ _ waits (waits_within p kept tied))
+  waits_back rest = rw (← sound.limited.waits_are) (waits_again _ _ _ _ waits (waits_within p kept tied))
 
   same_whole : whole_with p.limits p.processes p.tables p.waits over ≡ begun_again (whole_of p)
   same_whole = search (arith, generations_back)
@@ -160,8 +158,7 @@ module _ (p : PartsState) (kept : StoreInvariant p) (tied : ObjectsInvariant p.o
 pub tables_read : (processes handles given : ℕ) (bytes : List ℕ) (t : HandleTables) (rest : List ℕ)
     → tables_at processes handles given bytes ≡ Ok (t, rest)
     → (t.process_limit ≡ processes) × ((t.handle_limit ≡ handles) × (length t.tables ≡ given))
-tables_read processes handles given bytes t rest e =
-    search arith
+tables_read processes handles given bytes t rest e = search arith
 
 -- and so are those of which the processes that aren't live have none
 pub tables_kept : (limits : Limits) (ps : List (Option ℕ)) (bytes : List ℕ) (t : HandleTables) (rest : List ℕ)

@@ -1,5 +1,5 @@
 -- The blocks that are counted of objects that were read, and the tests of their waits and owners.
-use Rattle.ob_store.proofs.Cited.{◌≡◌, ℕ, zero, suc, ◌+◌, ◌<◌, ◌≤◌, Bool, true, false, List, [], ◌∷◌, length, get_or, map, Option, Some, None, refl, sym, ap, ◌∙◌, arith, inl, inr, is_some, and_parts, cases_eq, ext_get_or, get_or-map, length-map, set-get_or, Slots, Id, blocks_among, new_wait, Mode, Pending, Wait, ObjectHeader, IsLive, ObjectsState, Places, Tag, places_of, wait_stands, with_blocks, with_blocks_at}
+use Rattle.ob_store.proofs.Cited.{◌≡◌, ℕ, ◌+◌, ◌<◌, ◌≤◌, Bool, true, false, List, length, get_or, map, Option, Some, None, refl, sym, ap, ◌∙◌, arith, inl, inr, is_some, ext_get_or, get_or-map, length-map, set-get_or, Slots, Id, Mode, Pending, Wait, ObjectHeader, IsLive, and_parts, cases_eq, blocks_among, new_wait, ObjectsState, Places, Tag, places_of, wait_stands, with_blocks, with_blocks_at}
 use Rattle.std.proofs.lemmas.Bool.{ltb-true}
 use Rattle.std.proofs.lemmas.List.Quantifiers.{position-Some}
 use Rattle.ob_waits.specs.Rules.{WaitsInvariant}

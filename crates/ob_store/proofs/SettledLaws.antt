@@ -1,5 +1,5 @@
 -- The settled state, as the code reaches it: an object ends where its last reference leaves, and then the waits settle.
-use Rattle.ob_store.proofs.Cited.{◌≡◌, ap, ◌∙◌, sym, arith, get_or_past, CountedBodies, HasBodies, IsSettled, ended, State, objects_of, settled, IsNamed}
+use Rattle.ob_store.proofs.Cited.{◌≡◌, arith, get_or_past, CountedBodies, HasBodies, IsSettled, IsNamed, ended, State, objects_of, settled}
 use Rattle.ob_waits.specs.Waits as waits
 use Rattle.ob_waits.specs.Ends.{HasBlocks, with_ends}
 use Rattle.ob_waits.proofs.EndsLast.{ends_first, none_to_end}

@@ -1,5 +1,5 @@
 -- What a store keeps, told of what is stored.
-use Rattle.ob_store.proofs.Cited.{◌≡◌, ℕ, ◌+◌, length, Some, None, refl, ap, ◌∙◌, sym, subst, arith, get_or, true, ltb, Contains, get_or_past, nat_tests, Id, Shape, ObjectName, Rows, handles_among, Object, ObjectsState, ObjectsInvariant, rows_of, PartsState, state_of, whole_of, StoreInvariant}
+use Rattle.ob_store.proofs.Cited.{◌≡◌, ℕ, ◌+◌, Some, None, refl, ap, ◌∙◌, sym, subst, arith, get_or, true, ltb, Contains, get_or_past, nat_tests, Id, Shape, ObjectName, Rows, handles_among, Object, ObjectsState, ObjectsInvariant, rows_of, PartsState, state_of, whole_of, StoreInvariant}
 use Rattle.std.specs.Prelude.{◌↔◌}
 use Rattle.ob_store.specs.State.{hold_of}
 use Rattle.ob_store.specs.Stored.{IsOpenByName, MatchesState, hold_in}
@@ -20,8 +20,7 @@ module _ (p : PartsState) (kept : StoreInvariant p) (tied : ObjectsInvariant p.o
   -- each row is that of an object with a handle
   row_open : (name : ObjectName) (id : Id) → IsRow p.tables.tables p.objects.objects (name, id)
       → IsOpenByName (state_of p) name id
-  row_open name id row =
-      search (arith, placed_agreed)
+  row_open name id row = search (arith, placed_agreed)
 
   -- and each such object has a row
   open_row : (name : ObjectName) (id : Id) → IsOpenByName (state_of p) name id

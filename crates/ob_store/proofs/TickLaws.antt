@@ -1,6 +1,6 @@
 -- Timers fire: what is sound stays so, and is on its way to the settled state; none is due then.
-use Rattle.ob_store.proofs.Cited.{ℕ, ◌≤◌, arith, ◌≡◌, List, Option, Some, None, refl, ap, get_or, map, false, Body, form_of, slot_due, CountedBodies, SignaledState, ObjectsInvariant, Object, ObjectsState, KeptRest, kept_rest, PartsState, state_of, slot_is_due, StoreInvariant, AreFormed, form_in, IsUnderWay}
-use Rattle.ob_body.specs.declared.body.Body.TheVariants.{Event, Mutex, Semaphore, Timer, Host}
+use Rattle.ob_store.proofs.Cited.{ℕ, ◌≤◌, arith, ◌≡◌, List, Option, refl, ap, map, false, Body, CountedBodies, SignaledState, ObjectsInvariant, Object, ObjectsState, KeptRest, kept_rest, PartsState, state_of, IsUnderWay, form_of, slot_due, slot_is_due, StoreInvariant, AreFormed}
+use Rattle.ob_body.specs.declared.body.Body.TheVariants.{Timer}
 use Rattle.ob_body.specs.TimerState.{TimerState}
 use Rattle.ob_body.specs.Timer.{is_due}
 use Rattle.ob_body.specs.Timer as timer
@@ -65,8 +65,11 @@ module _ (p : PartsState) (q : ObjectsState) (a : SignaledState) (now : ℕ)
       (record (state_of p) { bodies = map (slot_fired now) p.objects.seen.bodies })
   way_fired = record {
     tied = tied;
-    sound = sound_rested p _ q _ a rest kept.sound refl kept.sound.processes_kept (rw seen (record { handles =
-        kept.sound.counted.handles; blocks = kept.sound.counted.blocks })) kept.sound.named (rw bodies_are (formed_fired
+    sound = sound_rested p _ q _ a rest kept.sound refl kept.sound.processes_kept (rw seen (record {
+      handles =
+          kept.sound.counted.handles;
+      blocks = kept.sound.counted.blocks;
+    })) kept.sound.named (rw bodies_are (formed_fired
         _ now _ _ later kept.sound.formed))
         (search (arith, read, kept.sound.of_live.owners, kept.sound.of_live.waiters))
         (search (arith, read, room_changed, kept.sound.room));

@@ -1,5 +1,5 @@
 -- What holds of objects and their keeper holds after each change.
-use Rattle.ob_store.proofs.Cited.{at_place, ◌≡◌, ℕ, ◌+◌, ◌<◌, ◌≤◌, List, length, None, refl, arith, get_or, set, true, false, and_parts, is_some, length-set, get_or-set_same, set-get_or, nat_tests, Id, Slot, slot_of, opening_slot, Body, is_vacant_at, without_block, HasBodies, Places, ObjectsState, ObjectAttributes, vacancy, with_keeper, object_in, without_handle, without_header, places_in, ObjectsInvariant, made_in}
+use Rattle.ob_store.proofs.Cited.{at_place, ◌≡◌, ℕ, ◌+◌, ◌<◌, ◌≤◌, List, length, None, refl, arith, get_or, set, true, false, and_parts, length-set, get_or-set_same, set-get_or, nat_tests, Id, Slot, slot_of, opening_slot, Body, is_vacant_at, without_block, HasBodies, ObjectsInvariant, made_in, is_some, Places, ObjectsState, ObjectAttributes, vacancy, with_keeper, object_in, without_handle, without_header, places_in}
 use Rattle.std.specs.Prelude.{◌&&◌}
 use Rattle.pin_core.specs.declared.word.Phase.TheVariants as phase
 use Rattle.pin_core.specs.Descrs.{IsGiven}
@@ -50,11 +50,9 @@ module _ (s : ObjectsState) (q : Places) (id : Id) (seen : q.seen ≡ without_bl
 
 -- a new object in a vacant slot
 pub tied_added : (s t : ObjectsState) (k : ℕ) (attributes : ObjectAttributes) (body : Body)
-    → t ≡ with_object s k attributes body
-    → is_vacant_at (vacancy (places_in s)) k ≡ true
+    → t ≡ with_object s k attributes body → is_vacant_at (vacancy (places_in s)) k ≡ true
     → get_or (with_header (places_in s) k (object_in s k attributes) body).seen.handles k 0 ≡ 1
-    → IsGiven attributes.descr → ObjectsInvariant s
-    → ObjectsInvariant t
+    → IsGiven attributes.descr → ObjectsInvariant s → ObjectsInvariant t
 tied_added s t k attributes body is vacant one given h =
     let room : k < length s.objects = search arith in
     let within : k < length s.keeper.slots = omega arith in

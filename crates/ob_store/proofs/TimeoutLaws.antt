@@ -1,7 +1,6 @@
 -- Waits whose time is up are answered one after another, and the state settles behind each: that is the same as all at
 -- once.
-use Rattle.std.proofs.lemmas.Bool.Decides.{nat_tests}
-use Rattle.ob_store.proofs.Cited.{◌≡◌, ℕ, ◌<◌, ◌≤◌, List, length, Option, Some, None, refl, ap, ◌∙◌, sym, arith, get_or, map, true, false, inl, inr, count_by, is_some, get_or_past, cases_lt, Body, Wait, is_overdue, ended, slot_form, CountedBodies, IsSettled, Scene, slot_blocks, settled_less, IsNamed, State, objects_of, settled, timed_out, slot_is_due, AreLeft}
+use Rattle.ob_store.proofs.Cited.{nat_tests, ◌≡◌, ℕ, ◌<◌, ◌≤◌, List, Option, None, refl, ap, ◌∙◌, sym, arith, get_or, map, true, false, inl, inr, count_by, get_or_past, Body, Wait, is_overdue, ended, CountedBodies, IsSettled, Scene, slot_blocks, IsNamed, State, objects_of, settled, timed_out, slot_is_due, AreLeft, settled_less}
 use Rattle.ob_waits.specs.Deadlines as waits_time
 use Rattle.ob_waits.specs.Waits as waits
 use Rattle.ob_waits.proofs.Counted.{blocks_answered}
@@ -84,8 +83,7 @@ module _ (s : State) (now n : ℕ) (named : IsNamed s.objects s.tables s.waits) 
 
   -- and one wait fewer is overdue
   pub fewer_step : count_by (is_overdue now) (settled (with_answer s n 258)).waits < count_by (is_overdue now) s.waits
-  fewer_step =
-      search (arith, one_is, fewer_overdue)
+  fewer_step = search (arith, one_is, fewer_overdue)
 
 -- where no time is up, the clock alone goes on
 pub time_out_last : (s : State) (now : ℕ) → settled s ≡ s → ((n : ℕ) → is_overdue now (get_or s.waits n None) ≡ false)

@@ -1,5 +1,5 @@
 -- The due moments of slots, while bodies change, and the least of them.
-use Rattle.ob_store.proofs.Cited.{◌≡◌, ℕ, [], ◌∷◌, ◌<◌, List, length, Option, Some, None, refl, ap, ◌∙◌, sym, arith, get_or, set, map, Bool, true, false, cond, IfSome, length-map, Body, slot_due, slot_acquired, ObjectHeader, header_body, slot_is_due, header_due}
+use Rattle.ob_store.proofs.Cited.{◌≡◌, ℕ, [], ◌∷◌, ◌<◌, List, length, Option, Some, None, refl, ap, ◌∙◌, sym, arith, get_or, set, map, Bool, true, false, cond, length-map, Body, slot_acquired, ObjectHeader, header_body, slot_is_due, IfSome, slot_due, header_due}
 use Rattle.std.specs.Prelude.{IfNone}
 use Rattle.std.proofs.lemmas.Bool.{leb-false}
 use Rattle.least.specs.Dues.{is_by, IsLeast}
@@ -21,20 +21,17 @@ dues_of_bodies [] = refl
 dues_of_bodies (x ∷ xs) = search (arith, dues_of_bodies xs)
 
 pub least_of_bodies : (xs : List (Option ObjectHeader)) (dues : List (Option ℕ)) (least : Option ℕ)
-    → dues ≡ map header_due xs
-    → IsLeast dues least → IsLeast (map slot_due (map header_body xs)) least
+    → dues ≡ map header_due xs → IsLeast dues least → IsLeast (map slot_due (map header_body xs)) least
 least_of_bodies xs dues least timed is = search (arith, dues_of_bodies)
 
 pub timed_within : (xs : List (Option ObjectHeader)) (dues : List (Option ℕ)) (k : ℕ) → dues ≡ map header_due xs
-    → k < length xs
-    → k < length dues
+    → k < length xs → k < length dues
 timed_within xs dues k timed lt = search (arith, length-map)
 
 -- a body goes, or stays
 pub timed_left_at : (xs : List (Option ObjectHeader)) (dues : List (Option ℕ)) (k : ℕ) (x y : ObjectHeader) (b : Bool)
-    (o : Option Body)
-    → dues ≡ map header_due xs → get_or xs k None ≡ Some x → o ≡ cond b x.body None → y.body ≡ cond b None x.body
-    → due_left dues k (slot_due o) ≡ map header_due (set xs k (Some y))
+    (o : Option Body) → dues ≡ map header_due xs → get_or xs k None ≡ Some x → o ≡ cond b x.body None
+    → y.body ≡ cond b None x.body → due_left dues k (slot_due o) ≡ map header_due (set xs k (Some y))
 timed_left_at = search (arith, mapped_set, mapped_stays)
 
 -- who acquires it leaves a timer's due moment
@@ -68,8 +65,7 @@ pub some_due : (now : ℕ) (xs : List (Option ObjectHeader)) (dues : List (Optio
 some_due = search (arith, due_read, by_due)
 
 pub none_due_slot : (now : ℕ) (xs : List (Option ObjectHeader)) (dues : List (Option ℕ)) (r : Option ℕ)
-    → dues ≡ map header_due xs
-    → IfNone r ((k : ℕ) → is_by now (get_or dues k None) ≡ false)
+    → dues ≡ map header_due xs → IfNone r ((k : ℕ) → is_by now (get_or dues k None) ≡ false)
     → IfNone r ((k : ℕ) → slot_is_due now (get_or (map header_body xs) k None) ≡ false)
 none_due_slot now xs dues None timed h = λ k. by_due now _ ∙ ap (is_by now) (sym (due_of_slot xs dues k timed)) ∙ h k
 none_due_slot now xs dues (Some slot) timed h = tt

@@ -1,5 +1,5 @@
 -- A call is under way from what is kept, and ends with what is kept of the settled state.
-use Rattle.ob_store.proofs.Cited.{at_place, ◌≡◌, ℕ, ◌<◌, List, length, Option, Some, None, refl, ap, ◌∙◌, sym, subst, arith, get_or, set, true, Id, KeeperState, Body, is_signaled, ended, CountedBodies, IsSettled, Scene, WaitList, slot_blocks, settled_less, ObjectsInvariant, AreFormed, StoreInvariant, IsNamed, IsPopulated, IsSound, Yields, ObjectsState, KeptRest, kept_rest, PartsState, state_of, whole_of, SignaledState, State, Whole, objects_of, settled, with_body, IsEnding, IsUnderWay}
+use Rattle.ob_store.proofs.Cited.{at_place, ◌≡◌, ℕ, ◌<◌, List, length, Option, Some, None, refl, ap, ◌∙◌, sym, subst, arith, get_or, set, true, Id, KeeperState, Body, is_signaled, ended, CountedBodies, Scene, WaitList, slot_blocks, ObjectsInvariant, AreFormed, StoreInvariant, IsNamed, IsPopulated, IsSound, Yields, ObjectsState, KeptRest, kept_rest, PartsState, state_of, whole_of, SignaledState, IsEnding, IsUnderWay, IsSettled, settled_less, State, Whole, objects_of, settled, with_body}
 use Rattle.ob_waits.specs.Rules.{IsReadyAt, WaitsHaveRoom}
 use Rattle.ob_waits.specs.Waits as waits
 use Rattle.ob_waits.proofs.Apart.{ready_at_change}

@@ -1,5 +1,5 @@
 -- Slots up to the last that ever had an object, and all of them again.
-use Rattle.ob_store.proofs.Cited.{◌≡◌, ℕ, zero, suc, ◌+◌, ◌-◌, ◌≤◌, ◌<◌, Bool, true, false, cond, List, [], ◌∷◌, ◌++◌, length, get_or, Some, None, refl, sym, ap, ◌∙◌, subst, append_assoc, arith, AllByRecursion, le-leb, append-nil, length-replicate, SavedSlot, SlotFits, ends_used, filled, fresh_slot, used, with_fresh}
+use Rattle.ob_store.proofs.Cited.{AllByRecursion, SavedSlot, ◌≡◌, ℕ, zero, suc, ◌+◌, ◌-◌, ◌≤◌, ◌<◌, Bool, true, false, cond, List, [], ◌∷◌, ◌++◌, length, get_or, Some, refl, sym, ap, ◌∙◌, append_assoc, arith, le-leb, append-nil, length-replicate, SlotFits, ends_used, filled, fresh_slot, used, with_fresh}
 use Rattle.std.proofs.Common.{◌^◌, length-append}
 use Rattle.std.specs.Prelude.{replicate}
 use Rattle.std.proofs.lemmas.Bool.{leb-true}
@@ -99,10 +99,8 @@ RowsFit n max_gen clock xs = (length xs ≡ n) × AllByRecursion (SlotFits max_g
 module _ (n max_gen clock : ℕ) where
   pub used_there : n < 2 ^ 32 → (xs : List SavedSlot) → RowsFit n max_gen clock xs
       → (filled n (used xs) ≡ Some xs) × FewFit n (SlotFits max_gen clock) (used xs)
-  used_there few xs fit =
-      search (arith, used-short, used_filled, used-ends, all-used, le-leb)
+  used_there few xs fit = search (arith, used-short, used_filled, used-ends, all-used, le-leb)
 
   pub used_back : SlotFits max_gen clock fresh_slot → (ys xs : List SavedSlot)
       → FewFit n (SlotFits max_gen clock) ys → filled n ys ≡ Some xs → (used xs ≡ ys) × RowsFit n max_gen clock xs
-  used_back fresh ys xs fits e =
-      search (arith, used_is, fresh_long, all-fresh, cond_some, leb-true)
+  used_back fresh ys xs fits e = search (arith, used_is, fresh_long, all-fresh, cond_some, leb-true)

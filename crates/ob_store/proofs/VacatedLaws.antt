@@ -1,7 +1,7 @@
 -- The tables of processes that aren't live are empty: as a test of what is read, and as it is kept.
-use Rattle.ob_store.proofs.Cited.{◌≡◌, ℕ, not, true, ltb, List, [], ◌∷◌, length, Option, Some, None, refl, arith, get_or, inl, inr, is_some, cases_lt, get_or_past, Entry}
+use Rattle.ob_store.proofs.Cited.{is_some, cases_lt, get_or_past, Entry, ◌≡◌, ℕ, not, true, ltb, List, [], ◌∷◌, length, Option, Some, None, refl, arith, get_or, inl, inr}
 use Rattle.std.proofs.Common.{◌||◌}
-use Rattle.ob_store.specs.SavedStore.{are_vacated, is_vacated}
+use Rattle.ob_store.specs.SavedStore.{are_vacated}
 use Rattle.ob_store.proofs.ByPlace.{below_at, below_from}
 
 empty_of : (o : Option ℕ) (t : List (Option Entry)) → (is_some o || not (ltb 0 (length t))) ≡ true → o ≡ None → t ≡ []

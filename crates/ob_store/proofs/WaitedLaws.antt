@@ -1,13 +1,12 @@
 -- What is kept as a thread takes what it waits for, and as waits come, are answered and go.
-use Rattle.ob_store.proofs.Cited.{at_place, ◌≡◌, ℕ, suc, ◌+◌, ◌<◌, ◌≤◌, List, [], ◌∷◌, ◌++◌, length, Option, Some, None, refl, ap, ◌∙◌, sym, arith, get_or, set, Bool, true, false, inl, inr, count_by, length-set, get_or_past, get_or-set_same, get_or-set_other, cases_lt, same_id, Id, Body, handles_among, Mode, Wait, CountedBodies, without_blocks, HasRoom, IsSettled, thread_of, nowhere, WaitList, ids_of, new_wait, slot_blocks, slot_places, settled_less, ObjectsInvariant, IsLive, AreFormed, AreOfLive, IsCounted, IsNamed, IsSound, StoreInvariant, Object, ObjectsState, KeptRest, kept_rest, with_blocks_of, PartsState, state_of, whole_of, settled, AreLeft, IsUnderWay, cond, nat_tests}
+use Rattle.ob_store.proofs.Cited.{at_place, ◌≡◌, ℕ, ◌+◌, ◌<◌, ◌≤◌, List, [], ◌∷◌, ◌++◌, length, Option, Some, None, refl, ap, ◌∙◌, sym, arith, get_or, set, false, inl, inr, cond, length-set, get_or_past, get_or-set_same, get_or-set_other, cases_lt, same_id, Id, Body, handles_among, Mode, Wait, CountedBodies, without_blocks, HasRoom, IsSettled, thread_of, ObjectsInvariant, IsLive, AreFormed, AreOfLive, IsCounted, IsNamed, IsSound, StoreInvariant, Object, ObjectsState, KeptRest, kept_rest, with_blocks_of, PartsState, state_of, whole_of, settled, AreLeft, IsUnderWay, nat_tests, count_by, one_id, nowhere, WaitList, ids_of, new_wait, settled_less}
 use Rattle.std.specs.Prelude.{if◌then◌else◌}
 use Rattle.std.specs.Option.{IfNone, OnSome}
-use Rattle.ob_tables.proofs.Counting.{one_id}
 use Rattle.ob_waits.specs.declared.wait.WaitState.{WaitState}
 use Rattle.ob_waits.specs.declared.wait.WaitState.TheVariants as shown
 use Rattle.ob_waits.specs.Form.{HasWait}
 use Rattle.ob_waits.specs.Rules as rules
-use Rattle.ob_waits.specs.Waits.{answered, bodies_after, code_now, is_answer, list_ready, number_of, objects_now, state_at}
+use Rattle.ob_waits.specs.Waits.{slot_places, answered, bodies_after, code_now, is_answer, list_ready, number_of, objects_now, state_at}
 use Rattle.ob_waits.specs.Waits as waits
 use Rattle.ob_waits.proofs.Counted.{blocks_added, blocks_answered, blocks_removed, slot_added, slot_answered, slot_removed, slot_blocks-few}
 use Rattle.ob_waits.proofs.Ends.{sizes_left}
@@ -23,7 +22,6 @@ use Rattle.ob_store.proofs.CountedLaws.{blocks_at, blocks_long}
 use Rattle.ob_store.proofs.KeptLaws.{settled_kept, sound_rested, state_rested, whole_kept}
 use Rattle.ob_store.proofs.NamedLaws.{named_fewer, some_counts}
 use Rattle.ob_store.proofs.LeftLaws.{left_blocks}
-use Rattle.std.proofs.Math.Seq.{get_or-append_seam}
 
 -- what of each thread's waits stays live when one goes
 set_waiters : (threads : List (Option ℕ)) (ws : List (Option Wait)) (n : ℕ) (x : Option Wait)
@@ -72,8 +70,11 @@ module _ (p : PartsState) (q : ObjectsState) (t : ℕ) (mode : Mode) (ids : List
     (seen : q.seen ≡ record p.objects.seen { bodies = bodies_after mode t p.objects.seen.bodies ids }) where
   kept_taken : StoreInvariant (record p { objects = q })
   kept_taken = record {
-    sound = sound_rested p _ q _ p.signaled rest kept.sound refl kept.sound.processes_kept (rw seen (record { handles =
-        kept.sound.counted.handles; blocks = kept.sound.counted.blocks })) kept.sound.named
+    sound = sound_rested p _ q _ p.signaled rest kept.sound refl kept.sound.processes_kept (rw seen (record {
+      handles =
+          kept.sound.counted.handles;
+      blocks = kept.sound.counted.blocks;
+    })) kept.sound.named
         (search (arith, formed_taken)) (search (arith, of_live_taken)) (search (arith, room_now));
     populated = kept.populated;
     settled = search (arith, settled_now);
@@ -81,8 +82,7 @@ module _ (p : PartsState) (q : ObjectsState) (t : ℕ) (mode : Mode) (ids : List
 
 -- where a thread's wait was satisfied it took, and else nothing changed
 module _ (p : PartsState) (q : ObjectsState) (t : ℕ) (mode : Mode) (ids : List Id)
-    (rest : kept_rest q ≡ kept_rest p.objects)
-    (seen : q.seen ≡ objects_now mode t p.objects.seen ids) where
+    (rest : kept_rest q ≡ kept_rest p.objects) (seen : q.seen ≡ objects_now mode t p.objects.seen ids) where
   took : (code : ℕ) → Some code ≡ code_now mode t p.objects.seen.bodies ids
       → q.seen ≡ record p.objects.seen { bodies = bodies_after mode t p.objects.seen.bodies ids }
   took code is = search arith
@@ -109,8 +109,7 @@ among P ids each id h = some_counts (λ x. cond (same_id id x) 1 0) nowhere ids 
 
 -- the counts of blocks have room for one more wait
 pub few_blocks : (p : PartsState) → StoreInvariant p → rules.WaitsInvariant p.waits.waits
-    → length p.waits.waits ≤ 4294967296
-    → (k : ℕ) → get_or p.objects.seen.blocks k 0 + 64 ≤ 18446744073709551615
+    → length p.waits.waits ≤ 4294967296 → (k : ℕ) → get_or p.objects.seen.blocks k 0 + 64 ≤ 18446744073709551615
 few_blocks p kept each few k = search (arith, count_few, slot_blocks-few)
 
 -- a wait that isn't satisfied now became pending

@@ -1,5 +1,5 @@
 -- What a walk finds, by what it looks at.
-use Rattle.ob_store.proofs.Cited.{ℕ, arith, ◌≡◌, List, Option, None, get_or, ObjectHeader, Tag, objects_in}
+use Rattle.ob_store.proofs.Cited.{ObjectHeader, Tag, objects_in, ℕ, arith, ◌≡◌, List, Option, None, get_or}
 use Rattle.std.proofs.Common.{is_some}
 use Rattle.ob_store.proofs.LabelLaws.{object_read}
 

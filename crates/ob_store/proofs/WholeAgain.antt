@@ -17,9 +17,8 @@ Apart : List (Option Object) → Type 0
 Apart objects = (j k : ℕ) (o p : Object) → get_or objects j None ≡ Some o → get_or objects k None ≡ Some p → o.birth ≡
     p.birth → j ≡ k
 
-from-again : (births : ℕ) (so_far : Births) (slot : ℕ) (objects : List (Option Object)) → Fresh births so_far objects →
-    Apart objects →
-    (order : Births) × (births_from births so_far slot objects ≡ Ok order)
+from-again : (births : ℕ) (so_far : Births) (slot : ℕ) (objects : List (Option Object)) → Fresh births so_far objects
+    → Apart objects → (order : Births) × (births_from births so_far slot objects ≡ Ok order)
 unfolding Fresh Apart
 from-again births so_far slot [] fresh apart = (so_far, refl)
 from-again births so_far slot (None ∷ objects) fresh apart =

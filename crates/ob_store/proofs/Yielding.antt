@@ -1,5 +1,5 @@
 -- What calls do to bodies takes nothing for a thread.
-use Rattle.ob_store.proofs.Cited.{◌≡◌, ℕ, arith, true, Body, is_signaled, Yields}
+use Rattle.ob_store.proofs.Cited.{◌≡◌, ℕ, arith, true, Body, Yields, is_signaled}
 use Rattle.ob_body.specs.Body.{after_set, after_reset, after_post, after_unlock, after_arm, after_disarm}
 use Rattle.ob_store.proofs.TimerLaws.{fired_later}
 

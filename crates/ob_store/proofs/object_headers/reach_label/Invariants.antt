@@ -1,4 +1,4 @@
-use Rattle.ob_store.proofs.Cited.{◌≡◌, ◌-◌, ◌+◌, ◌≤◌, length, padded, no_tag, tags_in}
+use Rattle.ob_store.proofs.Cited.{padded, no_tag, tags_in, ◌≡◌, ◌-◌, ◌+◌, ◌≤◌, length}
 use Rattle.std.proofs.Common.{vec_capacity}
 use Rattle.ob_store.proofs.object_headers.reach_label.Given as goal
 

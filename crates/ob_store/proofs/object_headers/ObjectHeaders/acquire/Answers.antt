@@ -1,4 +1,4 @@
-use Rattle.ob_store.proofs.Cited.{refl, ◌∙◌, ap, ObjectHeader, tags_in, header_due, slot_due}
+use Rattle.ob_store.proofs.Cited.{ObjectHeader, tags_in, header_due, slot_due, refl, ◌∙◌, ap}
 use Rattle.std.proofs.Common.{is_some}
 use Rattle.ob_store.proofs.HeaderLaws.{rest_same, seen_acquired, mapped_stays}
 use Rattle.ob_store.proofs.OwnerLaws.{owned_few}

@@ -1,4 +1,4 @@
-use Rattle.ob_store.proofs.Cited.{ℕ, get_or, None, tags_in}
+use Rattle.ob_store.proofs.Cited.{tags_in, ℕ, get_or, None}
 use Rattle.std.proofs.Common.{is_some}
 use Rattle.least.proofs.NextLemmas.{same_test}
 use Rattle.ob_store.proofs.WalkingLaws.{object_there}

@@ -1,4 +1,4 @@
-use Rattle.ob_store.proofs.Cited.{refl, ◌∙◌, ap, sym, Some, slot_due, slot_owner, ObjectHeader, tags_in, header_due}
+use Rattle.ob_store.proofs.Cited.{slot_due, slot_owner, ObjectHeader, tags_in, header_due, refl, ◌∙◌, ap, sym, Some}
 use Rattle.std.proofs.Common.{is_some}
 use Rattle.ob_store.proofs.HeaderLaws.{seen_put, rest_same, mapped_set}
 use Rattle.ob_store.proofs.OwnerLaws.{owned_few}

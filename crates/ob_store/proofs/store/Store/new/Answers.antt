@@ -10,8 +10,7 @@ invariant_of-result g c = rw (
   c.new-in-Ok-new-3.ensures,
   c.last_wait.ensures,
   c.new-in-Ok-new-3-2.ensures,
-)
-    (kept_opening c.args.limits (g.K.PinKeeper.kept c.args.keeper) c.requires)
+) (kept_opening c.args.limits (g.K.PinKeeper.kept c.args.keeper) c.requires)
 
 pub returns-in-Ok-new-3-clause-ok : goal.returns-in-Ok-new-3-clause-ok
 returns-in-Ok-new-3-clause-ok g c = rw (

@@ -1,4 +1,4 @@
-use Rattle.ob_store.proofs.Cited.{◌≡◌, ℕ, ◌∙◌, sym, subst, ap, refl, arith, Bool, true, false, cond, leb, ◌≤◌, List, Option, Some, None, map, IfSome, le-leb}
+use Rattle.ob_store.proofs.Cited.{IfSome, le-leb, ◌≡◌, ℕ, ◌∙◌, sym, subst, ap, refl, arith, Bool, true, false, cond, leb, ◌≤◌, List, Option, Some, None, map}
 use Rattle.std.proofs.Common.{leb-true}
 use Rattle.std.proofs.Math.ListN.{get_or-map}
 use Rattle.least.specs.Dues.{IsLeast, NotAfter, due_at}
