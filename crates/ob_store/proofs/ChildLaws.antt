@@ -70,7 +70,8 @@ module _ (p : PartsState) (kept : StoreInvariant p) (parent : ℕ) (w : Whole) (
     -- and that it is there
     pub child_within : (t : HandleTables) (child : ℕ) → child ≡ own
         → t ≡ record p.tables { tables = tables.with_table p.tables.tables own (Some parent) } → child < length t.tables
-    child_within t child last copied = rw (last, copied) (within-put ts own child_table (omega (arith, kept.sound.processes_kept.tabled, own_free.within)))
+    child_within t child last copied = rw (last, copied) (within-put ts own child_table
+        (omega (arith, kept.sound.processes_kept.tabled, own_free.within)))
 
     -- what a child inherits has a body
     pub inherited_live : ObjectsInvariant p.objects → (places : List (Option Entry)) → places ≡ child_table → (i : ℕ) →
@@ -94,7 +95,8 @@ module _ (p : PartsState) (kept : StoreInvariant p) (parent : ℕ) (w : Whole) (
 
     handles_after : (with_handles_of p.objects (inherited (table_of p.tables.tables parent))).seen.handles
         ≡ by_slot (length p.objects.objects) (λ k. slot_handles k (tables.with_table p.tables.tables own (Some parent)))
-    handles_after = search (arith, recounted, handles_long_after, handles_long, handles_counted, handles_at, slot_handles-with_table, empty, kept.sound.counted)
+    handles_after =
+        search (arith, recounted, handles_long_after, handles_long, handles_counted, handles_at, slot_handles-with_table, empty, kept.sound.counted)
 
     named_child : IsNamed p.objects.objects (tables.with_table p.tables.tables own (Some parent)) p.waits.waits
     named_child =

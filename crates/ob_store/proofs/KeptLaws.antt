@@ -79,7 +79,8 @@ module _ (p : PartsState) (l : ProcessesState) (q : ObjectsState) (ws : WaitList
 -- the object of a handle has a body
 pub handled : (p : PartsState) (id : Id) → IsSound p → ObjectsInvariant p.objects → 0 < handles_among id p.tables.tables
     → IsSome (get_or p.objects.seen.bodies id.slot None)
-handled p id sound tied some = search (arith, nat_tests, there_within, handles_at, slot_handles-le, sound.named.entries, sound.counted, tied.bodied.each)
+handled p id sound tied some =
+    search (arith, nat_tests, there_within, handles_at, slot_handles-le, sound.named.entries, sound.counted, tied.bodied.each)
 
 pub few_handles : (p : PartsState) (slot : ℕ) → IsSound p
     → IsBounded p.tables.process_limit p.tables.handle_limit p.tables.tables
@@ -152,7 +153,8 @@ module _ (p : PartsState) (w : Whole) (view : whole_of p ≡ w) (kept : StoreInv
     member_populated parent session = populated_process _ _ _ _ _ process_free thread_free kept.populated
 
     pub kept_process : (session : ℕ) → StoreInvariant (with_member p None session)
-    kept_process session = search (arith, member_kept, member_live, member_populated, counted_process, named_process, listing_process, none_in, kept.sound, kept.settled)
+    kept_process session =
+        search (arith, member_kept, member_live, member_populated, counted_process, named_process, listing_process, none_in, kept.sound, kept.settled)
 
 -- a thread comes
 abbrev pub with_thread : PartsState → ℕ → PartsState

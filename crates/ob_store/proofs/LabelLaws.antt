@@ -49,7 +49,8 @@ objects_padded xs ls len = objects_more xs ls (len - length ls)
 
 -- no header, no object
 pub objects_none : (n : ℕ) (ls : List Tag) → objects_in (replicate n None) ls ≡ replicate n None
-objects_none n ls = ext_get_or None _ _ (search (arith, objects_length, length-replicate)) (λ k lt. search (arith, object_read, replicate_at))
+objects_none n ls = ext_get_or None _ _ (search (arith, objects_length, length-replicate)) (λ k lt.
+    search (arith, object_read, replicate_at))
 
 -- the object of a slot with a header
 pub object_here : (xs : List (Option ObjectHeader)) (ls : List Tag) (k : ℕ) (x : ObjectHeader) (l : Tag)

@@ -72,8 +72,10 @@ row_alike : (ts : Tables) (objects : ObjectSlots) (rows : Rows) (o : Object) (na
 row_alike ts objects rows o name row distinct placed at named there also is =
     both_ways (same_id row.1 o.id) (same_name name row.0)
     (λ one. (same_name-Decides name row.0).1 (search arith))
-    (λ one. (let own : find_name name rows ≡ Some o.id = lookup-from_Contains same_name_equiv name o.id rows distinct there in
-    let other : find_name row.0 rows ≡ Some row.1 = lookup-from_Contains same_name_equiv row.0 row.1 rows distinct also in
+    (λ one. (let own : find_name name rows ≡ Some o.id =
+    lookup-from_Contains same_name_equiv name o.id rows distinct there in
+    let other : find_name row.0 rows ≡ Some row.1 = lookup-from_Contains same_name_equiv row.0 row.1 rows distinct
+    also in
     let same = (same_name-Decides name row.0).0 one in search arith))
 
 -- the rows once the last entry of an object left

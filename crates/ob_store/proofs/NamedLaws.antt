@@ -58,7 +58,8 @@ module _ (objects : List (Option Object)) (ts : List (List (Option Entry))) (ws 
   pub named_added : (p : ℕ) (e : Entry) (o : Object) → p < length ts → o.id ≡ e.id
       → get_or objects e.id.slot None ≡ None → e.id.slot < length objects
       → IsNamed (set objects e.id.slot (Some o)) (with_entry_of ts p e) ws
-  named_added p e o table own none within = grind (arith, nat_tests, at_place, handles_among-with_entry, named.entries, named.blocks)
+  named_added p e o table own none within =
+      grind (arith, nat_tests, at_place, handles_among-with_entry, named.entries, named.blocks)
 
   -- an entry leaves
   pub named_removed : (p value : ℕ) (e : Entry) → entry_at (table_of ts p) value ≡ Some e

@@ -23,7 +23,8 @@ with_opened reuse p = record p { waits = opened reuse p.waits }
 
 kept_renewed : (p : PartsState) → StoreInvariant p → StoreInvariant (record p { waits = with_renewed p.waits })
 kept_renewed p kept =
-    let waiters : (n t : ℕ) → thread_of (get_or (with_renewed p.waits).waits n None) ≡ Some t → IsLive p.processes.threads t =
+    let waiters : (n t : ℕ) → thread_of (get_or (with_renewed p.waits).waits n None) ≡ Some t → IsLive
+    p.processes.threads t =
     λ n t. each_renewed (λ w. thread_of w ≡ Some t → IsLive p.processes.threads t) p.waits.waits (λ h. absurd (cc h))
     (λ n. kept.sound.of_live.waiters n t) n in
     search (arith, waiters, slot_blocks_renewed, blocks_renewed, room_renewed, settled_renewed)

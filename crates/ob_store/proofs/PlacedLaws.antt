@@ -28,10 +28,12 @@ module _ (p : PartsState) (sound : IsSound p) (tied : ObjectsInvariant p.objects
     there = placed_there p.objects tied k o at
 
     pub own_handles : get_or p.objects.seen.handles k 0 ≡ handles_among o.id p.tables.tables
-    own_handles = rw (← own) (handles_at _ _ _ _ sound.counted o.id.slot (there_within _ o.id there) ∙ handles_are _ _ _ sound.named o.id there)
+    own_handles = rw (← own) (handles_at _ _ _ _ sound.counted o.id.slot (there_within _ o.id there) ∙ handles_are _ _ _
+        sound.named o.id there)
 
     pub own_blocks : get_or p.objects.seen.blocks k 0 ≡ blocks_among o.id p.waits.waits
-    own_blocks = rw (← own) (blocks_at _ _ _ _ sound.counted o.id.slot (there_within _ o.id there) ∙ blocks_are _ _ _ sound.named o.id there)
+    own_blocks = rw (← own) (blocks_at _ _ _ _ sound.counted o.id.slot (there_within _ o.id there) ∙ blocks_are _ _ _
+        sound.named o.id there)
 
   -- and so does what is seen there
   pub seen_handles : (x : Option Found) → get_or p.objects.objects k None

@@ -16,7 +16,8 @@ pub populated_pass : (l : ProcessesState) → IsPopulated l.processes l.threads 
 populated_pass l populated = search (arith, below_from)
 
 pub populated_from : (l : ProcessesState) → are_populated l ≡ true → IsPopulated l.processes l.threads
-populated_from l all q live = grind (arith, below_at (is_populated l) (length l.processes) q all (live_within l.processes q live))
+populated_from l all q live =
+    grind (arith, below_at (is_populated l) (length l.processes) q all (live_within l.processes q live))
 
 pub populated_thread : (ps ts : List (Option ℕ)) (m process : ℕ) → IsFree ts m → IsPopulated ps ts
     → IsPopulated ps (put ts m (Some process))

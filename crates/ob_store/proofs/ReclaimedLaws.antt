@@ -43,7 +43,8 @@ module _ (p : PartsState) (kept : StoreInvariant p) (tied : ObjectsInvariant p.o
             retired;
       }) p.objects.births keeper;
     })
-    kept_left = search (arith, unreferenced, counted_left, length-set, listing_left, named_left, own_blocks, own_handles, placed_agreed, placed_there, set-get_or, some_set)
+    kept_left =
+        search (arith, unreferenced, counted_left, length-set, listing_left, named_left, own_blocks, own_handles, placed_agreed, placed_there, set-get_or, some_set)
 
   -- what is kept, whatever the answer is
   pub kept_reclaimed : (answer : Reclaim) (q : ObjectsState) → Reclaimed p.objects k answer q

@@ -13,7 +13,8 @@ use Rattle.ob_store.proofs.SavedSlotLaws.{IsSlotSound, rows_all, slot_aged, slot
 -- each slot has a body exactly where something refers to its object
 all_bodied : (o : waits.CountedBodies) (n : ℕ) → length o.bodies ≡ n → length o.handles ≡ n → length o.blocks ≡ n →
     are_bodied o n ≡ true → HasBodies o
-all_bodied o n bodies handles blocks all = record { each = λ k. grind (arith, nat_tests, at_place, below_at (is_bodied o) n k all) }
+all_bodied o n bodies handles blocks all =
+    record { each = λ k. grind (arith, nat_tests, at_place, below_at (is_bodied o) n k all) }
 
 pub object-at : (j k : ℕ) (xs : List SavedSlot) → k < length xs → get_or (objects_from j xs) k None ≡
     object_from (j + k) (get_or xs k fresh_slot)

@@ -54,7 +54,8 @@ module _ (p : PartsState) (kept : StoreInvariant p) (tied : ObjectsInvariant p.o
   slots-there : (n : ℕ) → n < length p.waits.waits
       → are_below p.limits.slots (ids_of (get_or p.waits.waits n None)) ≡ true
   slots-there n within = all_from _ (ids_of (get_or p.waits.waits n None)) nowhere (λ i lt.
-      (let there = there_within p.objects.objects _ (kept.sound.named.blocks _ (place_counted _ _ _ kept.sound.named n i within lt)) in
+      (let there = there_within p.objects.objects _ (kept.sound.named.blocks _ (place_counted _ _ _ kept.sound.named n i
+      within lt)) in
       lt-ltb _ p.limits.slots (omega (arith, ap (λ (z : Shape). z.slots) kept.sound.limited.shape_is))))
 
   wait-within : (w : Option Wait) → ((t : ℕ) → thread_of w ≡ Some t → IsLive p.processes.threads t)
@@ -96,7 +97,8 @@ module _ (p : PartsState) (kept : StoreInvariant p) (tied : ObjectsInvariant p.o
 
   tables_there : (rest : List ℕ) → tables_at p.limits.processes p.limits.handles (length p.processes.processes)
       (tables_text p.tables.tables ++ rest) ≡ Ok (p.tables, rest)
-  tables_there rest = rw (← sound.limited.processes_are, ← sound.limited.handles_are, ← sound.processes_kept.tabled) (tables_again p.tables rest tables)
+  tables_there rest = rw (← sound.limited.processes_are, ← sound.limited.handles_are, ← sound.processes_kept.tabled)
+      (tables_again p.tables rest tables)
 
   tables_back : (rest : List ℕ) → tables_for p.limits p.processes.processes
       (tables_text p.tables.tables ++ rest) ≡ Ok (p.tables, rest)

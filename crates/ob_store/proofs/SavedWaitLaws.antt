@@ -41,7 +41,8 @@ module _ (waits : List (Option Wait)) (p q : Places) (slot : ℕ) (h : HasCounte
   pub counts_end : length p.objects ≤ slot → q ≡ with_blocks waits p
   counts_end all =
       let same : q.seen.blocks ≡ map (object_blocks waits) p.objects =
-      ext_get_or 0 _ _ (search (arith, length-map, h.length_is)) (λ k lt. search (arith, h.done, get_or-map, h.length_is)) in
+      ext_get_or 0 _ _ (search (arith, length-map, h.length_is)) (λ k lt.
+      search (arith, h.done, get_or-map, h.length_is)) in
       search arith
 
 module _ (limit : ℕ) (threads : List (Option ℕ)) (s : ObjectsState) (waits : List (Option Wait)) where

@@ -60,7 +60,8 @@ module _ (s : State) (now n : ℕ) (named : IsNamed s.objects s.tables s.waits) 
   others_are = ap (timed_out now) one_is ∙ (search (arith, lapsed_twice))
 
   fewer_blocks : (k : ℕ) → get_or (objects_of all).blocks k 0 ≤ get_or (objects_of one).blocks k 0
-  fewer_blocks k = grind (arith, nat_tests, get_by_slot, slot_lapsed k now one.waits, ap (slot_blocks k) same_waits, get_or_past, length-by_slot)
+  fewer_blocks k =
+      grind (arith, nat_tests, get_by_slot, slot_lapsed k now one.waits, ap (slot_blocks k) same_waits, get_or_past, length-by_slot)
 
   others_quiet : IsSettled left all.waits
   others_quiet = settled_less s.bodies left all.waits (less_gone s.bodies left (ended_left (objects_of one))) all_quiet
