@@ -1,7 +1,6 @@
 -- The blocks of an object, counted along a list of numbers.
-use Rattle.ob_waits.proofs.Cited.{at_place, ◌≡◌, ℕ, suc, ◌-◌, ◌+◌, ◌<◌, ◌≤◌, List, [], ◌∷◌, length, Option, None, refl, ap, ◌∙◌, arith, get_or, set, inl, inr, true, sum_by, count_by, ◌==◌, list_any, Id, Wait, blocks_in, names_slot, ids_of, get_or_past, get_or-set_other, set_past, sum_by-cons, sum_by-set, Within, IsRising, IsOrdered}
+use Rattle.ob_waits.proofs.Cited.{at_place, ◌≡◌, ℕ, suc, ◌-◌, ◌+◌, ◌<◌, ◌≤◌, List, [], ◌∷◌, length, Option, None, refl, arith, get_or, set, inl, inr, true, sum_by, count_by, ◌==◌, list_any, Id, Wait, blocks_in, names_slot, ids_of, get_or_past, get_or-set_other, set_past, sum_by-cons, sum_by-set, Within, IsRising, IsOrdered}
 use Rattle.pin_core.specs.Holds.{same_id}
-use Rattle.ob_waits.proofs.Writes.{set_none}
 
 sum_same : (g h : ℕ → ℕ) (ns : List ℕ) → ((k : ℕ) → Within k ns → g k ≡ h k) → sum_by g ns ≡ sum_by h ns
 sum_same g h [] same = refl
@@ -10,7 +9,7 @@ sum_same g h (n ∷ ns) same = search (arith, sum_by-cons, sum_same g h ns (λ k
 module _ {A : Type 0} (f : Option A → ℕ) (none : f None ≡ 0) where
   sum_zero : (xs : List (Option A)) → ((n : ℕ) → f (get_or xs n None) ≡ 0) → sum_by f xs ≡ 0
   sum_zero [] h = refl
-  sum_zero (x ∷ xs) h = sum_by-cons f x xs ∙ (let a = h 0 in let b = sum_zero xs (λ n. h (suc n)) in omega arith)
+  sum_zero (x ∷ xs) h = omega (arith, sum_by-cons f x xs, h 0, sum_zero xs (λ n. h (suc n)))
 
   -- an element is replaced by one that counts nothing
   pub sum_cleared : (xs : List (Option A)) (n : ℕ) (x : Option A) → f x ≡ 0
@@ -22,33 +21,21 @@ module _ {A : Type 0} (f : Option A → ℕ) (none : f None ≡ 0) where
       → ((n : ℕ) → 0 < f (get_or xs n None) → Within n ns) → sum_by (λ n. f (get_or xs n None)) ns ≡ sum_by f xs
   sum_numbers [] xs rising has = search (arith, sum_zero)
   sum_numbers (m ∷ ns) xs rising has =
-      sum_by-cons (λ n. f (get_or xs n None)) m ns
-      ∙ (let a = sum_same (λ n. f (get_or xs n None)) (λ n. f (get_or (set xs m None) n None)) ns apart in
-      let b = sum_numbers ns (set xs m None) rising.1 rest in
-      let c = sum_cleared xs m None none in omega arith)
-    where
-      apart : (k : ℕ) → Within k ns → f (get_or xs k None) ≡ f (get_or (set xs m None) k None)
-      apart k i = search (arith, get_or-set_other)
-
-      here : f (get_or (set xs m None) m None) ≡ 0
-      here = ap f (set_none xs m) ∙ none
-
-      rest : (n : ℕ) → 0 < f (get_or (set xs m None) n None) → Within n ns
-      rest n some = grind (arith, at_place)
+      let same = sum_same (λ n. f (get_or xs n None)) (λ n. f (get_or (set xs m None) n None)) ns
+      (search (arith, get_or-set_other, rising.0)) in
+      let rest = sum_numbers ns (set xs m None) rising.1 (λ n some. grind (arith, at_place, has n)) in
+      omega (arith, sum_by-cons (λ n. f (get_or xs n None)) m ns, same, rest, sum_cleared xs m None none)
 
 ordered_below : (low m : ℕ) (ns : List ℕ) → IsRising ns → ((k : ℕ) → Within k ns → low ≤ k)
     → ((k : ℕ) → Within k ns → k ≤ m) → length ns ≤ suc m - low
 ordered_below low m [] r above below = omega arith
 ordered_below low m (x ∷ ns) r above below =
     let rest = ordered_below (suc x) m ns r.1 (λ k i. r.0 k i) (λ k i. below k (inr i)) in
-    let least = above x (inl refl) in
-    let most = below x (inl refl) in
-    omega arith
+    omega (arith, rest, above x (inl refl), below x (inl refl))
 
 -- a list has no more numbers than there are
 pub length-ordered : (m : ℕ) (ns : List ℕ) → IsOrdered m ns → length ns ≤ suc m
-length-ordered m ns numbers = let le = ordered_below 0 m ns numbers.rising (λ k i. omega arith) numbers.below in
-    omega arith
+length-ordered m ns numbers = omega (arith, ordered_below 0 m ns numbers.rising (λ k i. omega arith) numbers.below)
 
 -- a wait with a block of an object names its slot
 ids_named : (id : Id) (ids : List Id) → 0 < count_by (same_id id) ids

@@ -1,12 +1,14 @@
 -- How the numbers of blocks change with the waits, by slot and by Id.
-use Rattle.ob_waits.proofs.Cited.{◌≡◌, ℕ, ◌+◌, ◌*◌, ◌<◌, ◌≤◌, List, [], ◌∷◌, ◌++◌, length, Option, Some, None, refl, ap, ◌∙◌, subst, arith, get_or, set, map, Bool, true, false, cond, count_by, sum_by, ◌==◌, list_any, length-set, length-map, get_or_past, get_or-set_same, get_or-set_other, ext_get_or, sum_by-cons, sum_by-append, sum_by-le, get_or-le-sum_by, count_by-le-length, false_from_ne_true, Id, Mode, Wait, thread_of, WaitsInvariant, nowhere, new_wait, answered, ids_of, names_slot, slot_places, slot_blocks, blocks_in, blocks_among, Scene, is_ready, effect, settled, number_of, numbered_ids, thread_ids, is_waits_of, unless_of}
+use Rattle.ob_codec.proofs.AtPlace.{at_place}
+use Rattle.std.proofs.lemmas.Bool.Decides.{nat_tests}
+use Rattle.ob_waits.proofs.Cited.{◌≡◌, ℕ, ◌+◌, ◌*◌, ◌<◌, ◌≤◌, List, [], ◌∷◌, ◌++◌, length, Option, Some, None, refl, ap, ◌∙◌, arith, get_or, set, map, true, cond, count_by, sum_by, ◌==◌, list_any, length-set, length-map, get_or_past, ext_get_or, sum_by-cons, sum_by-append, sum_by-le, get_or-le-sum_by, count_by-le-length, Id, Mode, Wait, WaitsInvariant, nowhere, new_wait, answered, ids_of, names_slot, slot_places, slot_blocks, blocks_in, blocks_among, Scene, is_ready, effect, settled, number_of, numbered_ids, thread_ids, is_waits_of, unless_of}
 use Rattle.std.proofs.lemmas.List.{get_or-map}
 use Rattle.std.proofs.lemmas.List.Elements.{All-from_get_or}
 use Rattle.std.proofs.lemmas.List.Quantifiers.{position-Some}
 use Rattle.pin_core.specs.Holds.{same_id}
 use Rattle.ob_waits.proofs.BlockLaws.{sum_cleared}
 use Rattle.ob_waits.proofs.Settling.{settled_by_effects}
-use Rattle.ob_waits.proofs.TrackedLaws.{thread_waits, waits_thread, no_number}
+use Rattle.ob_waits.proofs.TrackedLaws.{waits_thread, no_number}
 
 -- a wait becomes pending
 pub slot_added : (k : ℕ) (ws : List (Option Wait)) (t : ℕ) (mode : Mode) (ids : List Id) (d : Option ℕ)
@@ -36,23 +38,17 @@ pub blocks_removed : (id : Id) (ws : List (Option Wait)) (n : ℕ)
     → blocks_among id (set ws n None) + blocks_in id (get_or ws n None) ≡ blocks_among id ws
 blocks_removed id ws n = search (arith, sum_cleared)
 
--- the wait of a thread goes, and it is the only one
-unless_other : (t : ℕ) (w : Option Wait) → is_waits_of t w ≡ false → unless_of t w ≡ w
-unless_other t w h = ap (λ b. cond b None w) h
-
 pub dropped_found : (ws : List (Option Wait)) (t n : ℕ) → WaitsInvariant ws → number_of t ws ≡ Some n
     → map (unless_of t) ws ≡ set ws n None
 dropped_found ws t n kept found =
     let at = position-Some (is_waits_of t) ws n None found in
-    let own : thread_of (get_or ws n None) ≡ Some t = waits_thread t (get_or ws n None) at.1 in
-    ext_get_or None (map (unless_of t) ws) (set ws n None) (search (arith, length-map, length-set))
-    (search (arith, false_from_ne_true, get_or-map, get_or-set_other, get_or-set_same, length-map, thread_waits))
+    ext_get_or None _ _ (search (arith, length-map, length-set))
+    (λ i lt. let own = waits_thread t (get_or ws n None) at.1 in let long = length-map ws (unless_of t) in
+    grind (arith, nat_tests, at_place, get_or-map (unless_of t) ws i None None, own, kept.one_each i n t, long))
 
 pub dropped_missing : (ws : List (Option Wait)) (t : ℕ) → number_of t ws ≡ None → map (unless_of t) ws ≡ ws
-dropped_missing ws t none = ext_get_or None (map (unless_of t) ws) ws (length-map ws (unless_of t))
-    (λ i lt. get_or-map (unless_of t) ws i None None (search (arith, length-map))
-    ∙ unless_other t (get_or ws i None) (false_from_ne_true _
-    (search (arith, no_number, waits_thread))))
+dropped_missing ws t none = ext_get_or None _ _ (length-map ws (unless_of t))
+    (λ i lt. grind (arith, get_or-map (unless_of t) ws i None None, no_number t ws i none, length-map ws (unless_of t)))
 
 sum_dropped : (f : Option Wait → ℕ) (g : List Id → ℕ) → ((w : Option Wait) → f w ≡ g (ids_of w)) → g [] ≡ 0
     → (t : ℕ) (ws : List (Option Wait)) → WaitsInvariant ws →
@@ -64,8 +60,7 @@ sum_dropped f g same zero t ws kept = by (number_of t ws) refl
     by (Some n) is =
         let all = ap (sum_by f) (dropped_found ws t n kept is) in
         let ids = ap (λ m. g (numbered_ids ws m)) is in
-        let one = sum_cleared f (same None ∙ zero) ws n None (same None ∙ zero) in
-        let here = same (get_or ws n None) in omega arith
+        omega (arith, all, ids, sum_cleared f (same None ∙ zero) ws n None (same None ∙ zero), same (get_or ws n None))
 
 pub slot_dropped : (k t : ℕ) (ws : List (Option Wait)) → WaitsInvariant ws
     → slot_blocks k (map (unless_of t) ws) + slot_places k (thread_ids t ws) ≡ slot_blocks k ws
@@ -78,41 +73,28 @@ blocks_dropped id t ws kept = sum_dropped (blocks_in id) (count_by (same_id id))
 -- a wait that names a slot counts there
 places_named : (k : ℕ) (ids : List Id) → list_any (λ (id : Id). id.slot == k) ids ≡ true → 0 < slot_places k ids
 places_named k [] h = absurd (cc)
-places_named k (x ∷ xs) h = by (x.slot == k) refl (places_named k xs)
-  where
-    by : (b : Bool) → (x.slot == k) ≡ b → (list_any (λ (id : Id). id.slot == k) xs ≡ true → 0 < slot_places k xs)
-        → 0 < slot_places k (x ∷ xs)
-    by true is later = let e = sum_by-cons (λ (y : Id). cond (y.slot == k) 1 0) x xs in
-        search arith
-    by false is later = search (arith, sum_by-cons)
+places_named k (x ∷ xs) h =
+    grind (arith, nat_tests, sum_by-cons (λ (y : Id). cond (y.slot == k) 1 0) x xs, places_named k xs)
 
 -- each place of a list counts in its slot
 pub places_at : (ids : List Id) (i : ℕ) → i < length ids → 0 < slot_places (get_or ids i nowhere).slot ids
 places_at ids i lt =
-    let k = (get_or ids i nowhere).slot in
-    let f : Id → ℕ = λ x. cond (x.slot == k) 1 0 in
-    let here : f (get_or ids i nowhere) ≡ 1 = ap {B = ℕ} (λ b. cond b 1 0) (let yes : (k == k) ≡ true =
-    grind arith in yes) in
-    omega (arith, get_or-le-sum_by f ids i nowhere lt)
+    let le = get_or-le-sum_by (λ (x : Id). cond (x.slot == (get_or ids i nowhere).slot) 1 0) ids i nowhere lt in
+    grind (arith, nat_tests, le)
 
 pub wait_counts : (k n : ℕ) (ws : List (Option Wait)) → slot_places k (ids_of (get_or ws n None)) ≤ slot_blocks k ws
 wait_counts k n ws = search (arith, get_or-le-sum_by, get_or_past)
 
 pub named_counts : (k n : ℕ) (ws : List (Option Wait)) → names_slot k (get_or ws n None) ≡ true → 0 < slot_blocks k ws
-named_counts k n ws named = let some = places_named k (ids_of (get_or ws n None)) named in
-    let le = wait_counts k n ws in omega arith
+named_counts k n ws named = grind (arith, places_named k (ids_of (get_or ws n None)), wait_counts k n ws)
 
 pub unnamed_ids : (k n : ℕ) (ws : List (Option Wait)) → slot_blocks k ws ≡ 0 → (i : ℕ)
     → i < length (ids_of (get_or ws n None)) → (get_or (ids_of (get_or ws n None)) i nowhere).slot ≡ k → ⊥
-unnamed_ids k n ws unnamed i lt same =
-    let some : 0 < slot_places k (ids_of (get_or ws n None)) =
-    subst (λ j. 0 < slot_places j (ids_of (get_or ws n None))) same (search (arith, places_at)) in
-    let le = wait_counts k n ws in omega arith
+unnamed_ids k n ws unnamed i lt same = grind (arith, places_at (ids_of (get_or ws n None)) i lt, wait_counts k n ws)
 
 pub slot_blocks-few : (k : ℕ) (ws : List (Option Wait)) → WaitsInvariant ws → slot_blocks k ws ≤ length ws * 64
 slot_blocks-few k ws kept = sum_by-le (λ w. slot_places k (ids_of w)) 64 ws
-    (All-from_get_or (λ w. slot_places k (ids_of w) ≤ 64) ws None
-    (search (arith, count_by-le-length)))
+    (All-from_get_or (λ w. slot_places k (ids_of w) ≤ 64) ws None (search (arith, count_by-le-length)))
 
 -- settling answers waits
 blocks_effect : (id : Id) (s : Scene) (n : ℕ) → is_ready s.objects.bodies (get_or s.waits n None) ≡ true
@@ -120,5 +102,5 @@ blocks_effect : (id : Id) (s : Scene) (n : ℕ) → is_ready s.objects.bodies (g
 blocks_effect id s n ready = search (arith, sum_cleared)
 
 pub blocks_settled : (id : Id) (scene : Scene) → blocks_among id (settled scene).waits ≤ blocks_among id scene.waits
-blocks_settled id scene = settled_by_effects (λ (a b : Scene). blocks_among id b.waits ≤ blocks_among id a.waits)
-    (λ s. omega arith) (λ a b c x y. omega arith) (blocks_effect id) scene
+blocks_settled id = settled_by_effects (λ (a b : Scene). blocks_among id b.waits ≤ blocks_among id a.waits)
+    (λ s. omega arith) (λ a b c x y. omega arith) (blocks_effect id)

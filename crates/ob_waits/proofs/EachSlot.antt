@@ -41,6 +41,6 @@ module _ (R : Option Body → Option Body → Type 0) (same : (x : Option Body) 
       -- a wait of the thread is satisfied, and its blocks leave
       pub slots-satisfied : (mode : Mode) (ids : List Id) (objects : CountedBodies) → EachSlot R objects.bodies
           (without_blocks (record objects { bodies = bodies_after mode u objects.bodies ids }) ids).bodies
-      slots-satisfied mode ids objects = let after : Bodies = bodies_after mode u objects.bodies ids in
-          slots-both objects.bodies after (without_blocks (record objects { bodies = after }) ids).bodies
-          (slots-taken mode ids objects.bodies) (slots-left ids (record objects { bodies = after }))
+      slots-satisfied mode ids objects =
+          slots-both objects.bodies (bodies_after mode u objects.bodies ids) _ (slots-taken mode ids objects.bodies)
+          (slots-left ids (record objects { bodies = bodies_after mode u objects.bodies ids }))

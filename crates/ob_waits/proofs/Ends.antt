@@ -1,51 +1,31 @@
 -- Objects end where their last block leaves: what that keeps.
-use Rattle.ob_waits.proofs.Cited.{◌≡◌, ℕ, ◌+◌, ◌-◌, List, [], ◌∷◌, length, Option, Some, None, refl, ◌∙◌, arith, get_or, cond, eqb, is_some, length-set, get_or-set_other, Id, Body, Mode, Wait, State, Pending, Answered, CountedBodies, slot_acquired, bodies_left, without_block, without_blocks, HasBodies, with_acquired, with_all_acquired, bodies_after, Scene, effect_of, effect_at, settled}
+use Rattle.ob_waits.proofs.Cited.{at_place, nat_tests, ◌≡◌, ℕ, List, [], ◌∷◌, length, Option, Some, None, refl, arith, is_some, length-set, Id, Body, Mode, Wait, State, Pending, Answered, CountedBodies, without_block, without_blocks, HasBodies, with_acquired, with_all_acquired, bodies_after, Scene, effect_of, effect_at, settled}
 use Rattle.ob_waits.proofs.Settling.{settled_by_effects}
 use Rattle.ob_waits.proofs.EachSlot.{slots-taken}
-use Rattle.ob_waits.proofs.References.{left_one}
-use Rattle.ob_waits.proofs.Writes.{set_none}
 
 -- a slot has a body exactly where it had one
 abbrev HasStill : Option Body → Option Body → Type 0
 HasStill x y = is_some y ≡ is_some x
 
-has_still : (t : ℕ) (x : Option Body) → HasStill x (slot_acquired t x)
-has_still = search arith
-
 -- a thread took what it waits for
 ends_taken : (mode : Mode) (t : ℕ) (ids : List Id) (objects : CountedBodies) → HasBodies objects
     → HasBodies (record objects { bodies = bodies_after mode t objects.bodies ids })
-ends_taken mode t ids objects has = record {
-  each = λ k. slots-taken HasStill (λ x. refl) (λ x y z a b. b ∙ a) t (has_still t) mode ids objects.bodies k
-      ∙ has.each k;
-}
-
--- a block leaves, and with the last one the body
-pub body_left : (objects : CountedBodies) (id : Id) (k : ℕ) →
-    get_or (bodies_left objects id) k None ≡ cond (eqb id.slot k)
-    (cond (eqb (get_or objects.handles k 0 + (get_or objects.blocks k 0 - 1)) 0) None
-    (get_or objects.bodies k None)) (get_or objects.bodies k None)
-body_left objects id k = search (arith, get_or-set_other, set_none)
+ends_taken mode t ids objects has = search (arith, slots-taken HasStill)
 
 pub ends_left : (id : Id) (objects : CountedBodies) → HasBodies objects → HasBodies (without_block objects id)
-ends_left id objects has = search (arith, body_left, left_one)
+ends_left id objects has = grind (arith, nat_tests, at_place, has.each)
 
 pub ends_all : (ids : List Id) (objects : CountedBodies) → HasBodies objects → HasBodies (without_blocks objects ids)
 ends_all [] objects has = has
 ends_all (id ∷ ids) objects has = ends_all ids (without_block objects id) (ends_left id objects has)
 
-ends_of : (scene : Scene) (n : ℕ) (w : Wait) (st : State) → HasBodies scene.objects
-    → HasBodies (effect_of scene n w st).objects
-ends_of = search (arith, ends_taken, ends_all)
-
 ends_at : (scene : Scene) (n : ℕ) (w : Option Wait) → HasBodies scene.objects → HasBodies (effect_at scene n w).objects
-ends_at = search (arith, ends_of)
+ends_at = search (arith, ends_taken, ends_all)
 
 -- The theorem: where a slot has a body exactly where something refers to its object, it still does after settling.
 pub ends_settled : (scene : Scene) → HasBodies scene.objects → HasBodies (settled scene).objects
-ends_settled scene = settled_by_effects (λ (a b : Scene). HasBodies a.objects
-    → HasBodies b.objects) (λ s has. has) (λ a b c x y has. y (x has))
-    (search (arith, ends_at)) scene
+ends_settled = settled_by_effects (λ (a b : Scene). HasBodies a.objects → HasBodies b.objects) (λ s has. has)
+    (λ a b c x y has. y (x has)) (search (arith, ends_at))
 
 -- handles stay, and no slot comes or goes
 pub record SameSizes (objects after : CountedBodies) : Type 0 where
@@ -55,9 +35,6 @@ pub record SameSizes (objects after : CountedBodies) : Type 0 where
 
 sizes_same : (objects : CountedBodies) → SameSizes objects objects
 sizes_same objects = search arith
-
-sizes_both : (a b c : CountedBodies) → SameSizes a b → SameSizes b c → SameSizes a c
-sizes_both a b c x y = search arith
 
 pub sizes_left : (ids : List Id) (objects : CountedBodies) → SameSizes objects (without_blocks objects ids)
 sizes_left [] objects = sizes_same objects
@@ -73,12 +50,10 @@ pub length-after : (mode : Mode) (t : ℕ) (bodies : List (Option Body)) (ids : 
 length-after = search (arith, length-all, length-set)
 
 sizes_of : (scene : Scene) (n : ℕ) (w : Wait) (st : State) → SameSizes scene.objects (effect_of scene n w st).objects
-sizes_of scene n w (Pending mode ids) =
-    let after = bodies_after mode w.thread scene.objects.bodies ids in
-    sizes_both scene.objects (record scene.objects { bodies = after })
-    (without_blocks (record scene.objects { bodies = after }) ids)
-    (search (arith, length-after))
-    (search (arith, sizes_left))
+sizes_of scene n w (Pending mode ids) = let after = length-after mode w.thread scene.objects.bodies ids in
+    let left = sizes_left ids (record scene.objects {
+      bodies = bodies_after mode w.thread scene.objects.bodies ids;
+    }) in search arith
 sizes_of scene n w (Answered code) = sizes_same scene.objects
 
 sizes_at : (scene : Scene) (n : ℕ) (w : Option Wait) → SameSizes scene.objects (effect_at scene n w).objects
@@ -86,5 +61,5 @@ sizes_at scene n None = sizes_same scene.objects
 sizes_at scene n (Some w) = sizes_of scene n w w.state
 
 pub sizes_settled : (scene : Scene) → SameSizes scene.objects (settled scene).objects
-sizes_settled scene = settled_by_effects (λ (a b : Scene). SameSizes a.objects b.objects) (λ s. sizes_same s.objects)
-    (λ a b c. search arith) (search (arith, sizes_at)) scene
+sizes_settled = settled_by_effects (λ (a b : Scene). SameSizes a.objects b.objects) (λ s. sizes_same s.objects)
+    (search arith) (search (arith, sizes_at))

@@ -1,6 +1,6 @@
 -- What the waits keep while some of them are answered.
-use Rattle.ob_waits.proofs.Cited.{nat_tests, at_place, ◌≡◌, ℕ, List, [], ◌∷◌, length, Option, Some, None, refl, ap, sym, subst, arith, get_or, set, Bool, true, false, inl, inr, get_or-set_same, get_or-set_other, cases_eq, Body, Wait, WaitWaitable, thread_of, WaitsInvariant, WaitHasRoom, WaitsHaveRoom, Fits, is_code, is_ready, Scene, answered_wait, effect, passed, settled, is_pending, names_slot}
-use Rattle.ob_waits.proofs.Settling.{Answers, answers, ready_within, RoomKept, settled_by_effects}
+use Rattle.ob_waits.proofs.Cited.{nat_tests, at_place, ◌≡◌, ℕ, List, [], ◌∷◌, length, Option, Some, None, sym, subst, arith, get_or, set, true, Body, Wait, WaitWaitable, thread_of, WaitsInvariant, WaitHasRoom, WaitsHaveRoom, Fits, is_code, is_ready, Scene, answered_wait, effect, passed, settled, is_pending, names_slot}
+use Rattle.ob_waits.proofs.Settling.{answers, RoomKept, settled_by_effects}
 
 -- a wait is what it was, or answered
 pub record Fades (old new : Option Wait) : Type 0 where
@@ -50,26 +50,12 @@ room_other = search arith
 pub effect_room : (limit : ℕ) (scene : Scene) (n : ℕ) → is_ready scene.objects.bodies (get_or scene.waits n None) ≡ true
     → WaitsInvariant scene.waits → WaitsHaveRoom limit scene.objects.bodies scene.waits
     → WaitsHaveRoom limit (effect scene n).objects.bodies (effect scene n).waits
-effect_room limit scene n ready k r = record {
-  each = λ m. elim (cases_eq m n) [
-    | inl same ↦ grind (arith, at_place)
-    | inr apart ↦ subst (λ x. WaitHasRoom limit (effect scene n).objects.bodies x) (sym (at_other m apart))
-        (room_other limit a.wait.thread scene.objects.bodies (effect scene n).objects.bodies (get_or scene.waits m None)
-        (a.room limit) (λ e. apart (k.one_each m n a.wait.thread e (ap thread_of a.own))) (r.each m))
-  ];
+effect_room limit scene n ready k r = let a = answers scene n ready in record {
+  each = λ m.
+      let other = room_other limit a.wait.thread scene.objects.bodies (effect scene n).objects.bodies
+      (get_or scene.waits m None) (a.room limit) in
+      grind (arith, nat_tests, at_place, a.waits, a.own, r.each m, k.one_each m n, other);
 }
-  where
-    a : Answers scene (effect scene n) n
-    a = answers scene n ready
-
-    w : Option Wait
-    w = answered_wait a.wait a.code
-
-    at_n : get_or (effect scene n).waits n None ≡ w
-    at_n = search (arith, get_or-set_same, ready_within)
-
-    at_other : (m : ℕ) → (m ≡ n → ⊥) → get_or (effect scene n).waits m None ≡ get_or scene.waits m None
-    at_other m apart = search (arith, get_or-set_other)
 
 pub effect_fits : (limit : ℕ) (scene : Scene) (n : ℕ) → is_ready scene.objects.bodies (get_or scene.waits n None) ≡ true
     → Fits limit scene.objects.bodies scene.waits → Fits limit (effect scene n).objects.bodies (effect scene n).waits
@@ -79,15 +65,8 @@ effect_fits limit scene n ready k = search (arith, effect_kept, effect_room)
 pub passed_fits : (limit : ℕ) (ns : List ℕ) (scene : Scene) → Fits limit scene.objects.bodies scene.waits
     → Fits limit (passed ns scene).objects.bodies (passed ns scene).waits
 passed_fits limit [] scene k = k
-passed_fits limit (n ∷ ns) scene k = by (is_ready scene.objects.bodies (get_or scene.waits n None)) refl
-    (λ s f. passed_fits limit ns s f)
-  where
-    by : (b : Bool) → is_ready scene.objects.bodies (get_or scene.waits n None) ≡ b
-        → ((s : Scene) → Fits limit s.objects.bodies s.waits
-        → Fits limit (passed ns s).objects.bodies (passed ns s).waits)
-        → Fits limit (passed (n ∷ ns) scene).objects.bodies (passed (n ∷ ns) scene).waits
-    by true ready rest = grind (arith, effect_fits)
-    by false ready rest = rw ready (rest scene k)
+passed_fits limit (n ∷ ns) scene k =
+    grind (arith, effect_fits, passed_fits limit ns (effect scene n), passed_fits limit ns scene)
 
 -- the same where the scene after it stands in variables
 pub fits_passed : (limit : ℕ) (ns : List ℕ) (scene after : Scene) → after ≡ passed ns scene
@@ -98,9 +77,9 @@ fits_passed limit ns scene after is k = subst (λ (x : Scene). Fits limit x.obje
 -- and so does settling
 pub settled_fits : (limit : ℕ) (scene : Scene) → Fits limit scene.objects.bodies scene.waits
     → Fits limit (settled scene).objects.bodies (settled scene).waits
-settled_fits limit scene = settled_by_effects (λ (a b : Scene). Fits limit a.objects.bodies a.waits
-    → Fits limit b.objects.bodies b.waits) (λ s k. k) (λ a b c x y k. y (x k)) (effect_fits limit) scene
+settled_fits limit = settled_by_effects (λ (a b : Scene). Fits limit a.objects.bodies a.waits → Fits limit
+    b.objects.bodies b.waits) (search arith) (search arith) (effect_fits limit)
 
 pub settled_fades : (scene : Scene) → Fade scene.waits (settled scene).waits
-settled_fades scene = settled_by_effects (λ (a b : Scene). Fade a.waits b.waits) (λ s. fade_none s.waits)
-    (search (arith, fade_both)) effect_fades scene
+settled_fades = settled_by_effects (λ (a b : Scene). Fade a.waits b.waits) (λ s. fade_none s.waits)
+    (search (arith, fade_both)) effect_fades

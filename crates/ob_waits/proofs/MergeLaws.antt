@@ -1,5 +1,5 @@
 -- Settling over the numbers of several slots: always the least number above the last one takes effect next.
-use Rattle.ob_waits.proofs.Cited.{◌≡◌, ℕ, zero, suc, ◌<◌, ◌≤◌, List, [], ◌∷◌, length, Some, None, sym, subst, arith, eqb, get_or, Option, true, false, inl, inr, leb, get_or_default, cases_lt, false_from_ne_true, Id, IsAtMost, list_any_at, IsNext, IsNextOf, numbers_of, slot_signaled, Within, IsRising, IsReadyBy, IsSettled, nowhere, Scene, has_slot, ids_of, is_ready, names_slot, passed, settled}
+use Rattle.ob_waits.proofs.Cited.{◌≡◌, ℕ, zero, suc, ◌<◌, ◌≤◌, List, [], ◌∷◌, length, Some, None, sym, arith, eqb, get_or, Option, true, false, inl, inr, leb, get_or_default, false_from_ne_true, Id, IsAtMost, list_any_at, IsNext, IsNextOf, numbers_of, Within, IsRising, IsReadyBy, IsSettled, nowhere, Scene, has_slot, ids_of, is_ready, names_slot, passed, settled}
 use Rattle.std.specs.List.Sorted.{IsPartitionedBy, IsPartitionPoint}
 use Rattle.ob_waits.proofs.Keeping.{passed_fades}
 use Rattle.ob_waits.proofs.Settling.{ready_pending}
@@ -11,8 +11,8 @@ use Rattle.ob_waits.proofs.NumberLaws.{within_at}
 rising_at : (ns : List ℕ) → IsRising ns → (i j d : ℕ) → i ≤ j → j < length ns → get_or ns i d ≤ get_or ns j d
 rising_at [] r i j d le lt = absurd (omega arith)
 rising_at (x ∷ ns) r zero zero d le lt = omega arith
-rising_at (x ∷ ns) r zero (suc j) d le lt = let above = r.0 (get_or ns j 0) (within_at ns j (omega arith)) in
-    let e = get_or_default ns j d 0 (omega arith) in omega arith
+rising_at (x ∷ ns) r zero (suc j) d le lt =
+    grind (arith, r.0 (get_or ns j 0) (within_at ns j (omega arith)), get_or_default ns j d 0)
 rising_at (x ∷ ns) r (suc i) zero d le lt = absurd (omega arith)
 rising_at (x ∷ ns) r (suc i) (suc j) d le lt = rising_at ns r.1 i j d (omega arith) (omega arith)
 
@@ -61,24 +61,14 @@ module _ (last : ℕ) (lists : List (List ℕ)) (ids : List Id) (s : Scene) (r :
       let some = any_at (λ (id : Id). eqb id.slot slot) nowhere ids changed in
       let same : (get_or ids some.0 nowhere).slot ≡ slot = grind arith in
       let named : names_slot slot w ≡ true = list_any_at (λ (id : Id). eqb id.slot slot) (ids_of w) i nowhere lt
-      (let e : eqb slot slot ≡ true = grind arith in e) in
-      elim (is.least some.0 k some.1 (subst (λ j. Within k (numbers_of lists j)) (sym same) (r.listed slot k named))
-      (r.above k ready)) [
-        | inl least ↦ absurd (below least)
-        | inr spent ↦ subst (λ j. slot_signaled t (get_or s.objects.bodies j None) ≡ false) same
-            (spent k t own (ready_pending s.objects.bodies w ready))
-      ]) in
+      (grind arith) in
+      grind (arith, is.least some.0 k, r.listed slot k, r.above k, ready_pending s.objects.bodies w)) in
       cc (un, ready))
 
   -- the next number takes effect, where it is ready
   pub goes : (m : ℕ) → IsNextOf last lists s ids (Some m) → Goes m lists ids s (passed (m ∷ []) s)
   goes m is =
-      let step = steps m s (λ k ready. elim (cases_lt k m) [
-        | inl lt ↦ absurd (let none = not_below (Some m) is k (λ le. omega arith) in cc (none, ready))
-        | inr le ↦ le
-      ]) in
-      let fade = passed_fades (m ∷ []) s in
-      search (arith, by_passed)
+      search (arith, by_passed, passed_fades (m ∷ []) s, steps m s (λ k. grind (arith, not_below (Some m) is k)))
 
   -- no number is left
   pub all_gone : IsNextOf last lists s ids None → IsSettled s.objects.bodies s.waits

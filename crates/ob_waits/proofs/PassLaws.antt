@@ -1,30 +1,18 @@
 -- Numbers take effect one after another where they are ready: that is settling, as long as none that is ready is below
 -- the next.
-use Rattle.ob_waits.proofs.Cited.{at_place, ◌≡◌, ℕ, zero, suc, ◌+◌, ◌<◌, ◌≤◌, List, [], ◌∷◌, length, Option, Some, None, refl, ◌∙◌, sym, subst, arith, drop, eqb, get_or, set, Bool, true, false, inl, inr, list_any, ◌&&◌, not, IfSome, drop_all, drop_more, list_any_at, count_by-le-length, fails_before_first, passes_at_first, cases_lt, true_from_ne_false, Id, Body, Mode, Pending, Wait, numbers_of, Thins, CountedBodies, slot_signaled, AreIndexed, Covers, IsOnlyIn, IsReadyAt, IsReadyBy, IsRising, IsSettled, IsSpent, thread_of, nowhere, Scene, answered, is_ready, is_pending, ids_of, first_ready, first_signaled, is_signaled, effect, passed, settled, settled_within}
+use Rattle.ob_waits.proofs.Cited.{at_place, ◌≡◌, ℕ, zero, suc, ◌+◌, ◌<◌, ◌≤◌, List, [], ◌∷◌, length, Option, Some, None, refl, subst, arith, drop, eqb, get_or, set, Bool, true, false, list_any, ◌&&◌, not, IfSome, drop_all, drop_more, list_any_at, count_by-le-length, fails_before_first, passes_at_first, true_from_ne_false, Id, Body, Mode, Pending, Wait, numbers_of, Thins, CountedBodies, slot_signaled, AreIndexed, Covers, IsOnlyIn, IsReadyAt, IsReadyBy, IsRising, IsSettled, IsSpent, thread_of, nowhere, Scene, answered, is_ready, is_pending, ids_of, first_ready, first_signaled, effect, passed, settled, settled_within}
 use Rattle.ob_waits.specs.declared.wait.Mode.TheVariants.{Any}
 use Rattle.ob_waits.proofs.Keeping.{Fade}
 use Rattle.ob_waits.proofs.NumberLaws.{thins_both, thins_first}
-use Rattle.ob_waits.proofs.Settling.{pending_count, ready_within, ready_counted, ready_where, fewer, was_ready, answers, settled_at_end, settled_none, settled_same, settled_first, first_is}
+use Rattle.ob_waits.proofs.Settling.{pending_count, ready_within, ready_counted, ready_where, fewer, was_ready, answers, settled_none, settled_same, settled_first, first_is}
 use Rattle.ob_waits.proofs.Settled.{settled_replaced}
-
--- it makes no difference how often a wait may take effect, once that is often enough
-nothing_pending : (s : Scene) → pending_count s.waits ≤ 0 → IsSettled s.objects.bodies s.waits
-nothing_pending s few = search (arith, ready_counted)
 
 settled_fuel : (f g : ℕ) (s : Scene) → pending_count s.waits ≤ f → pending_count s.waits ≤ g
     → settled_within f s ≡ settled_within g s
 settled_fuel zero g s a b = search (arith, ready_counted, settled_none)
-settled_fuel (suc f) zero s a b = search (arith, nothing_pending, settled_none)
+settled_fuel (suc f) zero s a b = settled_none (suc f) s (search (arith, ready_counted))
 settled_fuel (suc f) (suc g) s a b =
-    let k = first_ready s.objects.bodies s.waits in
-    elim (cases_lt k (length s.waits)) [
-      | inl lt ↦ (let ready : is_ready s.objects.bodies (get_or s.waits k None) ≡ true =
-          search (arith, passes_at_first) in
-          let less = fewer s k lt ready in
-          settled_first f s k ready refl ∙ settled_fuel f g (effect s k) (omega arith)
-          (omega arith) ∙ sym (settled_first g s k ready refl))
-      | inr le ↦ settled_none (suc f) s (settled_at_end s le) ∙ sym (settled_none (suc g) s (settled_at_end s le))
-    ]
+    search (arith, passes_at_first, fewer, settled_fuel f g (effect s (first_ready s.objects.bodies s.waits)))
 
 -- the least number that is ready takes effect first
 settled_next : (s : Scene) (m : ℕ) → is_ready s.objects.bodies (get_or s.waits m None) ≡ true
@@ -33,8 +21,8 @@ settled_next s m ready below =
     let less = fewer s m (ready_within s m ready) ready in
     let few = count_by-le-length is_pending s.waits in
     let few' = count_by-le-length is_pending (effect s m).waits in
-    sym (search (arith, first_is, settled_first))
-    ∙ settled_fuel (suc (length (effect s m).waits)) (length s.waits) s (omega arith) few
+    let same = settled_fuel (suc (length (effect s m).waits)) (length s.waits) s in
+    search (arith, first_is, settled_first, few', same)
 
 -- a number takes effect, where it is ready: what is ready then was ready, and is above it
 pub record Steps (m : ℕ) (s after : Scene) : Type 0 where
@@ -59,21 +47,11 @@ pub record StepsOn (ns : List ℕ) (i : ℕ) (s after : Scene) : Type 0 where
 pub steps_on : (ns : List ℕ) (i : ℕ) (s : Scene) → i < length ns → IsRising ns → Covers (drop i ns) s
     → StepsOn ns i s (passed (get_or ns i 0 ∷ []) s)
 steps_on ns i s lt rising covers =
-    let m = get_or ns i 0 in
-    let rest = drop (i + 1) ns in
-    let now : Covers (m ∷ rest) s = search (arith, drop_more) in
-    let above : IsRising (m ∷ rest) = subst IsRising (drop_more ns i 0 lt) (rising_drop i ns rising) in
-    let step = steps m s (λ k ready. elim (now.each k ready) [
-      | inl same ↦ omega arith
-      | inr later ↦ (let lt = above.0 k later in omega arith)
-    ]) in
-    record {
-      same = step.same;
-      covers = record {
-        each = λ k ready. let l = step.later k ready in
-            elim (now.each k l.0) [ inl same ↦ absurd (let lt = l.1 in omega arith) | inr later ↦ later ];
-      };
-    }
+    let now : Covers (get_or ns i 0 ∷ drop (i + 1) ns) s = search (arith, drop_more) in
+    let above : IsRising (get_or ns i 0 ∷ drop (i + 1) ns) = subst IsRising (drop_more ns i 0 lt)
+    (rising_drop i ns rising) in
+    let step = steps (get_or ns i 0) s (λ k ready. grind (arith, now.each k, above.0 k)) in
+    search (arith, now.each, step.later)
 
 pub covered_all : (ns : List ℕ) (i : ℕ) (s : Scene) → length ns ≤ i → Covers (drop i ns) s → settled s ≡ s
 covered_all ns i s past covers = search (arith, drop_all, settled_same)
@@ -106,8 +84,8 @@ pub covers_slot : (objects : CountedBodies) (slot : ℕ) (ws : List (Option Wait
     → IsReadyAt slot objects.bodies ws → AreIndexed ws order index
     → Covers (numbers_of index slot) (record { objects = objects; waits = ws })
 covers_slot objects slot ws order index at a = record {
-  each =
-      λ n ready. (a.index_all slot).each n (names_changed (λ k. eqb k slot) objects.bodies ws at n ready);
+  each = λ n ready. (a.index_all slot).each n
+      (names_changed (λ k. eqb k slot) objects.bodies ws at n ready);
 }
 
 -- an effect signals nothing, and what it answers isn't ready
@@ -145,15 +123,7 @@ pub before_first : (given : Option ℕ) (slot place thread : ℕ) (bodies : List
     → IsOnlyIn given thread bodies ids
     → place ≤ first_signaled thread bodies ids
 before_first given slot place thread bodies ids is most others only =
-    let k = first_signaled thread bodies ids in
-    elim (cases_lt k place) [
-      | inl lt ↦
-          (let yes : is_signaled thread bodies (get_or ids k nowhere) ≡ true =
-          search (arith, passes_at_first) in
-          let none = only.others slot k is (omega arith) (others k lt) in
-          absurd (cc (yes, none)))
-      | inr le ↦ le
-    ]
+    let k = first_signaled thread bodies ids in grind (arith, only.others slot k, others k, passes_at_first)
 
 -- an object of a pending wait for any that is signaled is in the slot that waits are ready by
 pub only_in : (slot : Option ℕ) (bodies : List (Option Body)) (ws : List (Option Wait)) (n : ℕ) (w : Wait) (mode : Mode)

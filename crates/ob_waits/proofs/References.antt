@@ -36,7 +36,4 @@ settled_counts scene = settled_by_effects Counts (λ s. record { each = λ k eno
 
 -- and where it counts them, it still does
 pub settled_has_blocks : (scene : Scene) → HasBlocks scene → HasBlocks (settled scene)
-settled_has_blocks scene has = record {
-  each = λ k. let at = has.each k in
-      let c = (settled_counts scene).each k (omega arith) in omega arith;
-}
+settled_has_blocks scene has = record { each = λ k. omega (arith, has.each k, (settled_counts scene).each k) }

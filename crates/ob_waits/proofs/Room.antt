@@ -1,5 +1,5 @@
 -- The room that settling asks of the pending waits, while waits come and go and bodies change.
-use Rattle.ob_waits.proofs.Cited.{at_place, ◌≡◌, ℕ, ◌<◌, ◌≤◌, List, [], ◌∷◌, ◌++◌, length, Option, Some, None, sym, subst, arith, get_or, set, Bool, true, false, map, get_or-map, get_or-set_other, Body, Id, Mode, Wait, slot_room, HasRoom, WaitHasRoom, WaitsHaveRoom, new_wait, nowhere, ids_of, unless_of, is_waits_of, number_of, bodies_after, answered, slot_blocks}
+use Rattle.ob_waits.proofs.Cited.{at_place, ◌≡◌, ℕ, ◌≤◌, List, [], ◌∷◌, ◌++◌, Option, Some, None, arith, get_or, set, true, map, get_or-map, Body, Id, Mode, Wait, slot_room, HasRoom, WaitHasRoom, WaitsHaveRoom, new_wait, unless_of, number_of, bodies_after, answered, slot_blocks}
 use Rattle.ob_waits.proofs.Settling.{room_after}
 use Rattle.ob_waits.proofs.Keeping.{room_other}
 use Rattle.ob_waits.proofs.TrackedLaws.{no_number}
@@ -26,22 +26,13 @@ room_answered limit bodies ws n code r = search (arith, room_replaced)
 
 pub room_dropped : (limit : ℕ) (bodies : List (Option Body)) (ws : List (Option Wait)) (t : ℕ)
     → WaitsHaveRoom limit bodies ws → WaitsHaveRoom limit bodies (map (unless_of t) ws)
-room_dropped limit bodies ws t r = record {
-  each = λ n. subst (WaitHasRoom limit bodies) (sym (get_or-map (unless_of t) ws n None))
-      (search arith);
-}
-  where
-    by : (w : Option Wait) (b : Bool) → is_waits_of t w ≡ b → WaitHasRoom limit bodies w
-        → WaitHasRoom limit bodies (unless_of t w)
-    by w true is room = rw is tt
-    by w false is room = rw is room
+room_dropped limit bodies ws t r = record { each = λ n. grind (arith, get_or-map (unless_of t) ws n None, r.each n) }
 
 -- a thread that has no wait takes something at once
 pub room_now : (limit : ℕ) (mode : Mode) (t : ℕ) (bodies : List (Option Body)) (ids : List Id) (ws : List (Option Wait))
     → number_of t ws ≡ None → WaitsHaveRoom limit bodies ws → WaitsHaveRoom limit (bodies_after mode t bodies ids) ws
 room_now limit mode t bodies ids ws none r = record {
-  each =
-      λ n. room_other limit t bodies (bodies_after mode t bodies ids) (get_or ws n None)
+  each = λ n. room_other limit t bodies _ (get_or ws n None)
       (room_after limit mode t bodies ids) (no_number t ws n none) (r.each n);
 }
 
@@ -61,14 +52,9 @@ room_set limit bodies ws k x keeps r = grind (arith, at_place)
 pub room_unnamed : (limit : ℕ) (bodies : List (Option Body)) (ws : List (Option Wait)) (k : ℕ) (x : Option Body)
     → slot_blocks k ws ≡ 0 → WaitsHaveRoom limit bodies ws → WaitsHaveRoom limit (set bodies k x) ws
 room_unnamed limit bodies ws k x unnamed r = record {
-  each =
-      λ n. by (get_or ws n None) (unnamed_ids k n ws unnamed) (r.each n);
+  each = λ n. grind
+      (arith, at_place, unnamed_ids k n ws unnamed, r.each n);
 }
-  where
-    by : (w : Option Wait) → ((i : ℕ) → i < length (ids_of w) → (get_or (ids_of w) i nowhere).slot ≡ k → ⊥)
-        → WaitHasRoom limit bodies w → WaitHasRoom limit (set bodies k x) w
-    by None other room = tt
-    by (Some w) other room = search (arith, get_or-set_other)
 
 pub rooms_at_more : (limit more : ℕ) (bodies : List (Option Body)) (ws : List (Option Wait)) → limit ≤ more
     → WaitsHaveRoom limit bodies ws → WaitsHaveRoom more bodies ws

@@ -12,20 +12,16 @@ module _ (before after : CountedBodies) (ws ws' : List (Option Wait))
 
   pub kept_after : {limit clock : ℕ} {r r' : PendingIndex} {dues : List (Option ℕ)} → ThinsIndex ws' r r'
       → IsTracked limit ws r × AreTimely clock ws dues → IsTracked limit ws' r' × AreTimely clock ws' dues
-  kept_after {limit = limit} {clock = clock} {r = r} {r' = r'} {dues = dues} leaves k =
-      let fade : Fade ws ws' = subst (λ (s : Scene). Fade ws s.waits) (sym value) (settled_fades first) in (
-        search (arith, tracked_faded, tracked_left),
-        search arith,
-      )
+  kept_after leaves k = let fade : Fade ws ws' = subst (λ (s : Scene). Fade ws s.waits) (sym value)
+      (settled_fades first) in (search (arith, tracked_faded, tracked_left), search arith)
 
   pub settled_after : IsSettled after.bodies ws'
-  settled_after = subst (λ (s : Scene). IsSettled s.objects.bodies s.waits) (sym value) (settled_is_settled first)
+  settled_after = search (arith, settled_is_settled first)
 
   pub room_settled : {seen : List (Option Wait)} (limit : ℕ) → WaitsInvariant ws → ws ≡ seen
       → WaitsHaveRoom limit before.bodies seen
       → WaitsHaveRoom limit after.bodies ws'
-  room_settled limit kept same room = subst (λ (s : Scene). WaitsHaveRoom limit s.objects.bodies s.waits) (sym value)
-      (settled_fits limit first (search arith)).room
+  room_settled limit kept same room = search (arith, settled_fits limit first)
 
   pub value_seen : {seen : List (Option Wait)} → ws ≡ seen → ◌≡◌ {A = Scene} (record { objects = after; waits = ws' })
       (settled (record { objects = before; waits = seen }))

@@ -1,5 +1,5 @@
 -- A settled state stays settled while no body changes and no wait that is ready comes.
-use Rattle.ob_waits.proofs.Cited.{at_place, ◌≡◌, ℕ, List, [], ◌∷◌, ◌++◌, Option, Some, None, refl, ap, ◌∙◌, arith, get_or, set, Bool, true, false, map, get_or-map, Body, Id, Mode, Wait, IsSettled, new_wait, is_ready, list_ready, answered, unless_of, is_waits_of, bodies_after, slot_blocks}
+use Rattle.ob_waits.proofs.Cited.{at_place, ◌≡◌, ℕ, List, [], ◌∷◌, ◌++◌, Option, Some, None, refl, arith, get_or, set, false, map, get_or-map, Body, Id, Mode, Wait, IsSettled, new_wait, is_ready, list_ready, answered, unless_of, bodies_after, slot_blocks}
 use Rattle.ob_waits.proofs.Settling.{IsLess, less_after, ready_less}
 use Rattle.ob_waits.proofs.Apart.{ready_named}
 use Rattle.ob_waits.proofs.Counted.{named_counts}
@@ -40,12 +40,4 @@ settled_answered bodies ws n code s = search (arith, settled_replaced)
 
 pub settled_dropped : (bodies : List (Option Body)) (ws : List (Option Wait)) (t : ℕ) → IsSettled bodies ws
     → IsSettled bodies (map (unless_of t) ws)
-settled_dropped bodies ws t s = record {
-  each = λ n. ap (is_ready bodies) (get_or-map (unless_of t) ws n None)
-      ∙ by (get_or ws n None) (is_waits_of t (get_or ws n None)) refl (s.each n);
-}
-  where
-    by : (w : Option Wait) (b : Bool) → is_waits_of t w ≡ b → is_ready bodies w ≡ false
-        → is_ready bodies (unless_of t w) ≡ false
-    by w true is h = rw is refl
-    by w false is h = rw is h
+settled_dropped bodies ws t s = record { each = λ n. grind (arith, get_or-map (unless_of t) ws n None, s.each n) }

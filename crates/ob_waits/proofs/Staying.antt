@@ -41,9 +41,8 @@ pub record Stay (scene after : Scene) : Type 0 where
 
 stay_of : (scene : Scene) (n : ℕ) (w : Wait) (st : State) → get_or scene.waits n None ≡ Some w
     → AllStay scene.waits scene.objects.bodies (effect_of scene n w st).objects.bodies
-stay_of scene n w (Pending mode ids) own = let ws = scene.waits in
-    slots-satisfied (Stays ws) (stays_same ws) (stays_on ws) w.thread (stays_taken ws w.thread (n, ap thread_of own))
-    (stays_none ws) mode ids scene.objects
+stay_of scene n w (Pending mode ids) own =
+    search (arith, slots-satisfied (Stays scene.waits), stays_same, stays_on, stays_taken, stays_none, ap thread_of own)
 stay_of scene n w (Answered code) own = search arith
 
 stay_at : (scene : Scene) (n : ℕ) (w : Option Wait) → get_or scene.waits n None ≡ w
@@ -52,17 +51,11 @@ stay_at scene n None own = search arith
 stay_at scene n (Some w) own = stay_of scene n w w.state own
 
 stay_both : (a b c : Scene) → Stay a b → Stay b c → Stay a c
-stay_both a b c x y = record {
-  fade = search (arith, fade_both);
-  bodies = search arith;
-}
+stay_both a b c x y = record { fade = search (arith, fade_both); bodies = search arith }
 
 -- The theorem.
 pub settled_stays : (scene : Scene) → Stay scene (settled scene)
-settled_stays scene = settled_by_effects Stay
-    (λ s. search arith)
-    stay_both
-    (search (arith, stay_at, effect_fades)) scene
+settled_stays scene = settled_by_effects Stay (search arith) stay_both (search (arith, stay_at, effect_fades)) scene
 
 pub settled_thread : (scene : Scene) (n : ℕ) → thread_of (get_or (settled scene).waits n None)
     ≡ thread_of (get_or scene.waits n None)

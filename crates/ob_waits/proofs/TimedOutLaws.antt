@@ -1,10 +1,7 @@
 -- Waits whose time is up are answered: one before the others is no other state than all at once.
-use Rattle.ob_waits.proofs.Cited.{◌≡◌, ℕ, ◌<◌, ◌≤◌, List, [], ◌∷◌, Option, Some, None, refl, ap, ◌∙◌, arith, get_or, set, map, Bool, true, false, cond, count_by, sum_by, get_or-map, length-map, get_or_past, ext_get_or, sum_by-set, sum_by-cons, Id, Body, Wait, is_overdue, timed_out, ended, slot_ended, CountedBodies, IsSettled, answered, blocks_among, is_ready, slot_blocks}
+use Rattle.ob_waits.proofs.Cited.{◌≡◌, ℕ, ◌<◌, ◌≤◌, List, [], ◌∷◌, Option, None, arith, get_or, set, map, true, false, count_by, sum_by, get_or-map, length-map, get_or_past, ext_get_or, sum_by-set, sum_by-cons, Id, Body, Wait, is_overdue, timed_out, ended, slot_ended, CountedBodies, IsSettled, answered, blocks_among, slot_blocks}
 use Rattle.std.proofs.Math.Seq.{map-set_same}
 use Rattle.ob_waits.proofs.EndsLast.{ended_at, is_ended, length-ended}
-
-lapsed_idle : (now : ℕ) (w : Option Wait) → is_overdue now w ≡ false → timed_out now w ≡ w
-lapsed_idle now w idle = search arith
 
 -- what is answered before the others is answered as with them
 pub lapsed_twice : (now : ℕ) (ws : List (Option Wait)) (n : ℕ) → is_overdue now (get_or ws n None) ≡ true
@@ -14,8 +11,8 @@ lapsed_twice now ws n over = search (arith, map-set_same)
 -- where no time is up nothing is answered
 pub none_lapsed : (now : ℕ) (ws : List (Option Wait)) → ((n : ℕ) → is_overdue now (get_or ws n None) ≡ false)
     → map (timed_out now) ws ≡ ws
-none_lapsed now ws none = ext_get_or None (map (timed_out now) ws) ws (length-map ws (timed_out now))
-    (λ n lt. get_or-map (timed_out now) ws n None ∙ lapsed_idle now (get_or ws n None) (none n))
+none_lapsed now ws none = ext_get_or None _ _ (length-map ws (timed_out now))
+    (λ n lt. grind (arith, get_or-map (timed_out now) ws n None, none n))
 
 -- with each that is answered one fewer is overdue
 pub fewer_overdue : (now : ℕ) (ws : List (Option Wait)) (n : ℕ) → is_overdue now (get_or ws n None) ≡ true
@@ -38,17 +35,9 @@ blocks_lapsed id now ws = search (arith, sum_lapsed)
 pub settled_lapsed : (bodies : List (Option Body)) (now : ℕ) (ws : List (Option Wait)) → IsSettled bodies ws
     → IsSettled bodies (map (timed_out now) ws)
 settled_lapsed bodies now ws settled = record {
-  each = λ n. ap (is_ready bodies) (get_or-map (timed_out now) ws n None)
-      ∙ by (get_or ws n None) (is_overdue now (get_or ws n None)) (settled.each n);
+  each = λ n. grind
+      (arith, get_or-map (timed_out now) ws n None, settled.each n);
 }
-  where
-    unready : (w : Option Wait) → is_ready bodies (answered w 258) ≡ false
-    unready None = refl
-    unready (Some w) = refl
-
-    by : (w : Option Wait) (b : Bool) → is_ready bodies w ≡ false → is_ready bodies (cond b (answered w 258) w) ≡ false
-    by w true h = unready w
-    by w false h = h
 
 -- what ended where there was more to refer to it ends once more where there is less
 slot_twice : (handles blocks more : ℕ) (x : Option Body) → blocks ≤ more
@@ -58,8 +47,6 @@ slot_twice handles blocks more x le = search arith
 pub ended_twice : (o : CountedBodies) (more : List ℕ) → ((k : ℕ) → get_or o.blocks k 0 ≤ get_or more k 0)
     → ended (record o { bodies = (ended (record o { blocks = more })).bodies }) ≡ ended o
 ended_twice o more le =
-    let first : CountedBodies = record o { blocks = more } in
-    let o' : CountedBodies = record o { bodies = (ended first).bodies } in
-    let is : (ended o).bodies ≡ (ended o').bodies =
+    let is : (ended o).bodies ≡ (ended (record o { bodies = (ended (record o { blocks = more })).bodies })).bodies =
     search (arith, slot_twice, ended_at, is_ended, length-ended) in
     search arith
