@@ -1,6 +1,6 @@
 -- The answered waits are known in order while waits come, are answered and go.
-use Rattle.ob_waits.proofs.Cited.{at_place, ◌≡◌, ◌≢◌, ◌⊎◌, ℕ, ◌+◌, ◌<◌, ◌≤◌, List, [], ◌∷◌, ◌++◌, ◌-◌, length, Option, Some, None, refl, ap, ◌∙◌, sym, subst, arith, get_or, set, true, false, inl, inr, IfSome, length-set, get_or_past, get_or_push, get_or-set_same, get_or-set_other, cases_eq, IsAtMost, IsLeastFrom, Wait, is_answered, AnsweredNumbers, IsAnswered, AreToldBut, AreTold, ThinsAnswered, thread_of, IsRising, Within, is_pending}
-use Rattle.ob_waits.proofs.AddedLaws.{by_number}
+use Rattle.std.proofs.lemmas.Bool.Decides.{nat_tests}
+use Rattle.ob_waits.proofs.Cited.{at_place, ◌≡◌, ◌≢◌, ◌⊎◌, ℕ, ◌+◌, ◌<◌, ◌≤◌, List, [], ◌∷◌, ◌++◌, ◌-◌, length, Option, Some, None, refl, ◌∙◌, sym, subst, arith, get_or, set, true, false, IfSome, get_or_past, get_or-set_same, get_or-set_other, IsAtMost, IsLeastFrom, Wait, is_answered, AnsweredNumbers, IsAnswered, AreToldBut, AreTold, ThinsAnswered, thread_of, IsRising, Within, is_pending}
 use Rattle.ob_waits.proofs.NumberLaws.{last_most, within_left, within_last}
 
 -- the same waits, and more room
@@ -21,35 +21,16 @@ pub told_came : (ws : List (Option Wait)) (w : Wait) (u : AnsweredNumbers) → w
     → AreToldBut (Some (length ws)) (ws ++ Some w ∷ []) u
 told_came ws w u place told = record {
   rising = told.rising;
-  out_of_order = λ t n h.
-      let old = told.out_of_order t n h in
-      by_number ws w (λ m x. m ≡ n → IsAnswered t x)
-      (λ m lt e. subst (λ i. IsAnswered t (get_or ws i None)) (sym e) old)
-      (λ e. absurd (let none = get_or_past ws n None (omega arith) in
-      let o : thread_of (get_or ws n None) ≡ Some t = old.0 in let z = ap thread_of none in cc (z, o)))
-      (λ m past e. absurd (let none = get_or_past ws n None (omega arith) in
-      let o : thread_of (get_or ws n None) ≡ Some t = old.0 in let z = ap thread_of none in cc (z, o))) n refl;
-  each = λ t n. by_number ws w (λ m x. Some m ≢ Some (length ws) → IsAnswered t x
-      → Within m u.queue ⊎ (get_or u.out_of_order t None ≡ Some m)) (search arith)
-      (λ apart own. absurd (apart refl)) (λ m past apart own. absurd (let o = own.0 in cc (o))) n;
-  placed = λ t n own. elim (ours n t own) [
-    | inl a ↦ told.placed t n a
-    | inr a ↦ let e = a.1 in
-        omega arith
-  ];
+  out_of_order = λ t n h. grind (arith, at_place, told.out_of_order t n);
+  each = λ t n. grind (arith, at_place, told.each t n);
+  placed = λ t n. grind (arith, at_place, told.placed t n);
 }
-  where
-    ours : (n t : ℕ) → thread_of (get_or (ws ++ Some w ∷ []) n None) ≡ Some t
-        → (thread_of (get_or ws n None) ≡ Some t) ⊎ ((n ≡ length ws) × (t ≡ w.thread))
-    ours n t = grind (arith, at_place)
 
 -- one that is pending hasn't
 pub told_added : (ws : List (Option Wait)) (w : Wait) (u : AnsweredNumbers) → is_pending (Some w) ≡ true
     → w.thread < length u.out_of_order → AreTold ws u → AreTold (ws ++ Some w ∷ []) u
-told_added ws w u pending place told = search (arith, get_or_push, came.each, came.out_of_order, came.placed, came.rising)
-  where
-    came : AreToldBut (Some (length ws)) (ws ++ Some w ∷ []) u
-    came = told_came ws w u place told
+told_added ws w u pending place told = let came = told_came ws w u place told in grind
+    (arith, at_place, came.each, came.out_of_order, came.placed)
 
 -- and its number is put at the end of the list, or at its thread
 pub told_fresh : (ws : List (Option Wait)) (n : ℕ) (u u' : AnsweredNumbers) → u'.queue ≡ u.queue ++ n ∷ []
@@ -71,28 +52,18 @@ module _ (ws : List (Option Wait)) (n t : ℕ) (own : thread_of (get_or ws n Non
       → AreTold (set ws n None) u
   told_gone u free told = record {
     rising = told.rising;
-    out_of_order = λ s m h. let old = told.out_of_order s m h in subst (IsAnswered s) (sym (get_or-set_other ws n m None None (λ same.
-        let e : Some t ≡ Some s = search arith in
-        let thread : t ≡ s = cc (e) in free (ap (λ i. get_or u.out_of_order i None) thread ∙ h ∙ ap Some same)))) old;
-    each = search (arith, get_or-set_other, get_or-set_same, get_or_past);
-    placed = λ s m h. told.placed s m (was m s h);
+    out_of_order = λ s m h. grind (arith, at_place, told.out_of_order s m);
+    each = λ s m. grind (arith, at_place, told.each s m);
+    placed = λ s m. grind (arith, at_place, told.placed s m);
   }
 
   pub told_cleared : (u : AnsweredNumbers) → get_or u.out_of_order t None ≡ Some n → AreTold ws u
       → AreTold (set ws n None) (record u { out_of_order = set u.out_of_order t None })
   told_cleared u at told = record {
     rising = told.rising;
-    out_of_order = λ s m h. elim (cases_eq s t) [
-      | inl same ↦ search (arith, get_or-set_same)
-      | inr other ↦
-          let here : get_or u.out_of_order s None ≡ Some m = search (arith, get_or-set_other) in
-          let old = told.out_of_order s m here in
-          subst (IsAnswered s) (sym (get_or-set_other ws n m None None (λ same. let e : Some t ≡ Some s =
-          search arith in
-          other (let thread : s ≡ t = cc (e) in thread)))) old
-    ];
-    each = search (arith, get_or-set_other, get_or-set_same, get_or_past);
-    placed = search (arith, get_or-set_other, get_or-set_same, get_or_past, length-set);
+    out_of_order = λ s m h. grind (arith, nat_tests, at_place, told.out_of_order s m);
+    each = λ s m. grind (arith, nat_tests, at_place, told.each s m);
+    placed = λ s m. grind (arith, nat_tests, at_place, told.placed s m);
   }
 
 -- numbers of waits that are over are dropped
@@ -123,22 +94,14 @@ pub least_told : (ws : List (Option Wait)) (u : AnsweredNumbers) (after : ℕ) (
 least_told ws u after first second result told passes above least passes' above' least' either lesser lesser' = record {
   passes = search arith;
   above = search arith;
-  least = λ n le own.
-      let thread = answered_thread (get_or ws n None) own in
-      elim (told.each thread.0 n (λ e. cc (e)) thread.1) [
-        | inl w ↦ search arith
-        | inr at ↦ search arith
-      ];
+  least = λ n le own. let thread = answered_thread (get_or ws n None) own in grind (arith, told.each thread.0 n);
 }
 
 -- what is above the last of numbers that rise is above them all
 pub above_all : (ns : List ℕ) (m : ℕ) → (0 < length ns → get_or ns (length ns - 1) 0 < m) → IsRising ns → (k : ℕ)
     → Within k ns → k < m
 above_all [] m last r k w = absurd w
-above_all (x ∷ ns) m last r k w =
-    let end : length (x ∷ ns) - 1 ≡ length ns = omega arith in
-    let lt : get_or (x ∷ ns) (length ns) 0 < m = search arith in
-    omega (arith, last_most k x ns r w)
+above_all (x ∷ ns) m last r k w = grind (arith, last_most k x ns r w)
 
 -- the first of numbers that rise is the least of them
 pub first_least : (ns : List ℕ) (d : ℕ) → IsRising ns → (k : ℕ) → Within k ns → get_or ns 0 d ≤ k

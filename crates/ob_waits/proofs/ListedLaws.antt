@@ -1,5 +1,7 @@
 -- What a list that a function gives has at each number, and how it changes with the function.
-use Rattle.ob_waits.proofs.Cited.{◌≡◌, ℕ, zero, suc, ◌<◌, [], ◌∷◌, ◌++◌, length, Option, None, refl, arith, get_or, set, cond, inl, inr, eqb, length-set, length_push, set_past, get_or_past, get_or_push, get_or_append_left, get_or-set_same, get_or-set_other, ext_get_or, cases_lt, cond-false, cond-true, eq-eqb, ne_eqb, IsSparse}
+use Rattle.ob_codec.proofs.AtPlace.{at_place}
+use Rattle.std.proofs.lemmas.Bool.Decides.{nat_tests}
+use Rattle.ob_waits.proofs.Cited.{◌≡◌, ℕ, zero, suc, ◌<◌, [], ◌∷◌, ◌++◌, length, Option, None, refl, arith, get_or, set, cond, eqb, length-set, length_push, set_past, get_or_past, get_or-set_same, get_or-set_other, ext_get_or, cond-false, cond-true, eq-eqb, ne_eqb, IsSparse}
 use Rattle.ob_waits.specs.Listed.{listed}
 
 module _ {A : Type 0} where
@@ -11,10 +13,7 @@ module _ {A : Type 0} where
   get_or-listed : (n : ℕ) (f : ℕ → A) (k : ℕ) (d : A) → k < n → get_or (listed n f) k d ≡ f k
   unfolding listed
   get_or-listed zero f k d lt = absurd (omega arith)
-  get_or-listed (suc n) f k d lt = elim (cases_lt k n) [
-    | inl below ↦ search (arith, length_listed, get_or_append_left, get_or-listed n f k d below)
-    | inr past ↦ search (arith, length_listed, get_or_push)
-  ]
+  get_or-listed (suc n) f k d lt = grind (arith, nat_tests, at_place, length_listed n f, get_or-listed n f k d)
 
   listed_by : (n : ℕ) (f g : ℕ → A) → ((k : ℕ) → k < n → f k ≡ g k) → listed n f ≡ listed n g
   unfolding listed
@@ -29,8 +28,7 @@ module _ {A : Type 0} where
   -- one number's value changed
   pub listed_changed : (n : ℕ) (f g : ℕ → Option A) (k : ℕ) (x : Option A) → k < suc n → g k ≡ x
       → ((i : ℕ) → (i ≡ k → ⊥) → g i ≡ f i) → listed (suc n) g ≡ set (listed (suc n) f) k x
-  listed_changed n f g k x lt here others = ext_get_or None (listed (suc n) g) (set (listed (suc n) f) k x)
-      (search (arith, length_listed, length-set))
+  listed_changed n f g k x lt here others = ext_get_or None _ _ (search (arith, length_listed, length-set))
       (search (arith, length_listed, get_or-listed, get_or-set_other, get_or-set_same))
 
   -- one more number

@@ -1,5 +1,6 @@
 -- A number put at the end of a list, and a list thinned.
-use Rattle.ob_waits.proofs.Cited.{◌≡◌, ℕ, zero, suc, ◌+◌, ◌-◌, ◌<◌, ◌≤◌, List, [], ◌∷◌, ◌++◌, length, Option, None, refl, ap, ◌∙◌, sym, arith, get_or, set, Bool, true, false, inl, inr, cond, take, drop, ◌⊎◌, filter, drop-append-le, drop-set, drop-take, drop_more, get_or_default, get_or-set_other, length-drop, length-set, length-take, take_more, take_more_set, cases_lt, Wait, Within, IsRising, IsOrdered, KeepsPending, ends_with, has_pending, Thins, is_pending}
+use Rattle.ob_waits.proofs.Cited.{◌≡◌, ℕ, zero, suc, ◌+◌, ◌-◌, ◌<◌, ◌≤◌, List, [], ◌∷◌, ◌++◌, length, Option, None, refl, ap, ◌∙◌, arith, get_or, set, Bool, true, false, inl, inr, cond, take, drop, ◌⊎◌, filter, drop-append-le, drop-set, drop-take, drop_more, get_or_default, get_or-set_other, length-drop, length-set, length-take, take_more, take_more_set, Wait, Within, IsRising, IsOrdered, KeepsPending, ends_with, has_pending, Thins, is_pending}
+use Rattle.std.proofs.lemmas.Bool.{cases_Bool}
 use Rattle.std.proofs.Math.Seq.{take-length}
 
 pub within_left : (n m : ℕ) (ns : List ℕ) → Within n ns → Within n (ns ++ m ∷ [])
@@ -12,19 +13,14 @@ within_last m (x ∷ ns) = inr (within_last m ns)
 
 pub within_either : (n m : ℕ) (ns : List ℕ) → Within n (ns ++ m ∷ []) → Within n ns ⊎ (n ≡ m)
 within_either n m [] i = search arith
-within_either n m (x ∷ ns) i = elim i [
-  | inl same ↦ inl (inl same)
-  | inr later ↦ elim (within_either n m ns later) [ inl old ↦ inl (inr old) | inr last ↦ inr last ]
-]
+within_either n m (x ∷ ns) i = search (arith, within_either n m ns)
 
 pub rising_push : (m : ℕ) (ns : List ℕ) → ((k : ℕ) → Within k ns → k < m) → IsRising ns → IsRising (ns ++ m ∷ [])
 rising_push m [] below r = ((λ k later. absurd later), tt)
 rising_push m (x ∷ ns) below r = (
-  (λ k later. elim (within_either k m ns later) [
-    | inl old ↦ r.0 k old
-    | inr last ↦ omega (arith, below x (inl refl))
-  ]),
-  rising_push m ns (λ k i. below k (inr i)) r.1,
+  (λ k later. grind (arith, within_either k m ns, r.0 k, below x)),
+  rising_push m ns
+      (λ k i. below k (inr i)) r.1,
 )
 
 -- the number at an index is there
@@ -36,18 +32,12 @@ within_at (x ∷ ns) (suc i) lt = inr (within_at ns i (omega arith))
 -- no number of a list is above its last
 pub last_most : (k x : ℕ) (ns : List ℕ) → IsRising (x ∷ ns) → Within k (x ∷ ns) → k ≤ get_or (x ∷ ns) (length ns) 0
 last_most k x [] r i = search arith
-last_most k x (y ∷ ns) r i = elim i [
-  | inl same ↦ omega (arith, r.0 y (inl refl), last_most y y ns r.1 (inl refl))
-  | inr later ↦ last_most k y ns r.1 later
-]
+last_most k x (y ∷ ns) r i = grind (arith, r.0 y, last_most y y ns r.1, last_most k y ns r.1)
 
 -- the numbers before the last are below it
 below_last : (k m : ℕ) (ns : List ℕ) → IsRising (ns ++ m ∷ []) → Within k ns → k < m
 below_last k m [] r i = absurd i
-below_last k m (x ∷ ns) r i = elim i [
-  | inl same ↦ (let lt = r.0 m (within_last m ns) in omega arith)
-  | inr later ↦ below_last k m ns r.1 later
-]
+below_last k m (x ∷ ns) r i = grind (arith, r.0 m (within_last m ns), below_last k m ns r.1)
 
 rising_front : (m : ℕ) (ns : List ℕ) → IsRising (ns ++ m ∷ []) → IsRising ns
 rising_front m [] r = tt
@@ -59,12 +49,8 @@ ordered_appended m ns numbers below = search (arith, within_either, rising_push)
 
 -- a list whose last number is another, not below it
 last_replaced : (l m : ℕ) (ns : List ℕ) → IsOrdered m (ns ++ l ∷ []) → IsOrdered m (ns ++ m ∷ [])
-last_replaced l m ns o =
-    let most : l ≤ m = o.below l (within_last l ns) in
-    ordered_appended m ns (record {
-      rising = rising_front l ns o.rising;
-      below = λ k i. o.below k (within_left k l ns i);
-    }) (λ k i. let lt = below_last k l ns o.rising i in omega arith)
+last_replaced l m ns o = ordered_appended m ns (search (arith, rising_front, within_left, o.below, o.rising))
+    (λ k i. omega (arith, o.below l (within_last l ns), below_last k l ns o.rising i))
 
 -- a list of numbers is what is before its last one, and that one; where another stands in its place, only that differs
 split_last : (items : List ℕ) → 0 < length items
@@ -73,11 +59,7 @@ split_last items some = search (arith, take-length, take_more)
 
 split_set : (m : ℕ) (items : List ℕ) → 0 < length items
     → set items (length items - 1) m ≡ take (length items - 1) items ++ m ∷ []
-split_set m items some =
-    let long : length (set items (length items - 1) m) ≡ length items = length-set items (length items - 1) m in
-    let all : length items - 1 + 1 ≡ length items = omega arith in
-    sym (search (arith, take-length)) ∙ ap (λ k. take k (set items (length items - 1) m)) (long ∙ sym all)
-    ∙ take_more_set items (length items - 1) m (omega arith)
+split_set m items some = search (arith, length-set, take-length, take_more_set items (length items - 1) m)
 
 -- another number stands in the place of the last one
 pub record IsReplaced (l m : ℕ) (old new : List ℕ) : Type 0 where
@@ -89,20 +71,15 @@ pub replaced : {l m start end len : ℕ} (items : List ℕ) → (len ≡ length 
     → (start ≡ end → ⊥) → l ≡ get_or items (end - 1) l
     → IsReplaced l m (drop start items) (drop start (set items (end - 1) m))
 replaced {l = l} {m = m} {start = start} {end = end} items sizes in_order unequal read =
-    let front = take (length items - 1) items in
-    let at : end - 1 ≡ length items - 1 = let a = sizes.0 in let b = sizes.1 in omega arith in
-    let some : start < length items = elim (cases_lt start (length items)) [
-      | inl lt ↦ lt
-      | inr le ↦ absurd (unequal (let a = sizes.0 in let b = sizes.1 in omega arith))
-    ] in
-    let within : start ≤ length front = (let taken = length-take (length items - 1) items in omega arith) in
+    let at : end - 1 ≡ length items - 1 = grind arith in
+    let some : start < length items = grind arith in
+    let within : start ≤ length (take (length items - 1) items) = omega (arith, length-take (length items - 1) items) in
     let last : get_or items (length items - 1) 0 ≡ l = search (arith, get_or_default) in
     record {
-      front = drop start front;
-      was = ap (drop start) (split_last items (omega arith)) ∙ drop-append-le start front _ within
-          ∙ ap (λ n. drop start front ++ n ∷ []) last;
-      is = ap (λ i. drop start (set items i m)) at ∙ ap (drop start) (split_set m items (omega arith))
-          ∙ drop-append-le start front _ within;
+      front = drop start (take (length items - 1) items);
+      was = ap (drop start) (split_last items (omega arith)) ∙ search (arith, drop-append-le);
+      is = ap (λ i. drop start (set items i m)) at ∙ ap (drop start) (split_set m items (omega arith)) ∙
+          drop-append-le start _ _ within;
     }
 
 module _ {l m : ℕ} {old new : List ℕ} (r : IsReplaced l m old new) where
@@ -146,11 +123,10 @@ module _ (p : ℕ → Bool) where
   sifted_rising : (i : ℕ) (ns : List ℕ) → IsRising ns → IsRising (sifted i ns)
   sifted_rising zero ns r = r
   sifted_rising (suc i) [] r = r
-  sifted_rising (suc i) (x ∷ ns) r = by (p x) (sifted_rising i ns r.1)
-    where
-      by : (b : Bool) → IsRising (sifted i ns) → IsRising (cond b (x ∷ sifted i ns) (sifted i ns))
-      by true rest = ((λ k later. r.0 k (sifted_within k i ns later)), rest)
-      by false rest = rest
+  sifted_rising (suc i) (x ∷ ns) r = elim (cases_Bool (p x)) [
+    | inl is ↦ rw is ((λ k later. r.0 k (sifted_within k i ns later)), sifted_rising i ns r.1)
+    | inr is ↦ rw is (sifted_rising i ns r.1)
+  ]
 
 -- from the end of a part backwards: what passes, of the numbers from a place on, stands before the rest
 pub record IsSifted (p : ℕ → Bool) (xs : List ℕ) (end at to : ℕ) (ys : List ℕ) : Type 0 where
@@ -161,25 +137,20 @@ pub record IsSifted (p : ℕ → Bool) (xs : List ℕ) (end at to : ℕ) (ys : L
 module _ (p : ℕ → Bool) (xs : List ℕ) (end : ℕ) where
   pub sift_left : (j to : ℕ) (ys : List ℕ) → j < end → end ≤ length xs → p (get_or ys j 0) ≡ false
       → IsSifted p xs end (j + 1) to ys → IsSifted p xs end j to ys
-  sift_left j to ys lt le fails s =
-      let own : get_or ys j 0 ≡ get_or xs j 0 = s.same j (omega arith) in
-      record {
-        length_is = s.length_is;
-        same = search arith;
-        rest = search (arith, drop_more);
-      }
+  sift_left j to ys lt le fails s = record {
+    length_is = s.length_is;
+    same = search arith;
+    rest = search
+        (arith, drop_more, s.same j);
+  }
 
   pub sift_kept : (j to : ℕ) (ys : List ℕ) → j < end → end ≤ length xs → j < to → to ≤ end → p (get_or ys j 0) ≡ true
       → IsSifted p xs end (j + 1) to ys → IsSifted p xs end j (to - 1) (set ys (to - 1) (get_or ys j 0))
-  sift_kept j to ys lt le below within passes s =
-      let own : get_or ys j 0 ≡ get_or xs j 0 = s.same j (omega arith) in
-      let place : to - 1 < length ys = let e = s.length_is in omega arith in
-      let more : to - 1 + 1 ≡ to = omega arith in
-      record {
-        length_is = search (arith, length-set);
-        same = search (arith, get_or-set_other);
-        rest = search (arith, drop_more, drop-set);
-      }
+  sift_kept j to ys lt le below within passes s = record {
+    length_is = search (arith, length-set);
+    same = search (arith, get_or-set_other);
+    rest = search (arith, drop_more, drop-set, s.same j);
+  }
 
 pub thins_none : (waits : List (Option Wait)) (numbers : List ℕ) → Thins waits numbers numbers
 thins_none waits numbers = search arith
@@ -209,17 +180,10 @@ thins_last ws old new n is over = search (arith, within_left, within_either, ris
 pub last_left : (n start : ℕ) (items new : List ℕ) → new ≡ take (length items - 1) items
     → ends_with n (drop start items) ≡ true → (start ≤ length new) × (drop start items ≡ drop start new ++ n ∷ [])
 last_left n start items new is ends =
-    let ns = drop start items in
-    let some : 0 < length ns = grind arith in
-    let last : get_or ns (length ns - 1) 0 ≡ n = grind arith in
     let long = length-drop start items in
-    let front : drop start new ≡ take (length ns - 1) ns =
-    let at : length items - 1 ≡ start + (length ns - 1) = omega arith in
-    ap (drop start) (is ∙ ap (λ m. take m items) at) ∙ drop-take start (length ns - 1) items in
-    let all : length ns - 1 + 1 ≡ length ns = omega arith in (
-      (let taken = ap (λ (xs : List ℕ). length xs) is ∙ length-take (length items - 1) items in
-          omega arith),
-      sym (take-length ns) ∙ ap (λ m. take m ns) (sym all) ∙ take_more ns (length ns - 1) 0 (omega arith)
-          ∙ ap (λ m. take (length ns - 1) ns ++ m ∷ []) last
-          ∙ ap (λ (xs : List ℕ). xs ++ n ∷ []) (sym front),
+    let some : 0 < length (drop start items) = grind arith in
+    let last : get_or (drop start items) (length (drop start items) - 1) 0 ≡ n = grind arith in (
+      omega (arith, ap (length {A = ℕ}) is, length-take (length items - 1) items),
+      split_last (drop start items) some ∙
+          search (arith, drop-take start (length (drop start items) - 1) items),
     )

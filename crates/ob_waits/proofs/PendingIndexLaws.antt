@@ -1,19 +1,11 @@
 -- The roster stays right while lists are thinned and grow, and while waits come, are answered and go.
-use Rattle.ob_waits.proofs.Cited.{arith, ◌≡◌, ℕ, List, length, Option, Wait, IsOrdered, numbers_of, AreOrdered, KeepsPending, KeepsEach, Thins, ThinsEach, PendingIndex, AreIndexed, IsRight, ThinsIndex}
+use Rattle.ob_waits.proofs.Cited.{arith, ◌≡◌, ℕ, List, length, Option, Wait, IsOrdered, AreOrdered, KeepsPending, KeepsEach, Thins, ThinsEach, PendingIndex, AreIndexed, IsRight, ThinsIndex}
 use Rattle.ob_waits.proofs.NumberLaws.{ordered_thinned}
 
 lists_thinned : (waits : List (Option Wait)) (order order' : List ℕ) (index index' : List (List ℕ))
     → Thins waits order order' → ThinsEach waits index index' → AreIndexed waits order index
     → AreIndexed waits order' index'
-lists_thinned waits order order' index index' t ts a = record {
-  order_rises = search arith;
-  order_all = search arith;
-  index_rises = record {
-    each = λ s. ordered_thinned (length waits) waits (numbers_of index s) (numbers_of index' s)
-        (ts.each s) (a.index_rises.each s);
-  };
-  index_all = search arith;
-}
+lists_thinned waits order order' index index' t ts a = search (arith, ordered_thinned (length waits))
 
 pub right_left : (waits : List (Option Wait)) (old new : PendingIndex) → ThinsIndex waits old new → IsRight waits old
     → IsRight waits new

@@ -21,20 +21,13 @@ get_skipped last ws k = past_end ws (last + 1 - length ws) k
 
 pub listed_skipped : (given last : ℕ) (f : ℕ → Option Wait) → given ≤ last → IsSparse given f
     → listed (suc last) f ≡ skipped last (listed (suc given) f)
-listed_skipped given last f le s = ext_get_or None (listed (suc last) f) (skipped last (listed (suc given) f))
-    (search (arith, length-skipped, length_listed))
+listed_skipped given last f le s = ext_get_or None _ _ (search (arith, length-skipped, length_listed))
     (search (arith, get_skipped, value_at))
 
 pub by_thread_skipped : (given last : ℕ) (by_thread : _) (threads : ℕ → Option ℕ) → given ≤ last
     → AreByThread given by_thread threads → AreByThread last by_thread threads
 by_thread_skipped given last by_thread threads le s = record {
-  each = λ t held is. let old = s.each t held is in
-      record {
-        own = old.own;
-        above_zero = old.above_zero;
-        fits = let fits = old.fits in omega arith;
-        known = old.known;
-      };
+  each = λ t held is. let old = s.each t held is in search arith;
   is_there = s.is_there;
 }
 
@@ -58,7 +51,9 @@ module _ (last : ℕ) (ws : List (Option Wait)) where
   pub told_skipped : (u : AnsweredNumbers) → AreTold ws u → AreTold (skipped last ws) u
   told_skipped u told = record {
     rising = told.rising;
-    out_of_order = λ t n h. search (arith, get_skipped, told.out_of_order);
-    each = search (arith, get_skipped);
-    placed = search (arith, get_skipped);
+    out_of_order = λ t n. rw (get_skipped last ws n)
+        (told.out_of_order t n);
+    each = λ t n. rw (get_skipped last ws n) (told.each t n);
+    placed = λ t n. rw
+        (get_skipped last ws n) (told.placed t n);
   }

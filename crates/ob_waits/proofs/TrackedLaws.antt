@@ -1,5 +1,5 @@
 -- What the waits keep from call to call.
-use Rattle.ob_waits.proofs.Cited.{at_place, ◌≡◌, ℕ, ◌<◌, List, [], ◌∷◌, length, Option, Some, None, arith, get_or, set, true, position_or_len, get_or_past, position_or_len_is, fails_before_first, Wait, thread_of, is_code, is_pending, is_waits_of, number_of, answered, PendingIndex, AreIndexed, ThinsIndex, IsTracked}
+use Rattle.ob_waits.proofs.Cited.{at_place, ◌≡◌, ℕ, ◌<◌, List, [], ◌∷◌, length, Option, Some, None, arith, get_or, set, true, get_or_past, position_or_len_is, fails_before_first, Wait, thread_of, is_code, is_pending, is_waits_of, number_of, answered, PendingIndex, AreIndexed, ThinsIndex, IsTracked}
 use Rattle.std.proofs.lemmas.List.Quantifiers.{position-Some}
 use Rattle.ob_waits.proofs.Keeping.{Fade}
 use Rattle.ob_waits.proofs.PendingIndexLaws.{right_left}
@@ -11,9 +11,6 @@ tracked_none limit fits = search arith
 -- whose wait it is
 pub waits_thread : (t : ℕ) (w : Option Wait) → is_waits_of t w ≡ true → thread_of w ≡ Some t
 waits_thread = search arith
-
-pub thread_waits : (t : ℕ) (w : Option Wait) → thread_of w ≡ Some t → is_waits_of t w ≡ true
-thread_waits = search arith
 
 pub has_wait : (ws : List (Option Wait)) (n t : ℕ) → thread_of (get_or ws n None) ≡ Some t → n < length ws
 has_wait ws n t h = search (arith, get_or_past)
@@ -33,11 +30,7 @@ number_is ws t n own alone = search (arith, has_wait, position_or_len_is)
 
 pub number_none : (ws : List (Option Wait)) (t : ℕ) → ((m : ℕ) → thread_of (get_or ws m None) ≡ Some t → ⊥)
     → number_of t ws ≡ None
-number_none ws t none =
-    let first : position_or_len (is_waits_of t) ws ≡ length ws =
-    position_or_len_is (is_waits_of t) ws (length ws) None (omega arith)
-    (search arith) (λ l. absurd (omega arith)) in
-    search arith
+number_none ws t none = search (arith, position_or_len_is (is_waits_of t) ws (length ws))
 
 pub lists_faded : (ws ws' : List (Option Wait)) (order : List ℕ) (index : List (List ℕ)) → Fade ws ws'
     → AreIndexed ws order index → AreIndexed ws' order index
