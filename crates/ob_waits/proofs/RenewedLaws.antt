@@ -1,6 +1,6 @@
 -- What renewing waits keeps: their order, each count over them, the rules of waits, and each thread's wait; and how
 -- waits are copied one after another.
-use Rattle.ob_waits.proofs.Cited.{at_place, ◌≡◌, ℕ, zero, suc, ◌+◌, ◌-◌, ◌<◌, ◌≤◌, true, false, List, [], ◌∷◌, ◌++◌, length, take, Option, Some, None, refl, ap, ◌∙◌, sym, arith, get_or, eqb, list_any, is_some, sum_by, append-nil, get_or-take, length-take, take_all, count_by-le-length, length-filter, sum_by-cons, Id, Body, Wait, IsSettled, WaitHasRoom, WaitWaitable, WaitsHaveRoom, WaitsInvariant, thread_of, blocks_among, blocks_in, is_ready, number_of, renewed, slot_blocks, standing}
+use Rattle.ob_waits.proofs.Cited.{at_place, ◌≡◌, ℕ, zero, suc, ◌+◌, ◌-◌, ◌<◌, ◌≤◌, true, false, List, [], ◌∷◌, ◌++◌, length, take, Option, Some, None, refl, ap, arith, get_or, eqb, list_any, is_some, sum_by, append-nil, get_or-take, length-take, take_all, count_by-le-length, length-filter, sum_by-cons, Id, Body, Wait, IsSettled, WaitHasRoom, WaitWaitable, WaitsHaveRoom, WaitsInvariant, thread_of, blocks_among, blocks_in, is_ready, number_of, renewed, slot_blocks, standing}
 use Rattle.std.proofs.lemmas.Map.Steps.{length-le_from_distinct_below}
 use Rattle.ob_waits.specs.SpellingLaws.{distinct, threads_of}
 use Rattle.ob_waits.proofs.StandingLaws.{ones}
@@ -9,8 +9,7 @@ use Rattle.ob_waits.proofs.TrackedLaws.{has_wait, no_number, number_none}
 -- each count over them is what it was
 pub sum_renewed : (f : Option Wait → ℕ) (ws : List (Option Wait)) → f None ≡ 0 → sum_by f (renewed ws) ≡ sum_by f ws
 sum_renewed f [] none = search arith
-sum_renewed f (None ∷ ws) none = search (arith, sum_renewed f ws none)
-sum_renewed f (Some w ∷ ws) none = search (arith, sum_by-cons, sum_renewed f ws none)
+sum_renewed f (w ∷ ws) none = search (arith, sum_by-cons, sum_renewed f ws none)
 
 pub slot_blocks_renewed : (k : ℕ) (ws : List (Option Wait)) → slot_blocks k (renewed ws) ≡ slot_blocks k ws
 slot_blocks_renewed k ws = search (arith, sum_renewed)
@@ -23,8 +22,7 @@ each_standing : (P : Option Wait → Type 0) (ws : List (Option Wait)) → P Non
     → (n : ℕ) → P (get_or (standing ws) n None)
 each_standing P [] none each n = none
 each_standing P (None ∷ ws) none each n = each_standing P ws none (λ k. each (suc k)) n
-each_standing P (Some w ∷ ws) none each zero = each 0
-each_standing P (Some w ∷ ws) none each (suc n) = each_standing P ws none (λ k. each (suc k)) n
+each_standing P (Some w ∷ ws) none each n = search (arith, each 0, each_standing P ws none (λ k. each (suc k)))
 
 pub each_renewed : (P : Option Wait → Type 0) (ws : List (Option Wait)) → P None → ((n : ℕ) → P (get_or ws n None))
     → (n : ℕ) → P (get_or (renewed ws) n None)
@@ -45,11 +43,8 @@ none_standing : (t : ℕ) (ws : List (Option Wait)) → ((n : ℕ) → thread_of
 none_standing t ws = each_standing (λ w. thread_of w ≡ Some t → ⊥) ws (λ own. absurd (cc own))
 
 pub alone_renewed : (t : ℕ) (ws : List (Option Wait)) → number_of t ws ≡ None → number_of t (renewed ws) ≡ None
-alone_renewed t ws none = number_none (renewed ws) t by
-  where
-    by : (n : ℕ) → thread_of (get_or (renewed ws) n None) ≡ Some t → ⊥
-    by zero own = absurd (cc own)
-    by (suc n) own = search (arith, none_standing, no_number)
+alone_renewed t ws none = number_none (renewed ws) t (each_renewed (λ w. thread_of w ≡ Some t → ⊥) ws
+    (λ own. absurd (cc own)) (λ n. no_number t ws n none))
 
 -- and no thread has two
 one_standing : (ws : List (Option Wait))
@@ -57,34 +52,27 @@ one_standing : (ws : List (Option Wait))
     → (n m t : ℕ) → thread_of (get_or (standing ws) n None) ≡ Some t
     → thread_of (get_or (standing ws) m None) ≡ Some t → n ≡ m
 one_standing [] one n m t p q = absurd (cc p)
-one_standing (None ∷ ws) one n m t p q =
-    one_standing ws (λ i j u a b. let e = one (suc i) (suc j) u a b in omega arith) n m t p q
+one_standing (None ∷ ws) one n m t p q = one_standing ws (λ i j u a b. omega (arith, one (suc i) (suc j) u a b)) n m t
+    p q
 one_standing (Some w ∷ ws) one zero zero t p q = refl
-one_standing (Some w ∷ ws) one zero (suc m) t p q =
-    absurd (none_standing t ws (λ k a. let e = one zero (suc k) t p a in omega arith) m q)
-one_standing (Some w ∷ ws) one (suc n) zero t p q =
-    absurd (none_standing t ws (λ k a. let e = one zero (suc k) t q a in omega arith) n p)
-one_standing (Some w ∷ ws) one (suc n) (suc m) t p q =
-    ap suc (one_standing ws (λ i j u a b. let e = one (suc i) (suc j) u a b in omega arith) n m t p q)
+one_standing (Some w ∷ ws) one zero (suc m) t p q = absurd (none_standing t ws
+    (λ k a. omega (arith, one zero (suc k) t p a)) m q)
+one_standing (Some w ∷ ws) one (suc n) zero t p q = absurd (none_standing t ws
+    (λ k a. omega (arith, one zero (suc k) t q a)) n p)
+one_standing (Some w ∷ ws) one (suc n) (suc m) t p q = ap suc
+    (one_standing ws (λ i j u a b. omega (arith, one (suc i) (suc j) u a b)) n m t p q)
 
 pub kept_renewed : (ws : List (Option Wait)) → WaitsInvariant ws → WaitsInvariant (renewed ws)
-kept_renewed ws kept = record { each = each_renewed WaitWaitable ws tt kept.each; one_each = one }
-  where
-    one : (n m t : ℕ) → thread_of (get_or (renewed ws) n None) ≡ Some t
-        → thread_of (get_or (renewed ws) m None) ≡ Some t → n ≡ m
-    one zero m t p q = absurd (cc p)
-    one (suc n) zero t p q = absurd (cc q)
-    one (suc n) (suc m) t p q = search (arith, one_standing)
-
--- the number that the wait of a number has then: the one behind those that stand before it
-abbrev pub number_after : List (Option Wait) → ℕ → ℕ
-number_after ws n = length (renewed (take n ws))
+kept_renewed ws kept = record {
+  each = each_renewed WaitWaitable ws tt kept.each;
+  one_each = search
+      (arith, one_standing ws kept.one_each);
+}
 
 -- no more waits stand than there are threads
 standing_long : (ws : List (Option Wait)) → length (standing ws) ≡ length (threads_of ws)
 standing_long [] = refl
-standing_long (None ∷ ws) = standing_long ws
-standing_long (Some w ∷ ws) = ap suc (standing_long ws)
+standing_long (w ∷ ws) = search (arith, standing_long ws)
 
 threads_below : (threads : ℕ) (ws : List (Option Wait))
     → ((n t : ℕ) → thread_of (get_or ws n None) ≡ Some t → t < threads) → (t : ℕ)
@@ -99,7 +87,7 @@ pub few_renewed : (threads : ℕ) (ws : List (Option Wait)) → WaitsInvariant w
 few_renewed threads ws kept each =
     let few = length-le_from_distinct_below (threads_of ws) threads (distinct ws (ones ws kept.one_each))
     (threads_below threads ws each) in
-    omega (arith, standing_long ws)
+    omega (arith, standing_long ws, few)
 
 -- what stands below a number, and what stands there
 one_more : (k : ℕ) (ws : List (Option Wait))
@@ -107,8 +95,7 @@ one_more : (k : ℕ) (ws : List (Option Wait))
 one_more zero [] = refl
 one_more (suc k) [] = refl
 one_more zero (w ∷ ws) = refl
-one_more (suc k) (None ∷ ws) = one_more k ws
-one_more (suc k) (Some w ∷ ws) = ap (λ l. Some w ∷ l) (one_more k ws)
+one_more (suc k) (w ∷ ws) = search (arith, one_more k ws)
 
 none_more : (d k : ℕ) (ws : List (Option Wait)) → ((i : ℕ) → k ≤ i → i < k + d → is_some (get_or ws i None) ≡ true → ⊥)
     → standing (take (k + d) ws) ≡ standing (take k ws)
@@ -121,16 +108,14 @@ pub copied_next : (ws : List (Option Wait)) (last n : ℕ) → last < n
     → ((k : ℕ) → is_some (get_or ws k None) ≡ true → last < k → n ≤ k)
     → renewed (take (suc n) ws) ≡ renewed (take (suc last) ws) ++ standing (get_or ws n None ∷ [])
 copied_next ws last n above least =
-    let d = n - suc last in
-    let none = none_more d (suc last) ws (λ i le lt has. let at = least i has (omega arith) in omega arith) in
-    search (arith, one_more n ws)
+    let none = none_more (n - suc last) (suc last) ws (λ i le lt has. omega (arith, least i has (omega arith))) in
+    search (arith, one_more n ws, none)
 
 pub copied_all : (ws : List (Option Wait)) (last : ℕ) → ((k : ℕ) → is_some (get_or ws k None) ≡ true → last < k → ⊥)
     → renewed (take (suc last) ws) ≡ renewed ws
 copied_all ws last none =
     let same = none_more (length ws) (suc last) ws (λ i le lt has. none i has le) in
-    let whole = take_all (suc last + length ws) ws (omega arith) in
-    search arith
+    search (arith, same, take_all (suc last + length ws) ws (omega arith))
 
 -- its thread has no wait before it
 pub alone_before : (ws : List (Option Wait)) (last n : ℕ) (w : Wait) → WaitsInvariant ws → last < n
@@ -139,9 +124,7 @@ alone_before ws last n w kept above is =
     alone_renewed w.thread (take (suc last) ws) (number_none (take (suc last) ws) w.thread (λ m own.
     let lt = has_wait (take (suc last) ws) m w.thread own in
     let long = length-take (suc last) ws in
-    let at = get_or-take (suc last) ws m None (omega arith) in
-    let same = kept.one_each m n w.thread (ap thread_of (sym at) ∙ own) (ap thread_of is) in
-    omega arith))
+    grind (arith, lt, long, get_or-take (suc last) ws m None, kept.one_each m n w.thread)))
 
 -- and a number is left for it
 pub room_before : (ws : List (Option Wait)) (last n limit : ℕ) (w : Wait) → get_or ws 0 None ≡ None

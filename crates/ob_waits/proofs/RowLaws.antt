@@ -1,6 +1,8 @@
 -- Waits that are built one after another are those that the rows stand for; and which rows come next of those that are
 -- written.
-use Rattle.ob_waits.proofs.Cited.{◌≡◌, ℕ, zero, suc, ◌+◌, ◌-◌, ◌<◌, ◌≤◌, ◌&&◌, not, Bool, true, false, cond, leb, List, [], ◌∷◌, ◌++◌, length, replicate, Option, Some, None, Result, Ok, Err, refl, ap, ◌∙◌, sym, subst, arith, append_assoc, get_or, list_all, list_any, is_some, and_parts, lt-leb, length_push, list_all-append, TextFault, Value, Fails, fits_from, spread, spread_from, come, may_come, tested, with_row, thread_of, can_be, numbered_parts, may_stand, one_each, WaitList, is_full, is_waits_of, number_of, skipped, NumberedWait, Wait}
+use Rattle.std.proofs.lemmas.Bool.Decides.{nat_tests}
+use Rattle.std.proofs.lemmas.Bool.{cases_Bool}
+use Rattle.ob_waits.proofs.Cited.{inr, inl, ◌≡◌, ℕ, zero, suc, ◌+◌, ◌-◌, ◌<◌, ◌≤◌, ◌&&◌, not, true, false, cond, leb, List, [], ◌∷◌, ◌++◌, length, replicate, Option, Some, None, Result, Ok, Err, refl, subst, arith, append_assoc, get_or, list_any, is_some, and_parts, lt-leb, length_push, list_all-append, TextFault, Value, Fails, fits_from, spread, spread_from, come, may_come, tested, with_row, thread_of, can_be, numbered_parts, may_stand, one_each, WaitList, is_full, is_waits_of, number_of, skipped, NumberedWait, Wait}
 use Rattle.ob_codec.specs.declared.fault.ReadFault.{ReadFault}
 use Rattle.ob_codec.specs.declared.fault.ReadFault.TheVariants.{Memory, Text}
 use Rattle.ob_codec.specs.SparseLaws.{length-spread}
@@ -34,19 +36,8 @@ module _ (last n : ℕ) (ws : List (Option Wait)) (w : Wait) (ps : List (ℕ × 
       ++ spread_from (length (skipped (n - 1) ws ++ Some w ∷ []))
       (suc last - length (skipped (n - 1) ws ++ Some w ∷ [])) ps
   places =
-      let k = length ws in
-      let d = n - k in
-      let m = last - n in
-      let span : suc last - k ≡ d + suc m = omega arith in
-      let free : d ≡ n - 1 + 1 - k = omega arith in
-      let after : m ≡ suc last - length (skipped (n - 1) ws ++ Some w ∷ []) = omega (arith, length-more) in
-      ap (λ (r : List (Option Wait)). ws ++ r) (search (arith, gap))
-      ∙ sym (append_assoc ws (replicate d None) (Some w ∷ spread_from (suc n) m ps))
-      ∙ ap (λ (j : ℕ). (ws ++ replicate j None) ++ Some w ∷ spread_from (suc n) m ps) free
-      ∙ sym (append_assoc (skipped (n - 1) ws) (Some w ∷ []) (spread_from (suc n) m ps))
-      ∙ ap (λ (j : ℕ). (skipped (n - 1) ws ++ Some w ∷ []) ++ spread_from j m ps) (sym length-more)
-      ∙ ap (λ (j : ℕ). (skipped (n - 1) ws ++ Some w ∷ []) ++ spread_from
-      (length (skipped (n - 1) ws ++ Some w ∷ [])) j ps) after
+      let row = gap (n - length ws) (length ws) (last - n) n (suc last - length ws) w ps (omega arith) (omega arith) in
+      search (arith, append_assoc, length-more, row)
 
   pub left_next : left last ws ((n, w) ∷ ps) ≡ left last (skipped (n - 1) ws ++ Some w ∷ []) ps
   left_next = search (arith, length-more, places)
@@ -70,9 +61,7 @@ alone w [] back one m own = cc (own)
 alone w (None ∷ front) back one zero own = cc (own)
 alone w (None ∷ front) back one (suc m) own = alone w front back one m own
 alone w (Some a ∷ front) back one zero own = search (arith, has_one, and_parts, a.thread, w.thread)
-alone w (Some a ∷ front) back one (suc m) own =
-    alone w front back (and_parts (not (list_any (is_waits_of a.thread) (front ++ Some w ∷ back)))
-    (one_each (front ++ Some w ∷ back)) one).1 m own
+alone w (Some a ∷ front) back one (suc m) own = search (arith, alone w front back, and_parts)
 
 -- a wait among waits that can be
 there : (limit clock n : ℕ) (ws : List (Option Wait)) (w : Wait) (back : List (Option Wait))
@@ -80,47 +69,15 @@ there : (limit clock n : ℕ) (ws : List (Option Wait)) (w : Wait) (back : List 
     → (may_stand clock (Some w) && not (is_some (number_of w.thread ws))) ≡ true
 there limit clock n ws w back can = by (number_of w.thread ws) refl
   where
-    all : List (Option Wait)
-    all = skipped n ws ++ Some w ∷ back
-
-    parts : (list_all (may_stand clock) (skipped n ws ++ Some w ∷ back) ≡ true)
-        × (one_each (skipped n ws ++ Some w ∷ back) ≡ true)
-    parts = search arith
-
     by : (o : Option ℕ) → number_of w.thread ws ≡ o → (may_stand clock (Some w) && not (is_some o)) ≡ true
     by None is = search (arith, list_all-append)
-    by (Some m) is = absurd (alone w (skipped n ws) back parts.1 m (search (arith, get_skipped, number_own)))
+    by (Some m) is = absurd (alone w (skipped n ws) back (grind arith) m (search (arith, get_skipped, number_own)))
 
 pub left_refused : (limit clock last n : ℕ) (ws : List (Option Wait)) (w : Wait) (ps : List (ℕ × Wait)) → 0 < length ws
     → ((leb (length ws) n && leb n last) && (may_stand clock (Some w) && not (is_some (number_of w.thread ws))))
     ≡ false → tested limit clock (left last ws ((n, w) ∷ ps)) ≡ Err Value
-left_refused limit clock last n ws w ps some not_so = by (leb (length ws) n) (leb n last) refl refl not_so
-  where
-    good : Bool
-    good = may_stand clock (Some w) && not (is_some (number_of w.thread ws))
-
-    refused : (b : Bool) (xs : List (Option Wait)) → (can_be limit clock xs ≡ true → ⊥)
-        → tested limit clock (cond b (Some xs) None) ≡ Err Value
-    refused false xs never = refl
-    refused true xs never = search arith
-
-    by : (a b : Bool) → leb (length ws) n ≡ a → leb n last ≡ b
-        → ((a && b) && (may_stand clock (Some w) && not (is_some (number_of w.thread ws)))) ≡ false
-        → tested limit clock (left last ws ((n, w) ∷ ps)) ≡ Err Value
-    by false b is is' e = search arith
-    by true false is is' e = search arith
-    by true true is is' e =
-        let le : length ws ≤ n = grind arith in
-        let most : n ≤ last = grind arith in
-        let next = skipped (n - 1) ws ++ Some w ∷ [] in
-        let back = spread_from (length next) (suc last - length next) ps in
-        ap (tested limit clock) (left_next last n ws w ps (omega arith) le most)
-        ∙ refused (fits_from (length next) (suc last) ps) (next ++ back) (λ can.
-        let can' : can_be limit clock (skipped (n - 1) ws ++ Some w ∷ back) ≡ true = subst
-        (λ (xs : List (Option Wait)). can_be limit clock xs ≡ true)
-        (append_assoc (skipped (n - 1) ws) (Some w ∷ []) back) can in
-        let so = there limit clock (n - 1) ws w back can' in
-        cc (so, e))
+left_refused limit clock last n ws w ps some not_so =
+    grind (arith, nat_tests, left_next last n ws w ps, append_assoc, there limit clock (n - 1) ws w)
 
 -- what is known of a row that can come
 pub record Comes (last : ℕ) (list : WaitList) (held : NumberedWait) : Type 0 where
@@ -152,54 +109,24 @@ pub goes_on : (last : ℕ) (list list' : WaitList) (held : NumberedWait) (ps : L
     (total : Result WaitList TextFault) → come last list held ≡ Ok list'
     → Goes last list (numbered_parts held ∷ ps) total
     → Goes last list' ps total
-goes_on last list list' held ps total e goes = subst (λ (l : WaitList). Goes last l ps total) g.1 (record {
-  not_empty = omega (arith, longer);
-  at_most = omega (arith, longer, most);
-  most = goes.most;
-  rest = ap (tested list.limit list.clock)
-      (sym (left_next last held.number list.waits held.wait ps some c.above c.most)) ∙ goes.rest;
-})
-  where
-    g : (may_come last list held ≡ true) × (with_row list held ≡ list')
-    g = search arith
-
-    c : Comes last list held
-    c = comes last list held g.0
-
-    most : held.number ≤ last
-    most = c.most
-
-    some : 0 < held.number
-    some = search arith
-
-    longer : length (with_row list held).waits ≡ suc held.number
-    longer = search (arith, length-skipped, length_push)
+goes_on last list list' held ps total e goes =
+    let may : may_come last list held ≡ true = search arith in
+    let is : with_row list held ≡ list' = search arith in
+    let c = comes last list held may in
+    let longer : length (with_row list held).waits ≡ suc held.number = search (arith, length-skipped, length_push) in
+    subst (λ (l : WaitList). Goes last l ps total) is (search (arith, left_next))
 
 pub ends : (e : ReadFault) (last : ℕ) (list : WaitList) (held : NumberedWait) (ps : List (ℕ × Wait))
     (total : Result WaitList TextFault) → Fails e (come last list held)
     → Goes last list (numbered_parts held ∷ ps) total
     → Fails e total
 ends Memory last list held ps total fails goes = tt
-ends (Text f) last list held ps total fails goes = by (may_come last list held) refl fails
-  where
-    by : (b : Bool) → may_come last list held ≡ b → cond b (Ok (with_row list held)) (Err Value) ≡ Err f → total ≡ Err f
-    by true is e = absurd (cc (e))
-    by false is e = search (arith, left_refused)
+ends (Text f) last list held ps total fails goes = elim (cases_Bool (may_come last list held)) [
+  | inl is ↦ absurd (let e = rw is at fails in cc e)
+  | inr is ↦ let e = rw is at fails in search (arith, left_refused)
+]
 
 -- so are all, where the last number is above the limit
 pub too_many : (limit clock last : ℕ) (ps : List (ℕ × Wait)) → limit < last
     → tested limit clock (spread (last, ps)) ≡ Err Value
-too_many limit clock last ps lt = by (fits_from 0 (suc last) ps)
-  where
-    xs : List (Option Wait)
-    xs = spread_from 0 (suc last) ps
-
-    long : leb (length (spread_from 0 (suc last) ps)) (limit + 1) ≡ false
-    long = lt-leb _ _ (omega (arith, length-spread 0 (suc last) ps))
-
-    by : (b : Bool) → tested limit clock (cond b (Some (spread_from 0 (suc last) ps)) None) ≡ Err Value
-    by false = refl
-    by true = ap (λ (z : Bool). cond
-        ((z && not (is_some (get_or (spread_from 0 (suc last) ps) 0 None)))
-        && (list_all (may_stand clock) (spread_from 0 (suc last) ps) && one_each (spread_from 0 (suc last) ps)))
-        (Ok (record { limit = limit; waits = spread_from 0 (suc last) ps; clock = clock })) (Err Value)) long
+too_many limit clock last ps lt = search (arith, length-spread, lt-leb)

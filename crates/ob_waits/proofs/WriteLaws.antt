@@ -1,5 +1,5 @@
 -- Waits are written as their rows stand, by rising number.
-use Rattle.ob_waits.proofs.Cited.{◌≡◌, ℕ, zero, suc, ◌+◌, ◌-◌, ◌<◌, ◌≤◌, ◌^◌, true, List, [], ◌∷◌, ◌++◌, length, drop, Option, Some, None, refl, ap, ◌∙◌, sym, subst, arith, append_assoc, get_or, AllByRecursion, flat_map, is_some, drop_all, length-append, SparseFits, entries_from, row_of, RowFits, WaitFits, row_text, Wait}
+use Rattle.ob_waits.proofs.Cited.{◌≡◌, ℕ, zero, suc, ◌+◌, ◌-◌, ◌<◌, ◌≤◌, ◌^◌, true, List, [], ◌∷◌, ◌++◌, length, drop, Option, None, refl, arith, append_assoc, get_or, AllByRecursion, flat_map, is_some, drop_all, length-append, SparseFits, entries_from, row_of, RowFits, WaitFits, row_text, Wait}
 use Rattle.std.proofs.lemmas.Grind.{flat_map-append}
 
 -- the rows behind a number
@@ -10,8 +10,7 @@ one_row : (j k : ℕ) (ws : List (Option Wait))
     → entries_from j (drop k ws) ≡ row_of j (get_or ws k None) ++ entries_from (suc j) (drop (suc k) ws)
 one_row j zero [] = refl
 one_row j (suc k) [] = refl
-one_row j zero (None ∷ ws) = refl
-one_row j zero (Some w ∷ ws) = refl
+one_row j zero (w ∷ ws) = search arith
 one_row j (suc k) (x ∷ ws) = one_row j k ws
 
 no_rows : (d k : ℕ) (ws : List (Option Wait)) → ((i : ℕ) → k ≤ i → i < k + d → get_or ws i None ≡ None)
@@ -28,18 +27,13 @@ pub row_next : (last n : ℕ) (ws : List (Option Wait)) → last < n
     → ((k : ℕ) → is_some (get_or ws k None) ≡ true → last < k → n ≤ k)
     → rows_behind last ws ≡ row_of n (get_or ws n None) ++ rows_behind n ws
 row_next last n ws above least =
-    let d = n - suc last in
-    let e : suc last + d ≡ n = omega arith in
-    no_rows d (suc last) ws
-    (λ i le lt. without (get_or ws i None)
-    (λ has. let at = least i has (omega arith) in omega arith))
-    ∙ ap (λ (j : ℕ). entries_from j (drop j ws)) e ∙ one_row n n ws
+    let none = no_rows (n - suc last) (suc last) ws (λ i le lt. without (get_or ws i None)
+    (λ has. omega (arith, least i has (omega arith)))) in
+    search (arith, one_row n n ws, none)
 
 pub row_none : (last : ℕ) (ws : List (Option Wait)) → ((k : ℕ) → is_some (get_or ws k None) ≡ true → last < k → ⊥)
     → rows_behind last ws ≡ []
-row_none last ws none =
-    no_rows (length ws) (suc last) ws (search arith)
-    ∙ ap (entries_from (suc last + length ws)) (drop_all (suc last + length ws) ws (omega arith))
+row_none last ws none = search (arith, drop_all, no_rows (length ws) (suc last) ws (search arith))
 
 -- at first number 0 has no row
 pub rows_all : (ws : List (Option Wait)) → get_or ws 0 None ≡ None → entries_from 0 ws ≡ rows_behind 0 ws
@@ -48,8 +42,7 @@ rows_all ws none = search arith
 -- how many rows there are
 pub few_rows : (k : ℕ) (ws : List (Option Wait)) → length (entries_from k ws) ≤ length ws
 few_rows k [] = omega arith
-few_rows k (None ∷ ws) = omega (arith, few_rows (suc k) ws)
-few_rows k (Some w ∷ ws) = omega (arith, few_rows (suc k) ws)
+few_rows k (w ∷ ws) = search (arith, few_rows (suc k) ws)
 
 pub all_rows_few : (ws : List (Option Wait)) → get_or ws 0 None ≡ None → length (entries_from 0 ws) ≤ length ws - 1
 all_rows_few ws none = search (arith, rows_all, few_rows)
@@ -65,20 +58,8 @@ pub written_next : (last n count more : ℕ) (out out' before : List ℕ) (ws : 
     → out' ≡ out ++ flat_map row_text (row_of n (get_or ws n None)) → more ≡ length (row_of n (get_or ws n None))
     → AllByRecursion RowFits (row_of n (get_or ws n None))
     → Written last count out before ws → Written n (count + more) out' before ws
-written_next last n count more out out' before ws above least text is fit w = record {
-  text = ap (λ (t : List ℕ). t ++ flat_map row_text (rows_behind n ws)) text
-      ∙ append_assoc out (flat_map row_text (row_of n (get_or ws n None))) (flat_map row_text (rows_behind n ws))
-      ∙ ap (λ (t : List ℕ). out ++ t)
-      (sym (ap (flat_map row_text) next ∙ flat_map-append row_text (row_of n (get_or ws n None)) (rows_behind n ws)))
-      ∙ w.text;
-  many = let e = ap length next in let l = length-append (row_of n (get_or ws n None))
-      (rows_behind n ws) in let c = w.many in omega arith;
-  fits = λ all. w.fits (subst (λ (rows : List (ℕ × Wait)). AllByRecursion RowFits rows) (sym next)
-      (search arith));
-}
-  where
-    next : rows_behind last ws ≡ row_of n (get_or ws n None) ++ rows_behind n ws
-    next = row_next last n ws above least
+written_next last n count more out out' before ws above least text is fit w = let next = row_next last n ws above
+    least in search (arith, append_assoc, flat_map-append, length-append)
 
 -- waits of which each row fits have a spelling
 pub rows_fit : (ws : List (Option Wait)) (given : ℕ) → get_or ws 0 None ≡ None → length ws ≡ given + 1 → given < 2 ^ 32
