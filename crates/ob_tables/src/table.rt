@@ -65,6 +65,7 @@ impl Model for Table {
 pub fn entry_in(places: &[Option<Entry>], value: u32) -> Option<Entry>
     ensures { result ≡ entry_at places.now value }
 {
+    // One above its place.
     let above = (value / STEP) as usize;
     if above == 0 || above > places.len() {
         return None;

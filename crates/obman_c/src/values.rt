@@ -1,9 +1,11 @@
-//! What C is told of a reply beside its number. What the calls that are made most are told looks at the reply once, and so
-//! says the number too.
+//! What C is told of a reply beside its number.
+//!
+//! For the calls that are made most one look at the reply gives both the value and the number: a second one costs
+//! instructions in each call.
 ghost use Rattle.std.specs.Prelude.{◌≡◌};
 ghost use Rattle.ob_manager.specs.Steps.{reply_of};
-ghost use Rattle.obman_c.specs.Telling.{answer_in, count_in, flags_in, member_in, object_of, opening_in, opening_of, outcome_of};
-ghost use Rattle.obman_c.specs.Telling.{pins_of, reaping_in, references_in, status_of, thread_in};
+ghost use Rattle.obman_c.specs.Telling.{answer_in, count_in, flags_in, member_in, object_of, opening_in, outcome_of};
+ghost use Rattle.obman_c.specs.Telling.{opening_of, pins_of, reaping_in, references_in, status_of, thread_in};
 
 use crate::status::{EXISTS, PENDING, told};
 use ob_manager::Reply;
