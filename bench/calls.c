@@ -309,6 +309,23 @@ static void run_beside(const char *what, uint32_t among) {
     measure(what, ROUNDS, wait_and_set);
 }
 
+static uint32_t set_and_reset_it(uint32_t at) {
+    done(om_set_event(&m, thread, handle));
+    done(om_reset_event(&m, thread, handle));
+    return 1;
+}
+
+/* So many threads wait for an event, each together with one of its own that is never set. */
+static void run_busy(uint32_t among) {
+    begin(among);
+    handle = new_unnamed(false, false);
+    for (uint32_t i = 0; i < among; i++) {
+        uint32_t both[] = {handle, new_unnamed(false, false)};
+        wait_long(new_thread(process), true, both, 2);
+    }
+    measure("set and reset, waits for all", WAITS / among, set_and_reset_it);
+}
+
 static void run_waits(void) {
     begin_list(64, true, 63);
     measure("wait for any", ROUNDS, wait_for_any);
@@ -322,6 +339,8 @@ static void run_waits(void) {
         run_beside("wait, set and result, waits beside, reusing", among);
         reuses = false;
     }
+    run_busy(16);
+    run_busy(1000);
 }
 
 /* ---- Herds: threads that all wait for one object, and are released one by one, or together ---- */

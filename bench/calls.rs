@@ -4,7 +4,7 @@ mod parts;
 
 use parts::answers::{Fault, Kind, Limits, MODIFY_STATE, Mode, Reply, Timeout};
 use parts::cases::{
-    Case, ChildAndExit, HANDLES, Live, OwnerAndEnd, ThreadAndEnd, WaitAndSet, WaitForAll, WaitForAny, WaitForSome,
+    Case, ChildAndExit, HANDLES, Live, OwnerAndEnd, SetAndReset, ThreadAndEnd, WaitAndSet, WaitForAll, WaitForAny, WaitForSome,
     code_of, live_events, pending, rounds_at, spawned, started,
 };
 use parts::directory::text;
@@ -248,7 +248,13 @@ fn run_waits() -> Result<(), Fault> {
     measure_wait::<WaitForAll>("wait for all", 64)?;
     measure_wait::<WaitForSome>("wait for any, set and result", 64)?;
     measure_wait::<WaitAndSet>("wait, set and result, waits beside", 0)?;
-    measure_wait::<WaitAndSet>("wait, set and result, waits beside", 10000)
+    measure_wait::<WaitAndSet>("wait, set and result, waits beside", 10000)?;
+    [16, 1000].into_iter().try_for_each(run_busy)
+}
+
+/// An event for which so many threads wait, each together with another.
+fn run_busy(count: u32) -> Result<(), Fault> {
+    measure_anew::<SetAndReset>("set and reset, waits for all", count, 1, WAITS / count)
 }
 
 /// So many threads that all wait for one object.

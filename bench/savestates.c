@@ -1,6 +1,6 @@
 /* om_save and om_load of 60,000 named events, 16 processes with 1,000 handles each besides, and 10,000 pending waits;
- * and a copy of the bytes; then the same of a small guest. Of each it prints the line
- * `CASE, LENGTH bytes: 1 in NANOSECONDS, DIGEST`. */
+ * and a copy of the bytes; then the same of a small guest, where numbers are given once and where they come back. Of each
+ * it prints the line `CASE, LENGTH bytes: 1 in NANOSECONDS, DIGEST`. */
 #include "timed.h"
 #include <string.h>
 
@@ -78,5 +78,8 @@ int main(void) {
     done(om_new(&limits, &m));
     small_guest(&m);
     measure(" of a small guest");
+    done(om_new_with(&limits, true, false, &m));
+    small_guest(&m);
+    measure(" of a small guest whose numbers come back");
     return 0;
 }

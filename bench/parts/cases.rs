@@ -217,6 +217,28 @@ impl Case for WaitAndSet {
     }
 }
 
+/// An event is set and reset for which threads wait, each together with one of its own that is never set.
+pub struct SetAndReset;
+
+impl Case for SetAndReset {
+    fn home(count: u32) -> Result<Home, Fault> {
+        let mut home = Home::empty()?;
+        home.add_event(false, false)?;
+        for _ in 0..count {
+            home.add_waiter()?;
+            let both = [home.handles[0], home.last()];
+            pending(home.manager.wait(home.other, Mode::All, Timeout::Infinite, &both))?;
+        }
+        Ok(home)
+    }
+
+    fn round(home: &mut Home) -> Result<u32, Fault> {
+        done(home.manager.set_event(home.thread, home.handles[0]))?;
+        done(home.manager.reset_event(home.thread, home.handles[0]))?;
+        Ok(1)
+    }
+}
+
 /// A child that inherits some handles, and its end.
 pub struct ChildAndExit;
 
