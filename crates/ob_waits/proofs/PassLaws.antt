@@ -1,6 +1,7 @@
 -- Numbers take effect one after another where they are ready: that is settling, as long as none that is ready is below
 -- the next.
 use Rattle.ob_waits.proofs.Cited.{at_place, ◌≡◌, ℕ, zero, suc, ◌+◌, ◌<◌, ◌≤◌, List, [], ◌∷◌, length, Option, Some, None, refl, subst, arith, drop, eqb, get_or, set, Bool, true, false, list_any, ◌&&◌, not, IfSome, drop_all, drop_more, list_any_at, count_by-le-length, fails_before_first, passes_at_first, true_from_ne_false, Id, Body, Mode, Pending, Wait, numbers_of, Thins, CountedBodies, slot_signaled, AreIndexed, Covers, IsOnlyIn, IsReadyAt, IsReadyBy, IsRising, IsSettled, IsSpent, thread_of, nowhere, Scene, answered, is_ready, is_pending, ids_of, first_ready, first_signaled, effect, passed, settled, settled_within}
+use Rattle.std.specs.Bool.{if◌then◌else◌}
 use Rattle.ob_waits.specs.declared.wait.Mode.TheVariants.{Any}
 use Rattle.ob_waits.proofs.Keeping.{Fade}
 use Rattle.ob_waits.proofs.NumberLaws.{thins_both, thins_first}
@@ -112,9 +113,10 @@ pub thins_faded : (ws ws' : List (Option Wait)) (old new : List ℕ) → Fade ws
 thins_faded ws ws' old new fade t = search arith
 
 -- one more leaves the front of a list, where all before it may
-pub thins_on : (ws ws' : List (Option Wait)) (ns : List ℕ) (at : ℕ) (all pending : Bool) → Fade ws ws' → at < length ns
-    → pending ≡ is_pending (get_or ws' (get_or ns at 0) None) → (all ≡ true → Thins ws ns (drop at ns))
-    → not pending && all ≡ true → Thins ws' ns (drop (at + 1) ns)
+pub thins_on : (ws ws' : List (Option Wait)) (ns : List ℕ) (at over : ℕ) (all pending : Bool) → Fade ws ws' → at < length ns
+    → pending ≡ is_pending (get_or ws' (get_or ns at 0) None) → (all ≡ true → over ≡ at)
+    → (all ≡ true → Thins ws ns (drop over ns))
+    → not pending && all ≡ true → Thins ws' ns (drop (if not pending then at + 1 else over) ns)
 thins_on = search (arith, thins_faded, thins_both, thins_first)
 
 -- where none outside of a slot is signaled, none is before the first in the slot

@@ -1,4 +1,4 @@
-ghost use Rattle.std.specs.Prelude.{[], ◌∷◌, ◌≡◌, ◌<◌, ◌≤◌, true, false, IfSome, None, Some, drop, length, slice_index_or};
+ghost use Rattle.std.specs.Prelude.{[], ◌∷◌, ◌≡◌, ◌<◌, ◌≤◌, true, false, IfSome, None, Some, drop, if◌then◌else◌, length, slice_index_or};
 ghost use Rattle.ob_waits.specs.CountedBodies.{without_blocks};
 ghost use Rattle.ob_waits.specs.RisingNumbers.{numbers_of, Thins};
 ghost use Rattle.ob_waits.specs.PendingIndex.{IsRight};
@@ -82,8 +82,17 @@ pub(crate) fn pass<B: Bodies>(live: &mut Live, bodies: &mut B, numbers: &[u32])
     }
 }
 
+/// A count, where there is a later one, and else the earlier one.
+#[inline(always)]
+fn latest(is_there: bool, later: usize, earlier: usize) -> usize
+    ensures { result ≡ if is_there then later else earlier }
+{
+    if is_there { later } else { earlier }
+}
+
 /// The waits for an object in the slot take effect where they are ready, in the order of their numbers, until nobody
-/// who waits can have the object any more. Answers how many were looked at, and whether none of these is still pending.
+/// who waits can have the object any more. Answers how many come up to the last one that isn't pending then, and whether
+/// none of these is.
 pub(crate) fn pass_slot<B: Bodies>(
     live: &mut Live,
     bodies: &mut B,
@@ -100,15 +109,19 @@ pub(crate) fn pass_slot<B: Bodies>(
     ensures all { result.1 ≡ true → Thins live.new (numbers_of pending_index.now.index id.slot)
         (drop result.0 (numbers_of pending_index.now.index id.slot)) }
 {
-    let numbers = pending_index.numbers(id.slot);
-    let mut all = true;
-    for (at, number) in numbers.iter().enumerate() {
-        if at > 0 && !is_open(live, bodies, id) {
-            return (at, all);
+    let (mut over, mut all) = (0, true);
+    // Whether the object may have changed since it was looked at.
+    let mut is_changed = false;
+    for (at, number) in pending_index.numbers(id.slot).iter().enumerate() {
+        if is_changed && !is_open(live, bodies, id) {
+            return (over, all);
         }
-        all = !take_effect(live, bodies, *number, Some(id.slot)) & all;
+        let is_over = !take_effect(live, bodies, *number, Some(id.slot));
+        all = is_over & all;
+        over = latest(is_over, at + 1, over);
+        is_changed = is_over | (at == 0);
     }
-    (numbers.len(), all)
+    (over, all)
 }
 
 /// The waits for an object in the slots of these take effect where they are ready, in the order of their numbers over

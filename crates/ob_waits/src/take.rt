@@ -1,6 +1,7 @@
 ghost use Rattle.std.specs.Prelude.{[], ◌∷◌, ◌≡◌, ◌≢◌, ◌<◌, ◌≤◌, ℕ, List, Option, true, None, Some, length, slice_index_or};
 ghost use Rattle.std.specs.List.{list_any, list_all};
 ghost use Rattle.std.specs.Option.{IfNone};
+ghost use Rattle.ob_body.specs.Body as spec;
 ghost use Rattle.ob_body.specs.declared.body.Body.{Body};
 ghost use Rattle.ob_waits.specs.Waits.{is_signaled, is_abandoned, first_signaled, list_ready, nowhere};
 ghost use Rattle.ob_waits.specs.Waits.{with_all_acquired, code_now, objects_now};
@@ -9,15 +10,26 @@ ghost use Rattle.ob_waits.specs.Rules.{HasRoom, IsDistinct, IsOnlyIn, IsWaitable
 use crate::bodies::Bodies;
 use crate::codes::WAIT_ABANDONED_0;
 use crate::wait::Mode;
-use ob_body::RECURSION_MAX;
+use ob_body::{Body, RECURSION_MAX};
 use pin_core::Id;
 
+/// The same as [`Body::signaled_for`], apart.
+#[inline(never)]
+fn signaled_for(body: Body, thread: u32) -> bool
+    ensures { result ≡ spec.is_signaled thread body }
+{
+    body.signaled_for(thread)
+}
+
+/// Whether an object of a list is signaled for a thread.
+// Most are events, which are told by one comparison, and others by a table of jumps.
 #[inline(always)]
 fn is_signaled<B: Bodies>(bodies: &B, thread: u32, id: Id) -> bool
     ensures { result ≡ is_signaled thread (B.objects bodies.now).bodies id }
 {
     match bodies.body(id) {
-        Some(body) => body.signaled_for(thread),
+        Some(Body::Event(event)) => event.set,
+        Some(body) => signaled_for(body, thread),
         None => false,
     }
 }
@@ -62,6 +74,8 @@ fn first_place(ids: &[Id], slot: Option<u32>) -> usize
     }
 }
 
+// Apart, and without a frame of its own, since it comes first where many waits for all are for one object.
+#[inline(never)]
 fn are_all_signaled<B: Bodies>(bodies: &B, thread: u32, ids: &[Id]) -> bool
     ensures { result ≡ list_all (is_signaled thread (B.objects bodies.now).bodies) ids.now }
 {
@@ -85,6 +99,7 @@ pub fn is_satisfied<B: Bodies>(bodies: &B, thread: u32, mode: Mode, ids: &[Id]) 
 }
 
 /// A thread acquires each of some objects; whether one was an abandoned mutex.
+#[inline(never)]
 fn take_all<B: Bodies>(bodies: &mut B, thread: u32, ids: &[Id]) -> bool
     requires ready { list_all (is_signaled thread (B.objects bodies.old).bodies) ids.now ≡ true }
     requires room { HasRoom RECURSION_MAX thread (B.objects bodies.old).bodies ids.now }
@@ -114,7 +129,10 @@ fn take_one<B: Bodies>(bodies: &mut B, thread: u32, id: Id) -> Option<u32>
     ensures rest { B.rest bodies.new ≡ B.rest bodies.old }
     ensures unready { IfNone result (bodies.new ≡ bodies.old) }
 {
-    if !is_signaled(bodies, thread, id) {
+    let Some(body) = bodies.body(id) else {
+        return None;
+    };
+    if !body.signaled_for(thread) {
         return None;
     }
     if bodies.acquire(id, thread) {
@@ -145,6 +163,7 @@ fn take_any<B: Bodies>(bodies: &mut B, thread: u32, ids: &[Id], slot: Option<u32
 }
 
 /// Takes all objects together, if each is signaled, and gives the code.
+#[inline(always)]
 fn take_each<B: Bodies>(bodies: &mut B, thread: u32, ids: &[Id]) -> Option<u32>
     requires room { HasRoom RECURSION_MAX thread (B.objects bodies.old).bodies ids.now }
     requires once { IsDistinct ids.now }

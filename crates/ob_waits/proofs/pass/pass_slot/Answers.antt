@@ -12,18 +12,18 @@ pub loop-at-preserved : goal.loop-at-preserved
 loop-at-preserved g c =
     let ns : List ℕ = numbers_of c.args.pending_index.now.index c.args.id.slot in
     let scene : Scene = record { objects = g.B.Bodies.objects c.loop-at.bodies; waits = c.loop-at.live } in
-    let after : Scene = record { objects = g.B.Bodies.objects c.take_effect.new.bodies; waits = c.take_effect.new.live }
+    let after : Scene = record { objects = g.B.Bodies.objects c.take_effect-is_over.new.bodies; waits = c.take_effect-is_over.new.live }
     in
     let next : Scene = passed (get_or ns c.loop-at.at 0 ∷ []) scene in
     let lt : c.loop-at.at < length ns = search rules in
     let step = steps_on ns c.loop-at.at scene lt (c.requires.right.index_rises.each c.args.id.slot).rising
     c.loop-at.invariant.covers in
     let is : after ≡ next = search rules in
-    let pending : c.take_effect.result ≡ is_pending (get_or c.take_effect.new.live (get_or ns c.loop-at.at 0) None) =
+    let pending : c.take_effect-is_over.result ≡ is_pending (get_or c.take_effect-is_over.new.live (get_or ns c.loop-at.at 0) None) =
     search rules in
     record {
       same = ap settled is ∙ step.same ∙ c.loop-at.invariant.same;
-      rest = c.take_effect.ensures.rest ∙ c.loop-at.invariant.rest;
+      rest = c.take_effect-is_over.ensures.rest ∙ c.loop-at.invariant.rest;
       covers = search arith;
       fits = fits_passed 2147483647 (get_or ns c.loop-at.at 0 ∷ []) scene after is c.loop-at.invariant.fits;
       ready = subst (λ (s : Scene). IsReadyBy (λ k. eqb k c.args.id.slot) s.objects.bodies s.waits) (sym is)
@@ -31,9 +31,12 @@ loop-at-preserved g c =
       fade = subst (λ (s : Scene). Fade c.args.live.now s.waits) (sym is)
           (fade_both c.args.live.now scene.waits next.waits c.loop-at.invariant.fade
           (passed_fades (get_or ns c.loop-at.at 0 ∷ []) scene));
-      all = thins_on c.loop-at.live c.take_effect.new.live ns c.loop-at.at c.loop-at.all c.take_effect.result
+      all = rw c.latest-over.ensures (thins_on c.loop-at.live c.take_effect-is_over.new.live ns c.loop-at.at c.loop-at.over c.loop-at.all
+          c.take_effect-is_over.result
           (subst (λ (s : Scene). Fade scene.waits s.waits) (sym is) (passed_fades (get_or ns c.loop-at.at 0 ∷ []) scene))
-          lt pending c.loop-at.invariant.all;
+          lt pending c.loop-at.invariant.whole c.loop-at.invariant.all);
+      most = grind arith;
+      whole = grind arith;
     }
 
 pub returns-then-not-is_open-clause-scene : goal.returns-then-not-is_open-clause-scene

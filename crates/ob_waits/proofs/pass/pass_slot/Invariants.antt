@@ -1,4 +1,4 @@
-use Rattle.ob_waits.proofs.Cited.{◌≡◌, drop, eqb, true, numbers_of, Thins, Scene, settled, Covers, Fits, IsReadyBy}
+use Rattle.ob_waits.proofs.Cited.{◌≡◌, ◌≤◌, drop, eqb, true, numbers_of, Thins, Scene, settled, Covers, Fits, IsReadyBy}
 use Rattle.ob_waits.proofs.Keeping.{Fade}
 use Rattle.ob_waits.proofs.pass.pass_slot.Given as goal
 
@@ -15,5 +15,7 @@ invariant-loop-at g l = record {
   ready : IsReadyBy (λ k. eqb k l.id.slot) (g.B.Bodies.objects l.bodies).bodies l.live;
   fade : Fade l.fn.live l.live;
   all : l.all ≡ true → Thins l.live (numbers_of l.pending_index.index l.id.slot)
-      (drop l.at (numbers_of l.pending_index.index l.id.slot));
+      (drop l.over (numbers_of l.pending_index.index l.id.slot));
+  most : l.over ≤ l.at;
+  whole : l.all ≡ true → l.over ≡ l.at;
 }
