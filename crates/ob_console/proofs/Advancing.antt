@@ -1,13 +1,12 @@
 -- A console advances line by line, and what it has written is the beginning of an answer to its input.
-use Rattle.std.proofs.Common.{◌≡◌, ℕ, ◌+◌, ◌<◌, List, [], ◌∷◌, ◌++◌, length, Some, refl, sym, subst, ◌∙◌, arith}
+use Rattle.std.proofs.Common.{◌≡◌, ℕ, ◌+◌, List, [], ◌∷◌, ◌++◌, length, Some, refl, subst, arith}
 use Rattle.std.specs.List.{concat}
 use Rattle.std.proofs.lemmas.List.{append_assoc, append-nil, length-append}
 use Rattle.std.proofs.lemmas.List.Folds.{concat-append}
-use Rattle.pin_core.specs.declared.shape.Shape.{Shape}
 use Rattle.ob_script.specs.Commands.{Command}
 use Rattle.ob_script.specs.Grammar.{command_of}
 use Rattle.ob_script.specs.Printed.{line_end}
-use Rattle.ob_console.specs.Runs.{Point, Prints, Run, Splits, IsWithin, AnswersLines, AnswersTo, AnswersPart, last_line}
+use Rattle.ob_console.specs.Runs.{Point, Prints, Run, IsWithin, AnswersLines, AnswersPart, last_line}
 use Rattle.ob_script.specs.PartialLines.{capped, extended_line, command_of_partial_line}
 use Rattle.ob_console.specs.Sessions.{ConsoleState, IsReady, Session, Advances, Finishes}
 use Rattle.ob_script.proofs.Texts.{command_of_capped, more_capped}
@@ -23,14 +22,12 @@ line_advances old new act bytes output within is prints counted held first input
     let line = session.rest ++ bytes in
     let of_line : Prints old.point (1 + length session.lines) (command_of old.point.more line) output new.point =
     search (arith, command_of_capped, more_capped) in
-    let one : Splits (session.rest ++ (bytes ++ line_end)) (line ∷ []) [] =
-    splits_one session.rest bytes session.splits.open_ended within in
     record {
       lines = session.lines ++ line ∷ [];
       rest = [];
       pins = session.pins;
       outputs = session.outputs ++ output ∷ [];
-      splits = search (arith, splits_on);
+      splits = search (arith, splits_on, splits_one);
       run = run-append first 1 session.lines session.outputs old.point (line ∷ [])
           (output ∷ []) new.point session.run (new.point, of_line, refl);
       whole = search (arith, append-nil, concat-append);
@@ -41,17 +38,18 @@ line_advances old new act bytes output within is prints counted held first input
 -- a part of a line comes
 pub part_advances : (old new : ConsoleState) (bytes : List ℕ) → IsWithin bytes → new.point ≡ old.point
     → new.lines ≡ old.lines → new.held ≡ extended_line old.held bytes → Advances old bytes [] new
-part_advances old new bytes within state_is lines_is held_is first input before session = record {
-  lines = session.lines;
-  rest = session.rest ++ bytes;
-  pins = session.pins;
-  outputs = session.outputs;
-  splits = splits_more input session.lines session.rest bytes within session.splits;
-  run = search arith;
-  whole = append-nil before ∙ session.whole;
-  counted = lines_is ∙ session.counted;
-  held = search (arith, more_capped);
-}
+part_advances old new bytes within state_is lines_is held_is first input before session =
+    record {
+      lines = session.lines;
+      rest = session.rest ++ bytes;
+      pins = session.pins;
+      outputs = session.outputs;
+      splits = splits_more input session.lines session.rest bytes within session.splits;
+      run = search arith;
+      whole = search (arith, append-nil);
+      counted = search arith;
+      held = search (arith, more_capped);
+    }
 
 -- one advance after another
 pub advances_on : (a b c : ConsoleState) (bytes second output more : List ℕ) → Advances a bytes output b
@@ -77,50 +75,16 @@ answers_lines first input output console session = record {
   answers = search arith;
 }
 
--- where nothing is held, the whole input is answered
-pub answers_all : (first : Point) (input output : List ℕ) (console : ConsoleState) → console.held ≡ Some []
-    → Session first input output console → AnswersTo first input output console.point
-answers_all first input output console held session = search (arith, append-nil)
-
--- a last line without a line feed
-pub last_answered : (first : Point) (input before output : List ℕ) (old new : ConsoleState) → (old.held ≡ Some [] → ⊥)
-    → Prints old.point (old.lines + 1) (command_of_partial_line old.point.more old.held) output new.point
-    → Session first input before old
-    → AnswersTo first input (before ++ output) new.point
-last_answered first input before output old new some prints session =
-    let of_line : Prints old.point (1 + length session.lines) (command_of old.point.more session.rest) output new.point =
-    search (arith, command_of_capped) in
-    record {
-      lines = session.lines;
-      rest = session.rest;
-      splits = session.splits;
-      answers = record {
-        outputs = session.outputs ++ output ∷ [];
-        run = subst (λ last. Run first 1 (session.lines ++ last) (session.outputs ++ output ∷ []) new.point)
-            (is_last session.rest session.held)
-            (run-append first 1 session.lines session.outputs old.point (session.rest ∷ [])
-            (output ∷ []) new.point session.run (new.point, of_line, refl));
-        whole = search (arith, append-nil, concat-append);
-      };
-    }
-  where
-    is_last : (rest : List ℕ) → old.held ≡ capped rest → rest ∷ [] ≡ last_line rest
-    is_last [] is = absurd (some is)
-    is_last (byte ∷ rest) is = refl
-
 -- whatever comes, the output is the beginning of an answer
 pub answers_part : (first : Point) (input output done missing more : List ℕ) (console : ConsoleState)
     → done ++ missing ≡ output → Session first input output console → AnswersPart first (input ++ more) done
 answers_part first input output done missing more console part session =
     let behind = has_lines (session.rest ++ more) in
-    let later = behind.lines ++ last_line behind.rest in
-    let pins : 0 < console.point.whole.keeper.shape.max_pins =
-    subst (λ (shape : Shape). 0 < shape.max_pins) (sym
-    (run_shape first 1 session.lines session.outputs console.point session.run)) session.pins in
-    let on = runs_some console.point (1 + length session.lines) later pins in
+    let on = runs_some console.point (1 + length session.lines) (behind.lines ++ last_line behind.rest)
+    (rw (run_shape first 1 session.lines session.outputs console.point session.run) session.pins) in
     record {
-      missing = missing ++ concat on.outputs;
-      last = on.last;
+      missing = missing ++ concat on.0;
+      last = on.1;
       answers = record {
         lines = session.lines ++ behind.lines;
         rest = behind.rest;
@@ -129,18 +93,31 @@ answers_part first input output done missing more console part session =
       };
     }
 
--- the same, as what a console finishes with
+-- where nothing is held, the whole input is answered
 pub finishes_empty : (console : ConsoleState) → console.held ≡ Some [] → Finishes console [] console.point
 finishes_empty console held first input before session = search (arith, append-nil)
 
-pub finishes_line : (old new : ConsoleState) (output : List ℕ) → (old.held ≡ Some [] → ⊥)
-    → Prints old.point (old.lines + 1) (command_of_partial_line old.point.more old.held) output new.point
-    → Finishes old output new.point
-finishes_line old new output some prints first input before session = search (arith, last_answered)
-
--- what is pending is apart from what was answered
-pub advances_apart : (old mid new : ConsoleState) (bytes output : List ℕ) → new.point ≡ mid.point → new.held ≡ mid.held
-    → new.lines ≡ mid.lines → Advances old bytes output mid → Advances old bytes output new
-advances_apart old mid new bytes output state_is held_is lines_is advances first input before session =
-    let after = advances first input before session in
-    search arith
+-- a last line without a line feed
+pub finishes_line : (old : ConsoleState) (last : Point) (output : List ℕ) → (old.held ≡ Some [] → ⊥)
+    → Prints old.point (old.lines + 1) (command_of_partial_line old.point.more old.held) output last
+    → Finishes old output last
+finishes_line old last output some prints first input before session =
+    let of_line : Prints old.point (1 + length session.lines) (command_of old.point.more session.rest) output last =
+    search (arith, command_of_capped) in
+    record {
+      lines = session.lines;
+      rest = session.rest;
+      splits = session.splits;
+      answers = record {
+        outputs = session.outputs ++ output ∷ [];
+        run = subst (λ more. Run first 1 (session.lines ++ more) (session.outputs ++ output ∷ []) last)
+            (is_last session.rest session.held)
+            (run-append first 1 session.lines session.outputs old.point (session.rest ∷ [])
+            (output ∷ []) last session.run (last, of_line, refl));
+        whole = search (arith, append-nil, concat-append);
+      };
+    }
+  where
+    is_last : (rest : List ℕ) → old.held ≡ capped rest → rest ∷ [] ≡ last_line rest
+    is_last [] is = absurd (some is)
+    is_last (byte ∷ rest) is = refl

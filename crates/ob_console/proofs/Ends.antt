@@ -1,17 +1,16 @@
 -- The lines of a journal's script are those into which its text is cut.
-use Rattle.std.proofs.Common.{◌≡◌, ℕ, arith, refl, ap, sym, subst, ◌∙◌, List, [], ◌∷◌, ◌++◌, length, length-append, drop, get_or, All}
+use Rattle.std.proofs.Common.{◌≡◌, ℕ, arith, refl, ap, sym, List, [], ◌∷◌, ◌++◌, length, length-append, get_or, All}
 use Rattle.std.specs.Prelude.{◌≢◌}
 use Rattle.std.specs.List.{flat_map}
 use Rattle.std.proofs.lemmas.Bool.{eqb-false, not-true}
 use Rattle.std.proofs.lemmas.List.{append_assoc}
-use Rattle.std.proofs.lemmas.List.Elements.{All-cons, All-tail}
+use Rattle.std.proofs.lemmas.List.Elements.{All-cons, All-nil, All-tail}
 use Rattle.std.proofs.lemmas.List.Sums.{AllPass-from_list_all}
 use Rattle.ob_console.specs.Runs.{IsWithin, with_ends}
-use Rattle.ob_script.specs.Printed.{printed_reply}
 use Rattle.ob_script.proofs.Short.{no_feed}
 use Rattle.ob_shared.specs.declared.book.Entry.{Entry}
-use Rattle.ob_script.specs.Writing.{line_of}
-use Rattle.ob_script.specs.Telling.{asking, comment, is_repeatable, lines_for}
+use Rattle.ob_script.specs.Printed.{printed_reply}
+use Rattle.ob_script.specs.Telling.{comment, is_repeatable, lines_for}
 use Rattle.ob_script.proofs.Within.{HasNone, asking_has, comment_has, reply_has}
 
 -- each entry by its lines
@@ -23,51 +22,36 @@ is_within line has = λ k d within.
     eqb-false (get_or line k d) 10 (not-true _ (AllPass-from_list_all no_feed line has k d within))
 
 pub lines_within : (journal : List Entry) → All IsWithin (lines_in journal)
-lines_within [] = λ k d within. absurd (omega (arith, within))
+lines_within [] = All-nil IsWithin
 lines_within (entry ∷ entries) =
-    All-cons IsWithin ask (say ∷ lines_in entries)
-    (is_within ask (asking_has (is_repeatable entry.call entry.reply) entry.call))
-    (All-cons IsWithin say (lines_in entries) (is_within say
-    (comment_has (printed_reply entry.reply) (reply_has entry.reply))) (lines_within entries))
-  where
-    ask : List ℕ
-    ask = asking (is_repeatable entry.call entry.reply) (line_of entry.call)
-
-    say : List ℕ
-    say = comment (printed_reply entry.reply)
+    let say = comment (printed_reply entry.reply) in
+    All-cons IsWithin _ (say ∷ lines_in entries)
+    (is_within _ (asking_has (is_repeatable entry.call entry.reply) entry.call))
+    (All-cons IsWithin say (lines_in entries)
+    (is_within say (comment_has (printed_reply entry.reply) (reply_has entry.reply))) (lines_within entries))
 
 no_end : (front back : List ℕ) → IsWithin (front ++ 10 ∷ back) → ⊥
 no_end [] back within = within 0 0 (omega arith) refl
 no_end (byte ∷ front) back within = no_end front back (All-tail (λ byte. byte ≢ 10) byte (front ++ 10 ∷ back) within)
 
 cut : (x y a b : List ℕ) → IsWithin x → IsWithin y → x ++ 10 ∷ a ≡ y ++ 10 ∷ b → (x ≡ y) × (a ≡ b)
-cut [] [] a b x_in y_in same = (refl, ap (drop 1) same)
-cut [] (c ∷ y) a b x_in y_in same = absurd (y_in 0 0 (omega arith) (sym (ap (λ l. get_or l 0 0) same)))
-cut (c ∷ x) [] a b x_in y_in same = absurd (x_in 0 0 (omega arith) (ap (λ l. get_or l 0 0) same))
+cut [] [] a b x_in y_in same = (refl, (cc))
+cut [] (c ∷ y) a b x_in y_in same = absurd (y_in 0 0 (omega arith) (cc))
+cut (c ∷ x) [] a b x_in y_in same = absurd (x_in 0 0 (omega arith) (cc))
 cut (c ∷ x) (e ∷ y) a b x_in y_in same =
-    let rest = cut x y a b (All-tail (λ byte. byte ≢ 10) c x x_in) (All-tail (λ byte. byte ≢ 10) e y y_in)
-    (ap (drop 1) same) in
-    (ap (λ h. h ∷ x) (ap (λ l. get_or l 0 0) same) ∙ ap (λ t. e ∷ t) rest.0, rest.1)
+    let rest = cut x y a b (All-tail (λ byte. byte ≢ 10) c x x_in) (All-tail (λ byte. byte ≢ 10) e y y_in) (cc) in
+    ((cc), rest.1)
 
 -- an input is cut into lines in one way
 pub one_cut : (ours theirs : List (List ℕ)) (rest : List ℕ) → All IsWithin ours → All IsWithin theirs → IsWithin rest
     → with_ends ours ≡ with_ends theirs ++ rest → (theirs ≡ ours) × (rest ≡ [])
 one_cut [] [] rest ours_in theirs_in within same = (refl, sym same)
 one_cut [] (y ∷ theirs) rest ours_in theirs_in within same =
-    absurd (omega (
-      arith,
-      ap length same,
-      length-append ((y ++ 10 ∷ []) ++ with_ends theirs) rest,
-      length-append (y ++ 10 ∷ []) (with_ends theirs),
-      length-append y (10 ∷ []),
-    ))
+    absurd (omega (arith, ap length same, length-append {A = ℕ}))
 one_cut (x ∷ ours) [] rest ours_in theirs_in within same =
-    absurd (no_end x (with_ends ours) (subst IsWithin (sym same ∙ append_assoc x (10 ∷ []) (with_ends ours)) within))
+    absurd (no_end x (with_ends ours) (rw (← same, append_assoc x (10 ∷ []) (with_ends ours)) at within))
 one_cut (x ∷ ours) (y ∷ theirs) rest ours_in theirs_in within same =
     let split = cut x y (with_ends ours) (with_ends theirs ++ rest) (ours_in 0 [] (omega arith))
-    (theirs_in 0 [] (omega arith))
-    (sym (append_assoc x (10 ∷ []) (with_ends ours)) ∙ same ∙ append_assoc (y ++ 10 ∷ []) (with_ends theirs) rest
-    ∙ append_assoc y (10 ∷ []) (with_ends theirs ++ rest)) in
-    let more = one_cut ours theirs rest (All-tail IsWithin x ours ours_in)
-    (All-tail IsWithin y theirs theirs_in) within split.1 in
-    (ap (λ h. h ∷ theirs) (sym split.0) ∙ ap (λ t. x ∷ t) more.0, more.1)
+    (theirs_in 0 [] (omega arith)) (simp append_assoc at same) in
+    let more = one_cut ours theirs rest (All-tail IsWithin x ours ours_in) (All-tail IsWithin y theirs theirs_in) within
+    split.1 in ((cc), more.1)

@@ -29,46 +29,43 @@ fed_nothing console block taken = record {
   written = search (arith, append-nil);
 }
 
--- one more line
-pub fed_line : (old now new : ConsoleState) (block rest before taken later output : List ℕ)
-    → IsFed old now block rest before taken → position_or_len (is_byte 10) rest < length rest →
-    Advances now (before_first (is_byte 10) rest ++ line_end) output new
-    → Writes taken later (now.pending.bytes ++ output) new.pending.bytes
-    → IsFed old new block (after_first (is_byte 10) rest) before later
-fed_line old now new block rest before taken later output fed within advances written = record {
-  front = fed.front ++ (before_first (is_byte 10) rest ++ line_end);
-  printed = fed.printed ++ output;
-  whole = search (arith, cut_whole, append_assoc);
-  advances = search (arith, advances_on);
-  written = search (arith, writes_on);
-}
+module _ {old now new : ConsoleState} {block rest before taken later : List ℕ} (output : List ℕ)
+    (fed : IsFed old now block rest before taken) (within : position_or_len (is_byte 10) rest < length rest)
+    (advances : Advances now (before_first (is_byte 10) rest ++ line_end) output new) where
+  -- one more line
+  pub fed_line : Writes taken later (now.pending.bytes ++ output) new.pending.bytes
+      → IsFed old new block (after_first (is_byte 10) rest) before later
+  fed_line written = record {
+    front = fed.front ++ (before_first (is_byte 10) rest ++ line_end);
+    printed = fed.printed ++ output;
+    whole = search (arith, cut_whole, append_assoc);
+    advances = search (arith, advances_on);
+    written = search (arith, writes_on);
+  }
 
--- the sink fails at a line
-pub cut_short : (old now new : ConsoleState) (block rest before taken later output : List ℕ)
-    → IsFed old now block rest before taken → position_or_len (is_byte 10) rest < length rest →
-    Advances now (before_first (is_byte 10) rest ++ line_end) output new
-    → Begins taken later (now.pending.bytes ++ output) → IsCutShort old new block before later
-cut_short old now new block rest before taken later output fed within advances begins = record {
-  front = fed.front ++ (before_first (is_byte 10) rest ++ line_end);
-  rest = after_first (is_byte 10) rest;
-  printed = fed.printed ++ output;
-  whole = search (arith, cut_whole, append_assoc);
-  advances = search (arith, advances_on);
-  written = search (arith, begins_on);
-}
+  -- the sink fails at a line
+  pub cut_short : Begins taken later (now.pending.bytes ++ output) → IsCutShort old new block before later
+  cut_short begins = record {
+    front = fed.front ++ (before_first (is_byte 10) rest ++ line_end);
+    rest = after_first (is_byte 10) rest;
+    printed = fed.printed ++ output;
+    whole = search (arith, cut_whole, append_assoc);
+    advances = search (arith, advances_on);
+    written = search (arith, begins_on);
+  }
 
 -- what comes before the first line feed has none
 pub before_within : (text : List ℕ) → IsWithin (before_first (is_byte 10) text)
 before_within text = search (arith, fails_before_first, get_or-take, length-take)
 
 -- the front of a block and its rest
-pub fed_rest : (old now new : ConsoleState) (block rest before taken : List ℕ) → IsFed old now block rest before taken
+pub fed_rest : {old now new : ConsoleState} {block rest before taken : List ℕ} → IsFed old now block rest before taken
     → Advances now rest [] new → new.pending.bytes ≡ now.pending.bytes → IsFed old new block [] before taken
-fed_rest old now new block rest before taken fed advances same = record {
+fed_rest {rest = rest} fed advances same = record {
   front = fed.front ++ rest;
   printed = fed.printed ++ [];
   whole = append-nil _ ∙ fed.whole;
-  advances = advances_on old now new fed.front rest fed.printed [] fed.advances advances;
+  advances = search (arith, advances_on);
   written = search (arith, append-nil);
 }
 
@@ -81,14 +78,12 @@ pub behind_shorter : (text : List ℕ) → position_or_len (is_byte 10) text < l
     → length (after_first (is_byte 10) text) + 1 ≤ length text
 behind_shorter text within = search (arith, length-drop)
 
--- what was fed is written
-pub fed_written : (old mid new : ConsoleState) (block before taken later : List ℕ) → IsFed old mid block [] before taken
-    → new.point ≡ mid.point → new.held ≡ mid.held → new.lines ≡ mid.lines → new.pending.bytes ≡ []
-    → later ≡ taken ++ mid.pending.bytes → IsFed old new block [] before later
-fed_written old mid new block before taken later fed state_is held_is lines_is empty written = search (arith, append-nil, append_assoc)
+module _ (old mid new : ConsoleState) (block before taken later : List ℕ) (fed : IsFed old mid block [] before taken)
+    (state_is : new.point ≡ mid.point) (held_is : new.held ≡ mid.held) (lines_is : new.lines ≡ mid.lines) where
+  -- what was fed is written
+  pub fed_written : new.pending.bytes ≡ [] → later ≡ taken ++ mid.pending.bytes → IsFed old new block [] before later
+  fed_written empty written = search (arith, append-nil, append_assoc)
 
--- the sink fails while what was fed is written
-pub fed_cut_short : (old mid new : ConsoleState) (block before taken later : List ℕ)
-    → IsFed old mid block [] before taken → new.point ≡ mid.point → new.held ≡ mid.held → new.lines ≡ mid.lines
-    → Begins taken later mid.pending.bytes → IsCutShort old new block before later
-fed_cut_short old mid new block before taken later fed state_is held_is lines_is begins = search (arith, append_assoc)
+  -- the sink fails while what was fed is written
+  pub fed_cut_short : Begins taken later mid.pending.bytes → IsCutShort old new block before later
+  fed_cut_short begins = search (arith, append_assoc)

@@ -1,7 +1,6 @@
 -- What a meeting tells of a slot: its object, where the reader holds something there.
-use Rattle.std.proofs.Common.{arith, ◌≡◌, ℕ, ◌<◌, true, List, Some, None, slice_index_or, sym, refl, subst}
+use Rattle.std.proofs.Common.{arith, ◌≡◌, ◌<◌, true, List, Some, None, slice_index_or, refl}
 use Rattle.pin_core.specs.declared.id.Id.{Id}
-use Rattle.pin_core.specs.declared.shape.Shape.{Shape}
 use Rattle.pin_core.specs.declared.world.Slot.{Slot}
 use Rattle.pin_core.specs.Holds.{tally, same_id}
 use Rattle.pin_core.specs.Safety.{may_be_held}
@@ -15,10 +14,6 @@ use Rattle.ob_store.specs.Objects.{Object}
 use Rattle.ob_store.specs.State.{State, Whole}
 use Rattle.ob_manager.specs.Counting.{card}
 use Rattle.ob_manager.specs.declared.card.Card.{Card}
-
--- a slot of the limits is the keeper's
-pub within : (w : Whole) (slot : ℕ) → IsConsistent w → slot < w.state.limits.slots → slot < w.keeper.shape.slots
-within w slot consistent inside = subst (λ (shape : Shape). slot < shape.slots) (sym consistent.shape) inside
 
 -- the slot as the keeper says it
 abbrev Shows : List Slot → Id → ReaderView → Type 0

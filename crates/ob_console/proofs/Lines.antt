@@ -13,10 +13,6 @@ pub record HasLines (input : List ℕ) : Type 0 where
   pub rest : List ℕ
   pub splits : Splits input lines rest
 
--- a byte that ends no line
-abbrev IsNoEnd : ℕ → Type 0
-IsNoEnd byte = byte ≢ 10
-
 -- a byte before what has lines
 line_before : (byte : ℕ) (bytes : List ℕ) → byte ≡ 10 → (lines : List (List ℕ)) (rest : List ℕ)
     → Splits bytes lines rest → Splits (byte ∷ bytes) ([] ∷ lines) rest
@@ -31,7 +27,7 @@ byte_before byte bytes other (line ∷ lines) rest splits = record {
   splits = record {
     whole = ap (λ more. byte ∷ more) splits.whole;
     each = All-cons IsWithin (byte ∷ line) lines
-        (All-cons IsNoEnd byte line other (All-head IsWithin line lines splits.each))
+        (All-cons (λ b. b ≢ 10) byte line other (All-head IsWithin line lines splits.each))
         (All-tail IsWithin line lines splits.each);
     open_ended = splits.open_ended;
   };
@@ -52,15 +48,14 @@ pub splits_more : (input : List ℕ) (lines : List (List ℕ)) (rest bytes : Lis
 splits_more input lines rest bytes within splits = record {
   whole = search (arith, append_assoc);
   each = splits.each;
-  open_ended = All-append IsNoEnd rest bytes splits.open_ended within;
+  open_ended = All-append (λ b. b ≢ 10) rest bytes splits.open_ended within;
 }
 
 -- the lines of what comes behind, where the open line goes on
 pub splits_on : (input : List ℕ) (lines : List (List ℕ)) (rest bytes : List ℕ) (later : List (List ℕ)) (last : List ℕ)
     → Splits input lines rest → Splits (rest ++ bytes) later last → Splits (input ++ bytes) (lines ++ later) last
 splits_on input lines rest bytes later last splits more = record {
-  whole =
-      search (arith, append_assoc, flat_map-append);
+  whole = search (arith, append_assoc, flat_map-append);
   each = All-append IsWithin lines later splits.each more.each;
   open_ended = more.open_ended;
 }
@@ -70,8 +65,9 @@ pub splits_one : (rest bytes : List ℕ) → IsWithin rest → IsWithin bytes
     → Splits (rest ++ (bytes ++ line_end)) ((rest ++ bytes) ∷ []) []
 splits_one rest bytes within_rest within = record {
   whole = search (arith, append_assoc);
-  each = All-cons IsWithin (rest ++ bytes) [] (All-append IsNoEnd rest bytes within_rest within) (All-nil IsWithin);
-  open_ended = All-nil IsNoEnd;
+  each = All-cons IsWithin (rest ++ bytes) []
+      (All-append (λ b. b ≢ 10) rest bytes within_rest within) (All-nil IsWithin);
+  open_ended = All-nil (λ b. b ≢ 10);
 }
 
 -- nothing has no line

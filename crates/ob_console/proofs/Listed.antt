@@ -48,5 +48,4 @@ row_begun rows row left a b c first pending one two =
 pub head_begun : (rows : Rows) (a c first : List ℕ) → Begins a c (first ++ printed_count (length rows))
     → Begins a c (first ++ printed_names rows)
 head_begun rows a c first begins =
-    subst (λ back. Begins a c back) (append_assoc first (printed_count (length rows)) (flat_map printed_row rows))
-    (begins_more a c (first ++ printed_count (length rows)) (flat_map printed_row rows) begins)
+    rw append_assoc at (begins_more a c (first ++ printed_count (length rows)) (flat_map printed_row rows) begins)

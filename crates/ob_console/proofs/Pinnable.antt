@@ -1,11 +1,14 @@
 -- Every pin may be answered, in any state and whatever is held.
-use Rattle.std.proofs.Common.{◌≡◌, ℕ, suc, ◌<◌, ◌≤◌, Bool, true, false, List, [], ◌∷◌, length, nat_lt, slice_index_or, refl, sym, subst, arith}
+use Rattle.std.proofs.Common.{◌≡◌, ℕ, suc, List, [], ◌∷◌, length, slice_index_or, refl, inl, inr, arith}
+use Rattle.std.proofs.lemmas.Bool.{cases_lt}
+use Rattle.std.proofs.lemmas.List.Sums.{count_by-le-length}
 use Rattle.std.specs.Prelude.{Result, Err}
 use Rattle.pin_core.specs.declared.id.Id.{Id}
 use Rattle.pin_core.specs.declared.descr.Descr.{Descr}
 use Rattle.pin_core.specs.declared.word.Word.{Word}
 use Rattle.pin_core.specs.Holds.{tally}
 use Rattle.pin_core.specs.Words.{decoded, encoded}
+use Rattle.pin_core.proofs.Counts.{tally-count}
 use Rattle.pin_words.specs.declared.fault.Verdict.{Verdict}
 use Rattle.pin_words.specs.declared.fault.Verdict.TheVariants.{Unborn, Stale, PinsFull, Go}
 use Rattle.pin_words.specs.declared.fault.PinFault.{PinFault}
@@ -14,13 +17,8 @@ use Rattle.pin_words.specs.Verdicts.{verdict_of}
 use Rattle.pin_words.specs.declared.view.Look.{Look}
 use Rattle.pin_words.specs.Views.{is_of_slot, look}
 use Rattle.ob_store.specs.State.{State}
-use Rattle.ob_console.specs.Pinning.{Finds, IsWord, Judged, Pins, phase_at}
-
-pub record CanPin (s : State) (held : List Id) (looks : List Look) (id : Id) : Type 0 where
-  pub answer : Result Descr PinFault
-  pub next : List Id
-  pub looks' : List Look
-  pub pins : Pins s held looks id answer next looks'
+use Rattle.ob_console.specs.Pinning.{Finds, Judged, Pins, phase_at}
+use Rattle.ob_console.proofs.Attempting.{no_slot}
 
 -- a word that the slot may have: nobody else pins it
 abbrev some_word : State → List Id → ℕ → Word
@@ -30,85 +28,48 @@ some_word s held slot = record {
   pins = tally (is_of_slot slot) held;
 }
 
-record CanJudge (verdict : Verdict) (Found : ℕ → Type 0) (n : ℕ) (s : State) (held : List Id) (id : Id)
-    : Type 0 where
-  pub answer : Result Descr PinFault
-  pub next : List Id
-  pub judged : Judged verdict Found n s held id answer next
-
 -- where the word lets it be pinned, it may be busy
 can_judge : (verdict : Verdict) (Found : ℕ → Type 0) (n : ℕ) (s : State) (held : List Id) (id : Id) → Found (suc n)
-    → CanJudge verdict Found n s held id
-can_judge Unborn Found n s held id later = search arith
-can_judge Stale Found n s held id later = search arith
-can_judge PinsFull Found n s held id later = search arith
-can_judge Go Found n s held id later = record {
-  answer = Err (fault.Busy (decoded (suc n)));
-  next = held;
-  judged = search arith;
-}
+    → (answer : Result Descr PinFault) × Judged verdict Found n s held id answer held
+can_judge Unborn Found n s held id later = (Err fault.Unborn, (refl, refl))
+can_judge Stale Found n s held id later = (Err fault.Stale, (refl, refl))
+can_judge PinsFull Found n s held id later = (Err fault.PinsFull, (refl, refl))
+can_judge Go Found n s held id later = (Err (fault.Busy (decoded (suc n))), search arith)
 
-counted : (p : Id → Bool) (held : List Id) → tally p held ≤ length held
-counted p [] = omega arith
-counted p (id ∷ held) = search (arith, counted p held)
-
-pub can_pin : (s : State) (held : List Id) (looks : List Look) (id : Id) → CanPin s held looks id
-can_pin s held looks id = by_slot (nat_lt id.slot s.limits.slots) refl
-  where
-    by_room : id.slot < s.limits.slots → (b : Bool) → nat_lt (length held) 16 ≡ b → CanPin s held looks id
-    by_room inside true e =
-        let room : length held < 16 = grind arith in
-        let word : Word = some_word s held id.slot in
-        let n : ℕ = encoded word in
-        let read : decoded n ≡ word =
-        search (arith, counted) in
+-- an answer, with which no copy more is held
+pub can_pin : (s : State) (held : List Id) (looks : List Look) (id : Id)
+    → (answer : Result Descr PinFault) × (looks' : List Look) × Pins s held looks id answer held looks'
+can_pin s held looks id = elim (cases_lt id.slot s.limits.slots) [
+  | inl inside ↦ elim (cases_lt (length held) 16) [
+    | inl room ↦
+        let n : ℕ = encoded (some_word s held id.slot) in
+        let few = rw (tally-count (is_of_slot id.slot) held) at (count_by-le-length (is_of_slot id.slot) held) in
+        let read : decoded n ≡ some_word s held id.slot = search arith in
         let found : List Look = look id.slot (suc n) ∷ look id.slot n ∷ looks in
-        let j = can_judge (verdict_of s.limits.max_pins id (decoded n)) (Finds id.slot looks found) n s held id
-        ([], look id.slot n ∷ [], refl) in
-        record {
-          answer = j.answer;
-          next = j.next;
-          looks' = found;
-          pins = record {
-            no_slot = λ out. absurd (let c : ⊥ = omega arith in c);
-            full = λ _ many. absurd (let c : ⊥ = omega arith in c);
+        let judged = can_judge (verdict_of s.limits.max_pins id (decoded n)) (Finds id.slot looks found) n s held id
+        ([], look id.slot n ∷ [], refl) in (
+          judged.0,
+          found,
+          record {
+            no_slot = λ out. absurd (omega arith);
+            full = λ _ many. absurd (omega arith);
             tried = λ _ _. (
               n,
               (look id.slot (suc n) ∷ [], [], refl),
-              subst (IsWord s held id.slot) (sym read) (record {
-                generation = refl;
-                phase = refl;
-                pins = (let c : tally (is_of_slot id.slot) held ≤ tally (is_of_slot id.slot) held = omega arith in c);
-                room = λ few. few;
-              }),
-              j.judged,
+              rw read (record { generation = refl; phase = refl; pins = omega arith; room = λ few. few }),
+              judged.1,
             );
-          };
-        }
-    by_room inside false e =
-        let many : 16 ≤ length held = grind arith in
-        record {
-          answer = Err fault.HeldFull;
-          next = held;
-          looks' = looks;
-          pins = record {
-            no_slot = λ out. absurd (let c : ⊥ = omega arith in c);
-            full = λ _ _. (refl, refl);
-            tried = λ _ few. absurd (let c : ⊥ = omega arith in c);
-          };
-        }
-
-    by_slot : (b : Bool) → nat_lt id.slot s.limits.slots ≡ b → CanPin s held looks id
-    by_slot true e = by_room (grind arith) (nat_lt (length held) 16) refl
-    by_slot false e =
-        let out : s.limits.slots ≤ id.slot = grind arith in
-        record {
-          answer = Err fault.NoSuchSlot;
-          next = held;
-          looks' = looks;
-          pins = record {
-            no_slot = λ _. (refl, refl);
-            full = λ inside _. absurd (let c : ⊥ = omega arith in c);
-            tried = λ inside _. absurd (let c : ⊥ = omega arith in c);
-          };
-        }
+          },
+        )
+    | inr many ↦ (
+      Err fault.HeldFull,
+      looks,
+      record {
+        no_slot = λ out. absurd (omega arith);
+        full = λ _ _. (refl, refl);
+        tried = λ _ few. absurd (omega arith);
+      },
+    )
+  ]
+  | inr out ↦ (Err fault.NoSuchSlot, looks, no_slot s held looks id out)
+]

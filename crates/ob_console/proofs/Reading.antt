@@ -20,109 +20,78 @@ pub record IsReading (first : Point) (console : ConsoleState)
   pub session : Session first input output console
 
 -- what a run did of its input and output
-pub record HasRun (P : List ℕ → List ℕ → Type 0) (given_before given taken_before taken : List ℕ) : Type 0 where
-  pub input : List ℕ
-  pub output : List ℕ
-  pub read : given ≡ given_before ++ input
-  pub wrote : taken ≡ taken_before ++ output
-  pub answers : P input output
+abbrev pub HasRun : (List ℕ → List ℕ → Type 0) → List ℕ → List ℕ → List ℕ → List ℕ → Type 0
+HasRun P given_before given taken_before taken = (input output : List ℕ) × (given ≡ given_before ++ input)
+    × (taken ≡ taken_before ++ output) × P input output
 
 pub reading_begins : (console : ConsoleState) (given taken : List ℕ) → IsReady console
     → IsReading console.point console given given taken taken
 reading_begins console given taken ready = search (arith, append-nil, session_begins)
 
--- a read gave a block, which is answered
-pub reading_on : (first : Point) (old new : ConsoleState)
-    (given_before given more block taken_before taken later : List ℕ)
-    → IsReading first old given_before given taken_before taken → more ≡ given ++ block →
-    old.pending.bytes ≡ [] → new.pending.bytes ≡ [] → IsFed old new block [] taken later
-    → IsReading first new given_before more taken_before later
-reading_on first old new given_before given more block taken_before taken later reading read empty done fed = search (arith, append_assoc, append-nil)
+module _ {first : Point} {console : ConsoleState} {given_before given taken_before taken : List ℕ}
+    (reading : IsReading first console given_before given taken_before taken) where
+  -- a read gave nothing
+  pub reading_same : (more : List ℕ) → more ≡ given ++ [] → IsReading first console given_before more taken_before taken
+  reading_same more read = search (arith, append-nil)
 
--- a read gave nothing
-pub reading_same : (first : Point) (console : ConsoleState) (given_before given more taken_before taken : List ℕ)
-    → IsReading first console given_before given taken_before taken → more ≡ given ++ []
-    → IsReading first console given_before more taken_before taken
-reading_same first console given_before given more taken_before taken reading read = search (arith, append-nil)
+  -- reading ends by a fault
+  pub reading_fails : HasRun (AnswersLines first) given_before given taken_before taken
+  reading_fails = search (arith, answers_lines)
 
--- reading ends by a fault
-pub reading_fails : (first : Point) (console : ConsoleState) (given_before given taken_before taken : List ℕ)
-    → IsReading first console given_before given taken_before taken
-    → HasRun (AnswersLines first) given_before given taken_before taken
-reading_fails first console given_before given taken_before taken reading = search (arith, answers_lines)
+  module _ (empty : console.pending.bytes ≡ []) {more later : List ℕ} where
+    -- a read gave a block, which is answered
+    pub reading_on : {new : ConsoleState} {block : List ℕ} → more ≡ given ++ block → new.pending.bytes ≡ []
+        → IsFed console new block [] taken later → IsReading first new given_before more taken_before later
+    reading_on read done fed = search (arith, append_assoc, append-nil)
 
--- writing fails in a block
-pub writing_fails : (first : Point) (old new : ConsoleState)
-    (given_before given more block taken_before taken later : List ℕ)
-    → IsReading first old given_before given taken_before taken → more ≡ given ++ block →
-    old.pending.bytes ≡ [] → IsCutShort old new block taken later
-    → HasRun (AnswersPart first) given_before more taken_before later
-writing_fails first old new given_before given more block taken_before taken later reading read empty short =
-    let begins = short.written in
-    let session = short.advances first reading.input reading.output reading.session in
-    let part : (reading.output ++ begins.1.done) ++ begins.0 ≡ reading.output ++ short.printed =
-    search (arith, append_assoc) in
-    record {
-      input = (reading.input ++ short.front) ++ short.rest;
-      output = reading.output ++ begins.1.done;
-      read = search (arith, append_assoc);
-      wrote = search (arith, append_assoc);
-      answers = search (arith, answers_part);
-    }
+    -- writing fails in a block
+    pub writing_fails : {new : ConsoleState} {block : List ℕ} → more ≡ given ++ block
+        → IsCutShort console new block taken later → HasRun (AnswersPart first) given_before more taken_before later
+    writing_fails read short =
+        let begins = short.written in
+        let session = short.advances first reading.input reading.output reading.session in
+        let part : (reading.output ++ begins.1.done) ++ begins.0 ≡ reading.output ++ short.printed =
+        search (arith, append_assoc) in (
+          (reading.input ++ short.front) ++ short.rest,
+          reading.output ++ begins.1.done,
+          search (arith, append_assoc),
+          search (arith, append_assoc),
+          search (arith, answers_part),
+        )
 
--- the input ends
-pub reading_ends : (first : Point) (console : ConsoleState)
-    (given_before given more taken_before taken later printed : List ℕ) (last : Point)
-    → IsReading first console given_before given taken_before taken → more ≡ given ++ [] →
-    console.pending.bytes ≡ [] → Finishes console printed last
-    → Writes taken later (console.pending.bytes ++ printed) []
-    → HasRun (λ input output. AnswersTo first input output last) given_before more taken_before later
-reading_ends first console given_before given more taken_before taken later printed last reading read empty finishes
-    writes = search (arith, append_assoc, append-nil)
+    module _ {printed : List ℕ} {last : Point} (read : more ≡ given ++ [])
+        (finishes : Finishes console printed last) where
+      -- the input ends
+      pub reading_ends : Writes taken later (console.pending.bytes ++ printed) []
+          → HasRun (λ input output. AnswersTo first input output last) given_before more taken_before later
+      reading_ends writes = search (arith, append_assoc, append-nil)
 
--- writing fails at the end
-pub ending_fails : (first : Point) (console : ConsoleState)
-    (given_before given more taken_before taken later printed : List ℕ) (last : Point)
-    → IsReading first console given_before given taken_before taken → more ≡ given ++ [] →
-    console.pending.bytes ≡ [] → Finishes console printed last
-    → Begins taken later (console.pending.bytes ++ printed)
-    → HasRun (AnswersPart first) given_before more taken_before later
-ending_fails first console given_before given more taken_before taken later printed last reading read empty finishes
-    begins = record {
-      input = reading.input;
-      output = reading.output ++ begins.1.done;
-      read = read ∙ append-nil given ∙ reading.read;
-      wrote = search (arith, append_assoc);
-      answers = record {
-        missing = begins.0;
-        last = last;
-        answers = search (arith, append_assoc);
-      };
-    }
+      -- writing fails at the end
+      pub ending_fails : Begins taken later (console.pending.bytes ++ printed)
+          → HasRun (AnswersPart first) given_before more taken_before later
+      ending_fails begins = (
+        reading.input,
+        reading.output ++ begins.1.done,
+        read ∙ append-nil given ∙ reading.read,
+        search (arith, append_assoc),
+        record { missing = begins.0; last = last; answers = search (arith, append_assoc) },
+      )
 
 -- a whole script came as one block
-pub reading_whole : (old new : ConsoleState) (script taken later : List ℕ) → IsReady old → new.pending.bytes ≡ []
+pub reading_whole : {old new : ConsoleState} {script taken later : List ℕ} → IsReady old → new.pending.bytes ≡ []
     → IsFed old new script [] taken later → IsReading old.point new [] script taken later
-reading_whole old new script taken later ready done fed =
-    reading_on old.point old new [] [] script script taken taken later (reading_begins old [] taken ready) refl
-    ready.pending done fed
+reading_whole ready done fed = reading_on (reading_begins _ [] _ ready) ready.pending refl done fed
 
 -- it is answered, or the beginning of its answers is written
-pub record HasAnswered (P : List ℕ → List ℕ → Type 0) (script taken_before taken : List ℕ) : Type 0 where
-  pub output : List ℕ
-  pub wrote : taken ≡ taken_before ++ output
-  pub answers : P script output
-
-pub answered : (P : List ℕ → List ℕ → Type 0) (script taken_before taken : List ℕ)
-    → HasRun P [] script taken_before taken → HasAnswered P script taken_before taken
-answered P script taken_before taken run = search arith
+pub answered : {P : List ℕ → List ℕ → Type 0} {script : List ℕ} (taken_before : List ℕ) {taken : List ℕ}
+    → HasRun P [] script taken_before taken → (output : List ℕ) × (taken ≡ taken_before ++ output) × P script output
+answered taken_before run = (run.1, run.3, rw run.2 run.4)
 
 -- a run that is cut short, by how it began
 pub cut_from : (fault : RunFault) (Begins : Point → Type 0) (first last : Point) (input output : List ℕ)
     → Begins first → Ends (Err fault) first input output last → IsCut fault Begins input output
-cut_from Read Begins first last input output begins ends = (first, begins, ends)
-cut_from Write Begins first last input output begins ends = (first, begins, ends)
 cut_from Memory Begins first last input output begins ends = absurd ends
+cut_from fault Begins first last input output begins ends = (first, begins, ends)
 
 pub run_ended : (r : Result (Unit {0}) RunFault) (more : Bool) (limits : Limits) (first last : Point)
     (input output : List ℕ) → IsOpening more limits first → Ends r first input output last

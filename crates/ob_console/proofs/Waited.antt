@@ -1,6 +1,7 @@
 -- A wait for the first 65 of its handles is answered as the whole: one for more than 64 is refused, and any other
 -- keeps all.
-use Rattle.std.proofs.Common.{◌≡◌, ℕ, ◌<◌, List, Bool, true, false, Err, refl, ap, arith, length, take, ltb}
+use Rattle.std.proofs.Common.{◌≡◌, ℕ, ◌<◌, List, Err, arith, length, take, inl, inr}
+use Rattle.std.proofs.lemmas.Bool.{cases_lt}
 use Rattle.std.proofs.lemmas.List.{length-take-le, take_all}
 use Rattle.std.specs.Prelude.{Result}
 use Rattle.ob_rights.specs.declared.fault.Fault.TheVariants as fault
@@ -14,7 +15,7 @@ use Rattle.ob_manager.specs.Checks.{caller}
 use Rattle.ob_manager.specs.Waiting.{wait}
 use Rattle.ob_manager.specs.Steps.{Step, does, closes, lacks}
 use Rattle.ob_script.specs.declared.output.NotWritten.{NotWritten}
-use Rattle.ob_script.specs.Commands.{Command, Asks, Nothing, shortened}
+use Rattle.ob_script.specs.Commands.{Command, Asks, shortened}
 use Rattle.ob_console.specs.Runs.{Point, Prints}
 use Rattle.ob_console.specs.Sessions.{Enacts, Evaluation}
 
@@ -24,19 +25,15 @@ refused s thread mode timeout handles long = search arith
 
 beginning_waits : (s : State) (thread : ℕ) (mode : Mode) (timeout : Timeout) (handles : List ℕ)
     → wait s thread mode timeout (take 65 handles) ≡ wait s thread mode timeout handles
-beginning_waits s thread mode timeout handles = by (ltb 64 (length handles)) refl
-  where
-    by : (long : Bool) → ltb 64 (length handles) ≡ long
-        → wait s thread mode timeout (take 65 handles) ≡ wait s thread mode timeout handles
-    by true is =
-        let long : 64 < length handles = grind arith in
-        let part : 64 < length (take 65 handles) = omega (arith, length-take-le 65 handles (omega arith)) in
-        search (arith, refused)
-    by false is = ap (wait s thread mode timeout) (take_all 65 handles (grind arith))
+beginning_waits s thread mode timeout handles = elim (cases_lt 64 (length handles)) [
+  | inl long ↦
+      let part : 64 < length (take 65 handles) = omega (arith, length-take-le 65 handles (omega arith)) in
+      search (arith, refused)
+  | inr few ↦ rw (take_all 65 handles (omega arith))
+]
 
 step_of_beginning : (w : Whole) (thread : ℕ) (mode : Mode) (timeout : Timeout) (handles : List ℕ) (reply : Reply)
-    (v : Whole) →
-    Step w (calls.WaitFor thread mode timeout (take 65 handles)) reply v
+    (v : Whole) → Step w (calls.WaitFor thread mode timeout (take 65 handles)) reply v
     → Step w (calls.WaitFor thread mode timeout handles) reply v
 step_of_beginning w thread mode timeout handles reply v (does comes keeps) = search (arith, beginning_waits)
 step_of_beginning w thread mode timeout handles reply v (closes is comes keeps) = search arith
@@ -44,9 +41,15 @@ step_of_beginning w thread mode timeout handles reply v (lacks takes there lack 
 
 prints_whole : (p : Point) (number : ℕ) (act : Command) (output : List ℕ) (q : Point)
     → Prints p number (shortened act) output q → Prints p number act output q
-prints_whole p number (Asks (calls.WaitFor thread mode timeout handles)) output q (reply, step, looks, spares, held, is, more) =
-    search (arith, step_of_beginning)
-prints_whole p number Nothing output q prints = prints
+prints_whole p number (Asks (calls.WaitFor thread mode timeout handles)) output q prints = (
+  prints.0,
+  step_of_beginning p.whole thread mode timeout handles prints.0 q.whole prints.1,
+  prints.2,
+  prints.3,
+  prints.4,
+  prints.5,
+  prints.6,
+)
 prints_whole p number act output q prints = prints
 
 -- what is answered where the first 65 handles of a wait were read is what the line is answered

@@ -1,7 +1,5 @@
-use Rattle.std.proofs.Common.{◌<◌, ap, subst, ◌∙◌, arith}
+use Rattle.std.proofs.Common.{◌<◌, ap, ◌∙◌, arith}
 use Rattle.pin_core.specs.declared.shape.Shape.{Shape}
-use Rattle.ob_store.specs.Meetings.{IsMet}
-use Rattle.ob_store.specs.State.{Whole}
 use Rattle.ob_console.proofs.Attempting.{pins}
 use Rattle.ob_console.proofs.pinning.pin.Goals as goal
 
@@ -9,8 +7,6 @@ pub returns-clause-pins : goal.returns-clause-pins
 returns-clause-pins c =
     let slots = ap (λ (shape : Shape). shape.slots) (c.shape.ensures.view ∙ c.same_shape.ensures) in
     let inside : c.args.id.slot < c.args.manager.now.state.limits.slots = omega arith in
-    pins c.args.manager.now c.args.reader.now.view c.meet.new.reader.view c.try_descr-answer.new.reader.view
-    c.meet-2.new.reader.view c.args.id c.try_descr-answer.result
+    pins c.args.manager.now c.args.reader.now.view _ _ c.meet-2.new.reader.view c.args.id _
     c.kept.ensures c.same_shape.ensures inside c.meet.ensures.look c.try_descr-answer.ensures.attempts
-    (subst (λ (whole : Whole). IsMet whole.keeper c.try_descr-answer.new.reader.view c.args.id.slot
-    c.meet-2.new.reader.view) c.meet.ensures.same c.meet-2.ensures.look)
+    (rw c.meet.ensures.same at c.meet-2.ensures.look)
