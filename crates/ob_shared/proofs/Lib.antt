@@ -3,5 +3,4 @@ pub mod Journals
 pub mod LaneLists
 pub mod Numbers
 pub mod Parts
-pub mod Room
 pub mod Blocking

@@ -3,5 +3,8 @@ use Rattle.ob_shared.proofs.Numbers.{risen_more}
 use Rattle.ob_shared.proofs.closing.rise.Goals as goal
 
 pub loop-lane-preserved : goal.loop-lane-preserved
-loop-lane-preserved c = risen_more c.args.lanes.now c.loop-lane.lane-index c.lane-item.result c.loop-lane.least _
-    (search rules) (search rules) (search rules) (search rules) (search rules)
+loop-lane-preserved c = search (
+  rules,
+  risen_more c.args.lanes.now c.loop-lane.lane-index c.lane-item.result
+      c.loop-lane.least,
+)

@@ -1,6 +1,5 @@
-use Rattle.std.proofs.Common.{rules, []}
-use Rattle.ob_shared.specs.Members.{between}
-use Rattle.ob_shared.proofs.Going.{goes_on, passed_more, run_stopped, run_whole, told_more}
+use Rattle.std.proofs.Common.{below_more, rules}
+use Rattle.ob_shared.proofs.Going.{goes_on, run_stopped, run_whole, told_more}
 use Rattle.ob_shared.proofs.member.run.Goals as goal
 
 pub loop-place-preserved : goal.loop-place-preserved
@@ -9,8 +8,7 @@ loop-place-preserved g c = (
   search rules,
   search rules,
   search rules,
-  passed_more (g.G.Passage.may_answer c.args.gate.now c.args.member.now.lane.number) c.loop-place.place (search rules)
-      (search rules),
+  below_more _ _ c.loop-place.invariant.4 (search rules),
   search (rules, told_more),
   search (rules, goes_on),
 )
@@ -28,10 +26,6 @@ returns g c = record {
   waits = c.loop-place.waits.items;
   script = search rules;
   number = search rules;
-  run = run_whole (g.G.Passage.may_answer c.args.gate.now c.args.member.now.lane.number)
-      (g.G.Passage.is_told c.args.gate.now c.args.member.now.lane.number)
-      c.args.member.now.script.items c.loop-place.place c.loop-place.member.seen.items
-      (between c.args.member.now.lane [] c.args.member.now.reader)
-      (between c.loop-place.member.lane c.loop-place.waits.items c.loop-place.member.reader)
-      (search rules) c.loop-place.invariant.4 c.loop-place.invariant.5 c.loop-place.invariant.6;
+  run = run_whole _ _ _ c.loop-place.place _ _ _ (search rules) c.loop-place.invariant.4 c.loop-place.invariant.5
+      c.loop-place.invariant.6;
 }
