@@ -21,10 +21,8 @@ goes_more (b ∷ acts) [] a x s t u go new = absurd go
 pub goes_on : (script : List Act) (i : ℕ) (a : Act) (xs : List Seen) (x : Seen) (s t u : Between) → i < length script
     → a ≡ get_or script i a → Goes (take i script) xs s t → ActAnswered a x t u
     → Goes (take (i + 1) script) (xs ++ x ∷ []) s u
-goes_on script i a xs x s t u inside at go new = rw (
-  take_more script i a inside,
-  ← at,
-) (goes_more (take i script) xs a x s t u go new)
+goes_on script i a xs x s t u inside at go new =
+    rw (take_more script i a inside, ← at) (goes_more (take i script) xs a x s t u go new)
 
 pub told_none : (told : GateTold) → AreTold told []
 told_none told = record { at = λ place d inside. absurd (omega (arith, inside)) }

@@ -48,13 +48,13 @@ differ_part k js xs i p room same differs =
     })
 
 -- the list has more than the journal
-pub differ_end : (k : ℕ) (js xs : List Entry) (i p : ℕ) → i ≡ length js → p < length xs → take p xs ≡ part k (take i js)
+pub differ_end : (i k : ℕ) (js xs : List Entry) (p : ℕ) → i ≡ length js → p < length xs → take p xs ≡ part k (take i js)
     → DifferAt xs (part k js) p
-differ_end k js xs i p ends room same = differ_part k js xs i p (omega (arith, room)) same
+differ_end i k js xs p ends room same = differ_part k js xs i p (omega (arith, room)) same
     (rw (ends, drop-length js) (λ none. grind (arith, slice_get_cases xs p)))
 
 -- one entry more of the journal
-module _ (k : ℕ) (js xs : List Entry) (i p : ℕ) (e : Entry) (inside : i < length js) (is : e ≡ get_or js i e)
+module _ (i : ℕ) (e : Entry) (k : ℕ) (js xs : List Entry) (p : ℕ) (inside : i < length js) (is : e ≡ get_or js i e)
     (old : take p xs ≡ part k (take i js)) where
   -- it is another lane's
   pub part_other : e.lane ≢ k → take p xs ≡ part k (take (i + 1) js)
@@ -66,14 +66,8 @@ module _ (k : ℕ) (js xs : List Entry) (i p : ℕ) (e : Entry) (inside : i < le
   part_found own found =
       let within = slice_get_within xs p e found in (
         omega (arith, within),
-        rw (
-          take_more js i e inside,
-          take_more xs p e within,
-          ← is,
-          get_or_from_slice_get xs p e e found,
-          part_snoc k (take i js) e own,
-          old,
-        ) refl,
+        rw (take_more js i e inside, take_more xs p e within, ← is)
+            (rw (get_or_from_slice_get xs p e e found, part_snoc k (take i js) e own, old)),
       )
 
   -- it is the lane's, and not what its list has next
@@ -87,7 +81,7 @@ pub read_other : (first : ℕ) (lanes : List LaneState) (js : List Entry) (read 
     → ((k : ℕ) → k < length lanes → e.lane ≢ first + k) → HaveRead first lanes (take i js) read
     → HaveRead first lanes (take (i + 1) js) read
 read_other first lanes js read i e inside is off old k d within =
-    part_other (first + k) js (get_or lanes k d).list i (get_or read k 0) e inside is (old k d within) (off k within)
+    part_other i e (first + k) js (get_or lanes k d).list (get_or read k 0) inside is (old k d within) (off k within)
 
 -- one entry more, which is the next one of a lane's list
 pub read_next : (first : ℕ) (lanes : List LaneState) (js : List Entry) (read : List ℕ) (i place : ℕ) (e : Entry)
@@ -98,10 +92,10 @@ pub read_next : (first : ℕ) (lanes : List LaneState) (js : List Entry) (read :
     (set read place (get_or read place 0 + 1))
 read_next first lanes js read i place e lane inside is within room own of next old k d below = elim (cases_eq k place) [
   | inl same ↦ rw (same, get_or-set_same read place (get_or read place 0 + 1) 0 (omega (arith, within, room)))
-      (part_found (first + place) js (get_or lanes place d).list i (get_or read place 0) e inside is
+      (part_found i e (first + place) js (get_or lanes place d).list (get_or read place 0) inside is
       (old place d within) own (rw (of ∙ get_or_default lanes place lane d within) at next)).1
   | inr other ↦ rw (get_or-set_other read place k (get_or read place 0 + 1) 0 other)
-      (part_other (first + k) js (get_or lanes k d).list i (get_or read k 0) e inside is (old k d below)
+      (part_other i e (first + k) js (get_or lanes k d).list (get_or read k 0) inside is (old k d below)
       (λ (q : e.lane ≡ first + k). other (omega (arith, q, own))))
 ]
 

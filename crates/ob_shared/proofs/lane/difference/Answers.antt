@@ -4,25 +4,20 @@ use Rattle.ob_shared.proofs.lane.difference.Goals.{then-entry-number+else-not-ha
 use Rattle.ob_shared.proofs.lane.difference.Goals as goal
 
 pub returns-then-not-has_at-clause-found : goal.returns-then-not-has_at-clause-found
-returns-then-not-has_at-clause-found c = search (
-  rules,
-  differ_next c.args.number c.args.journal.now c.args.list.now
-      c.loop-entry.entry-index c.loop-entry.place c.entry-item.result,
-)
+returns-then-not-has_at-clause-found c =
+    let next = differ_next c.loop-entry.entry-index c.entry-item.result c.args.number c.args.journal.now
+    c.args.list.now c.loop-entry.place in search (rules, next)
 
 pub loop-entry-preserved : goal.loop-entry-preserved
-loop-entry-preserved c = elim c.if-entry-number.branch [
-  | then-entry-number+else-not-has_at w ↦ rw w.place-is (search (
-    rules,
-    part_found c.args.number c.args.journal.now
-        c.args.list.now c.loop-entry.entry-index c.loop-entry.place c.entry-item.result,
-  ))
-  | else-entry-number w ↦ (search rules, search (rules, part_other))
-]
+loop-entry-preserved c =
+    let found = part_found c.loop-entry.entry-index c.entry-item.result c.args.number c.args.journal.now
+    c.args.list.now c.loop-entry.place in
+    elim c.if-entry-number.branch [
+      | then-entry-number+else-not-has_at w ↦ rw w.place-is (search (rules, found))
+      | else-entry-number w ↦ (search rules, search (rules, part_other))
+    ]
 
 pub returns-then-place-list-clause-found : goal.returns-then-place-list-clause-found
-returns-then-place-list-clause-found c = search (
-  rules,
-  differ_end c.args.number c.args.journal.now c.args.list.now
-      c.loop-entry.entry-index c.loop-entry.place,
-)
+returns-then-place-list-clause-found c =
+    let end = differ_end c.loop-entry.entry-index c.args.number c.args.journal.now c.args.list.now c.loop-entry.place in
+    search (rules, end)
