@@ -1,14 +1,7 @@
 -- A console advances line by line, and what it has written is the beginning of an answer to its input.
-use Rattle.std.proofs.Common.{◌≡◌, ℕ, ◌+◌, List, [], ◌∷◌, ◌++◌, length, Some, refl, subst, arith}
-use Rattle.std.specs.List.{concat}
-use Rattle.std.proofs.lemmas.List.{append_assoc, append-nil, length-append}
+use Rattle.ob_console.proofs.Cited.{◌≡◌, ℕ, ◌+◌, List, [], ◌∷◌, ◌++◌, length, Some, refl, subst, arith, concat, append_assoc, append-nil, length-append, Command, command_of, line_end, Point, Prints, Run, IsWithin, AnswersLines, AnswersPart, last_line, ConsoleState, IsReady, Session, Advances, Finishes}
 use Rattle.std.proofs.lemmas.List.Folds.{concat-append}
-use Rattle.ob_script.specs.Commands.{Command}
-use Rattle.ob_script.specs.Grammar.{command_of}
-use Rattle.ob_script.specs.Printed.{line_end}
-use Rattle.ob_console.specs.Runs.{Point, Prints, Run, IsWithin, AnswersLines, AnswersPart, last_line}
 use Rattle.ob_script.specs.PartialLines.{capped, extended_line, command_of_partial_line}
-use Rattle.ob_console.specs.Sessions.{ConsoleState, IsReady, Session, Advances, Finishes}
 use Rattle.ob_script.proofs.Texts.{command_of_capped, more_capped}
 use Rattle.ob_console.proofs.Lines.{has_lines, splits_more, splits_nothing, splits_on, splits_one}
 use Rattle.ob_console.proofs.Going.{run-append, run_shape, runs_some}

@@ -1,31 +1,13 @@
 -- Every call may be answered, in any state whose slots may be pinned at all, and whatever a reader holds.
-use Rattle.std.proofs.Common.{◌≡◌, ◌⊎◌, inl, inr, ℕ, ◌<◌, List, ◌∷◌, true, None, Result, Ok, Err, refl, ap, arith}
-use Rattle.std.specs.Prelude.{nat_le, slice_index_or}
-use Rattle.std.proofs.lemmas.Bool.{cases_Bool}
-use Rattle.pin_core.specs.declared.id.Id.{Id}
+use Rattle.ob_console.proofs.Cited.{◌≡◌, ◌⊎◌, inl, inr, ℕ, ◌<◌, List, ◌∷◌, true, None, Result, Ok, Err, refl, ap, arith, nat_le, slice_index_or, cases_Bool, Id, decoded, encoded, slot_of, Reclaim, look, Whole, settled, Reply, Reaped, Refused, Outcome, ◌>>=◌, refuse_if, IfReap, if_ended, reap, Step, does, outcome_of, takes_memory, final, KeeperAfter, Looks, Spares}
 use Rattle.pin_core.specs.declared.word.Word.{Word}
-use Rattle.pin_core.specs.Words.{decoded, encoded}
-use Rattle.pin_core.specs.Worlds.{slot_of}
-use Rattle.pin_words.specs.declared.pin_keeper.Reclaim.{Reclaim}
 use Rattle.pin_words.specs.declared.pin_keeper.Reclaim.TheVariants as reclaim
 use Rattle.pin_words.specs.Keepers.{KeeperState, ReclaimsFound, with_looks}
-use Rattle.pin_words.specs.Views.{look}
 use Rattle.ob_rights.specs.declared.fault.Fault.{Fault}
 use Rattle.ob_rights.specs.declared.fault.Fault.TheVariants as fault
-use Rattle.ob_rights.specs.declared.kind.Kind.TheVariants as kind
-use Rattle.ob_body.specs.Body.{post_answer}
-use Rattle.ob_store.specs.State.{Whole, settled}
 use Rattle.ob_store.specs.Moves.{after_reclaim}
 use Rattle.ob_manager.specs.Calls.{Call}
 use Rattle.ob_manager.specs.declared.call.CallOf.TheVariants as calls
-use Rattle.ob_manager.specs.declared.reply.Reply.{Reply}
-use Rattle.ob_manager.specs.declared.reply.Reply.TheVariants.{Reaped, Refused}
-use Rattle.ob_manager.specs.Outcomes.{Outcome, ◌>>=◌, or_refuse, refuse_if}
-use Rattle.ob_manager.specs.Checks.{caller, found, body_of, granted, natural, positive}
-use Rattle.ob_manager.specs.Signaling.{modified, modify_state, host_of}
-use Rattle.ob_manager.specs.Reaping.{IfReap, if_ended, reap}
-use Rattle.ob_manager.specs.Steps.{Step, does, outcome_of, takes_memory, final, KeeperAfter}
-use Rattle.ob_console.specs.Runs.{Looks, Spares}
 
 -- an answer to a call, by which no slot is taken back where something is held, and a slot is held by its pins
 pub record CanAnswer (w : Whole) (call : Call) : Type 0 where
@@ -44,40 +26,9 @@ abbrev Rests : Result Outcome Fault → KeeperState → Type 0
 Rests (Ok outcome) k = KeeperAfter outcome.reply outcome.state k k
 Rests (Err fault) k = Unit {0}
 
-rests_behind : {A : Type 0} (k : KeeperState) (r : Result A Fault) (f : A → Result Outcome Fault)
-    → ((x : A) → Rests (f x) k) → Rests (r >>= f) k
-rests_behind k (Ok x) f rests = rests x
-rests_behind k (Err fault) f rests = tt
-
 -- a call that asks for no slot takes memory, or its reply leaves the keeper as it is
 rests : (w : Whole) (call : Call) → AsksNoSlot call
     → (takes_memory w.state call ≡ true) ⊎ Rests (outcome_of w.state call (Refused fault.Memory)) w.keeper
-rests w (calls.CloseHandle thread handle) none = inr (rests_behind _ (caller w.state thread) _
-    (λ process. rests_behind _ (found w.state process handle) _ (λ entry. search arith)))
-rests w (calls.SetEvent thread handle) none =
-    inr (rests_behind _ (modified w.state thread handle kind.Event) _ (λ object. refl))
-rests w (calls.ResetEvent thread handle) none =
-    inr (rests_behind _ (modified w.state thread handle kind.Event) _ (λ object. refl))
-rests w (calls.PulseEvent thread handle) none =
-    inr (rests_behind _ (modified w.state thread handle kind.Event) _ (λ object. refl))
-rests w (calls.ReleaseSemaphore thread handle count) none =
-    inr (rests_behind _ (caller w.state thread) _ (λ process.
-    rests_behind _ (or_refuse (positive count) fault.Parameter) _ (λ more.
-    rests_behind _ (found w.state process handle) _ (λ entry.
-    rests_behind _ (body_of w.state entry.id kind.Semaphore) _ (λ semaphore.
-    rests_behind _ (granted modify_state entry) _ (λ granted.
-    rests_behind _ (post_answer more semaphore) _ (λ previous. refl)))))))
-rests w (calls.ReleaseMutex thread handle) none = inr (rests_behind _ (caller w.state thread) _
-    (λ process. rests_behind _ (found w.state process handle) _ (λ entry. search arith)))
-rests w (calls.SignalHost id signaled) none = inr (rests_behind _ (host_of w.state id) _ (λ host. refl))
-rests w (calls.SetTimer thread handle due) none =
-    inr (rests_behind _ (modified w.state thread handle kind.Timer) _ (λ object. refl))
-rests w (calls.SetPeriodicTimer thread handle due period) none =
-    inr (rests_behind _ (caller w.state thread) _ (λ process.
-    rests_behind _ (or_refuse (natural period) fault.Parameter) _ (λ millis.
-    rests_behind _ (modified w.state thread handle kind.Timer) _ (λ object. refl))))
-rests w (calls.CancelTimer thread handle) none =
-    inr (rests_behind _ (modified w.state thread handle kind.Timer) _ (λ object. refl))
 rests w (calls.Reap slot) none = absurd (none (λ slot. ⊥))
 rests w call _ = elim (cases_Bool (takes_memory w.state call)) [
   | inl takes ↦ inl takes

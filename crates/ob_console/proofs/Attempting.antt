@@ -1,33 +1,22 @@
 -- A try to pin between two meetings.
-use Rattle.std.proofs.Common.{◌≡◌, ℕ, ◌<◌, ◌≤◌, Bool, List, [], ◌∷◌, ◌++◌, Option, Some, None, slice_index_or, sym, refl, ap, subst, ◌∙◌, inl, inr, arith}
-use Rattle.std.specs.Prelude.{Result, Ok, Err}
+use Rattle.ob_console.proofs.Cited.{◌≡◌, ℕ, ◌<◌, ◌≤◌, Bool, List, [], ◌∷◌, ◌++◌, Option, Some, None, slice_index_or, sym, refl, ap, subst, ◌∙◌, inl, inr, arith, Result, Ok, Err, cases_eq, Id, decoded, slot_of, opening_slot, ReaderView, look, reader_looked, IsConsistent, IsMet, State, Whole, generation_of, shape_of, Finds, IsWord, Judged, Pins, phase_in, phase_at}
 use Rattle.std.proofs.Math.ListN.{get_or-map}
-use Rattle.std.proofs.lemmas.Bool.{cases_eq}
-use Rattle.pin_core.specs.declared.id.Id.{Id}
 use Rattle.pin_core.specs.declared.descr.Descr.{Descr}
 use Rattle.pin_core.specs.declared.word.Phase.{Phase}
 use Rattle.pin_core.specs.declared.world.Slot.{Slot}
-use Rattle.pin_core.specs.Words.{decoded}
-use Rattle.pin_core.specs.Worlds.{slot_of, opening_slot}
 use Rattle.pin_words.specs.declared.fault.Verdict.{Verdict}
 use Rattle.pin_words.specs.declared.fault.Verdict.TheVariants.{Go}
 use Rattle.pin_words.specs.declared.fault.PinFault.{PinFault}
 use Rattle.pin_words.specs.declared.fault.PinFault.TheVariants as fault
-use Rattle.pin_words.specs.declared.view.ReaderView.{ReaderView}
 use Rattle.pin_words.specs.declared.view.Look.{Look}
 use Rattle.pin_words.specs.Plays.{Show, NoLater, Behind, TellsReader}
 use Rattle.pin_words.specs.Shown.{word_age}
 use Rattle.pin_words.specs.Tries.{FollowsLook}
 use Rattle.pin_words.specs.Verdicts.{verdict_of}
-use Rattle.pin_words.specs.Views.{look, reader_looked}
 use Rattle.ob_body.specs.declared.body.Body.{Body}
 use Rattle.ob_store.specs.Agreement.{Agrees}
-use Rattle.ob_store.specs.Consistent.{IsConsistent}
-use Rattle.ob_store.specs.Meetings.{IsMet}
 use Rattle.ob_store.specs.Objects.{Object}
-use Rattle.ob_store.specs.State.{State, Whole, generation_of, shape_of}
 use Rattle.ob_console.specs.Attempts.{Attempts, Told}
-use Rattle.ob_console.specs.Pinning.{Finds, IsWord, Judged, Pins, phase_in, phase_at}
 use Rattle.ob_console.proofs.Found.{card_found, met_found}
 
 -- there is no such slot

@@ -1,16 +1,6 @@
 -- The lines of a journal's script are those into which its text is cut.
-use Rattle.std.proofs.Common.{◌≡◌, ℕ, arith, refl, ap, sym, List, [], ◌∷◌, ◌++◌, length, length-append, get_or, All}
-use Rattle.std.specs.Prelude.{◌≢◌}
-use Rattle.std.specs.List.{flat_map}
-use Rattle.std.proofs.lemmas.Bool.{eqb-false, not-true}
-use Rattle.std.proofs.lemmas.List.{append_assoc}
-use Rattle.std.proofs.lemmas.List.Elements.{All-cons, All-nil, All-tail}
-use Rattle.std.proofs.lemmas.List.Sums.{AllPass-from_list_all}
-use Rattle.ob_console.specs.Runs.{IsWithin, with_ends}
+use Rattle.ob_console.proofs.Cited.{◌≡◌, ℕ, arith, refl, ap, sym, List, [], ◌∷◌, ◌++◌, length, length-append, get_or, All, ◌≢◌, flat_map, eqb-false, not-true, append_assoc, All-cons, All-nil, All-tail, AllPass-from_list_all, IsWithin, with_ends, Entry, printed_reply, comment, is_repeatable, lines_for}
 use Rattle.ob_script.proofs.Short.{no_feed}
-use Rattle.ob_shared.specs.declared.book.Entry.{Entry}
-use Rattle.ob_script.specs.Printed.{printed_reply}
-use Rattle.ob_script.specs.Telling.{comment, is_repeatable, lines_for}
 use Rattle.ob_script.proofs.Within.{HasNone, asking_has, comment_has, reply_has}
 
 -- each entry by its lines

@@ -1,14 +1,6 @@
 -- A console takes a block, line by line.
-use Rattle.std.proofs.Common.{◌≡◌, ℕ, ◌+◌, ◌<◌, ◌≤◌, List, [], ◌++◌, length, get_or, refl, ◌∙◌, arith}
-use Rattle.std.specs.List.{position_or_len, before_first, after_first}
-use Rattle.std.proofs.lemmas.List.{append_assoc, append-nil, take-append-drop, drop_more, length-take, length-drop, get_or-take}
-use Rattle.std.proofs.lemmas.List.Sums.{fails_before_first, passes_at_first}
+use Rattle.ob_console.proofs.Cited.{◌≡◌, ℕ, ◌+◌, ◌<◌, ◌≤◌, List, [], ◌++◌, length, get_or, refl, ◌∙◌, arith, position_or_len, before_first, after_first, append_assoc, append-nil, take-append-drop, drop_more, length-take, length-drop, get_or-take, fails_before_first, passes_at_first, line_end, IsWithin, Writes, Begins, ConsoleState, Advances, IsFed, IsCutShort, writes_on, begins_on}
 use Rattle.memchr.specs.Find.{is_byte}
-use Rattle.ob_script.specs.Printed.{line_end}
-use Rattle.ob_console.specs.Runs.{IsWithin}
-use Rattle.ob_script.specs.Devices.{Writes, Begins}
-use Rattle.ob_console.specs.Sessions.{ConsoleState, Advances, IsFed, IsCutShort}
-use Rattle.ob_script.proofs.Written.{writes_on, begins_on}
 use Rattle.ob_console.proofs.Advancing.{advances_on, advances_none}
 
 -- the first line, its end, and what is behind

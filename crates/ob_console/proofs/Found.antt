@@ -1,17 +1,9 @@
 -- What a meeting tells of a slot: its object, where the reader holds something there.
-use Rattle.std.proofs.Common.{arith, ◌≡◌, ◌<◌, true, List, Some, None, slice_index_or, refl}
-use Rattle.pin_core.specs.declared.id.Id.{Id}
+use Rattle.ob_console.proofs.Cited.{arith, ◌≡◌, ◌<◌, true, List, Some, None, slice_index_or, refl, Id, tally, same_id, slot_of, ReaderView, id_of, IsConsistent, IsFound, IsMet, State, Whole}
 use Rattle.pin_core.specs.declared.world.Slot.{Slot}
-use Rattle.pin_core.specs.Holds.{tally, same_id}
 use Rattle.pin_core.specs.Safety.{may_be_held}
-use Rattle.pin_core.specs.Worlds.{slot_of}
-use Rattle.pin_words.specs.declared.view.ReaderView.{ReaderView}
 use Rattle.pin_words.specs.Plays.{Show}
-use Rattle.pin_words.specs.Views.{id_of}
-use Rattle.ob_store.specs.Consistent.{IsConsistent}
-use Rattle.ob_store.specs.Meetings.{IsFound, IsMet}
 use Rattle.ob_store.specs.Objects.{Object}
-use Rattle.ob_store.specs.State.{State, Whole}
 use Rattle.ob_manager.specs.Counting.{card}
 use Rattle.ob_manager.specs.declared.card.Card.{Card}
 

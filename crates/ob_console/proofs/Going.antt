@@ -1,12 +1,6 @@
 -- Runs go on.
-use Rattle.std.proofs.Common.{◌≡◌, ℕ, ◌+◌, ◌<◌, List, [], ◌∷◌, ◌++◌, length, refl, ap, subst, arith, if◌then◌else◌}
-use Rattle.pin_core.specs.Holds.{drop_last, same_id}
-use Rattle.ob_store.specs.Directory.{directory_of}
-use Rattle.ob_console.specs.Pinning.{is_held, shown_of}
-use Rattle.ob_script.specs.Commands.{Command, Nothing, Bad, ListNames, Asks, Pin, Unpin, ShowCard}
-use Rattle.ob_script.specs.Grammar.{command_of}
-use Rattle.ob_script.specs.Printed.{printed, printed_card, printed_names, printed_pin, printed_unpin, bad_line, line_end}
-use Rattle.ob_console.specs.Runs.{Point, Prints, Run}
+use Rattle.ob_console.proofs.Cited.{◌≡◌, ℕ, ◌+◌, ◌<◌, List, [], ◌∷◌, ◌++◌, length, refl, ap, subst, arith, if◌then◌else◌, drop_last, same_id, directory_of, shown_of, Command, Nothing, Bad, ListNames, Asks, Pin, Unpin, ShowCard, command_of, printed, printed_card, printed_names, printed_pin, printed_unpin, bad_line, line_end, Point, Prints, Run}
+use Rattle.ob_console.specs.Pinning.{is_held}
 use Rattle.ob_manager.proofs.TableLaws.{step_shape}
 use Rattle.ob_console.proofs.Answerable.{can_answer}
 use Rattle.ob_console.proofs.Pinnable.{can_pin}

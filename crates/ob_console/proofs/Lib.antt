@@ -1,3 +1,4 @@
+pub mod Cited
 pub mod Lines
 pub mod Waited
 pub mod Answerable

@@ -1,11 +1,5 @@
 -- Any input is lines and the beginning of one more.
-use Rattle.std.proofs.Common.{arith, ◌≡◌, ◌≢◌, ℕ, List, [], ◌∷◌, ◌++◌, ap, inl, inr}
-use Rattle.std.proofs.lemmas.Bool.{cases_eq}
-use Rattle.std.proofs.lemmas.List.{append_assoc}
-use Rattle.std.proofs.lemmas.List.Elements.{All-append, All-nil, All-cons, All-head, All-tail}
-use Rattle.std.proofs.lemmas.Grind.{flat_map-append}
-use Rattle.ob_script.specs.Printed.{line_end}
-use Rattle.ob_console.specs.Runs.{Splits, IsWithin}
+use Rattle.ob_console.proofs.Cited.{arith, ◌≡◌, ◌≢◌, ℕ, List, [], ◌∷◌, ◌++◌, ap, inl, inr, cases_eq, append_assoc, All-append, All-nil, All-cons, All-head, All-tail, flat_map-append, line_end, Splits, IsWithin}
 
 -- an input has lines and a rest
 pub record HasLines (input : List ℕ) : Type 0 where

@@ -1,14 +1,7 @@
 -- The names of objects, printed row by row.
-use Rattle.std.proofs.Common.{arith, ◌≡◌, ℕ, List, [], ◌∷◌, ◌++◌, length, subst, ◌∙◌}
-use Rattle.std.proofs.lemmas.List.{append_assoc, append-nil}
-use Rattle.std.proofs.lemmas.Grind.{flat_map-append}
-use Rattle.std.specs.List.{flat_map}
-use Rattle.pin_core.specs.declared.id.Id.{Id}
+use Rattle.ob_console.proofs.Cited.{arith, ◌≡◌, ℕ, List, [], ◌∷◌, ◌++◌, length, subst, ◌∙◌, append_assoc, append-nil, flat_map-append, flat_map, Id, printed_count, printed_names, printed_row, Writes, Begins, begins_more, begins_on, writes_on}
 use Rattle.ob_name.specs.Names.{ObjectName}
 use Rattle.ob_name.specs.Listing.{Rows}
-use Rattle.ob_script.specs.Printed.{printed_count, printed_names, printed_row}
-use Rattle.ob_script.specs.Devices.{Writes, Begins}
-use Rattle.ob_script.proofs.Written.{begins_more, begins_on, writes_on}
 
 -- these rows, printed behind how many there are in all
 abbrev pub printed_first : Rows → Rows → List ℕ

@@ -1,13 +1,7 @@
 -- Every pin may be answered, in any state and whatever is held.
-use Rattle.std.proofs.Common.{◌≡◌, ℕ, suc, List, [], ◌∷◌, length, slice_index_or, refl, inl, inr, arith}
-use Rattle.std.proofs.lemmas.Bool.{cases_lt}
-use Rattle.std.proofs.lemmas.List.Sums.{count_by-le-length}
-use Rattle.std.specs.Prelude.{Result, Err}
-use Rattle.pin_core.specs.declared.id.Id.{Id}
+use Rattle.ob_console.proofs.Cited.{◌≡◌, ℕ, suc, List, [], ◌∷◌, length, slice_index_or, refl, inl, inr, arith, cases_lt, count_by-le-length, Result, Err, Id, tally, decoded, encoded, is_of_slot, look, State, Finds, Judged, Pins, phase_at}
 use Rattle.pin_core.specs.declared.descr.Descr.{Descr}
 use Rattle.pin_core.specs.declared.word.Word.{Word}
-use Rattle.pin_core.specs.Holds.{tally}
-use Rattle.pin_core.specs.Words.{decoded, encoded}
 use Rattle.pin_core.proofs.Counts.{tally-count}
 use Rattle.pin_words.specs.declared.fault.Verdict.{Verdict}
 use Rattle.pin_words.specs.declared.fault.Verdict.TheVariants.{Unborn, Stale, PinsFull, Go}
@@ -15,9 +9,6 @@ use Rattle.pin_words.specs.declared.fault.PinFault.{PinFault}
 use Rattle.pin_words.specs.declared.fault.PinFault.TheVariants as fault
 use Rattle.pin_words.specs.Verdicts.{verdict_of}
 use Rattle.pin_words.specs.declared.view.Look.{Look}
-use Rattle.pin_words.specs.Views.{is_of_slot, look}
-use Rattle.ob_store.specs.State.{State}
-use Rattle.ob_console.specs.Pinning.{Finds, Judged, Pins, phase_at}
 use Rattle.ob_console.proofs.Attempting.{no_slot}
 
 -- a word that the slot may have: nobody else pins it

@@ -1,7 +1,6 @@
 -- A line with an @ and without a space.
-use Rattle.std.proofs.Common.{◌≡◌, ℕ, Bool, Option, Some, None, refl}
+use Rattle.ob_console.proofs.Cited.{◌≡◌, ℕ, Bool, Option, Some, None, refl, []}
 use Rattle.ob_console.specs.Lines.{Bad, prefixed}
-use Rattle.std.specs.Prelude.{[]}
 
 pub nothing_behind : (more : Bool) (number : Option ℕ) → prefixed more number [] ≡ Bad
 nothing_behind more None = refl

@@ -1,13 +1,8 @@
 -- A run between two reads, and how it ends.
-use Rattle.std.proofs.Common.{arith, ◌≡◌, ℕ, Bool, List, [], ◌++◌, Result, Ok, Err, refl, ◌∙◌}
-use Rattle.std.specs.Prelude.{IsErrOf}
-use Rattle.std.proofs.lemmas.List.{append_assoc, append-nil}
+use Rattle.ob_console.proofs.Cited.{arith, ◌≡◌, ℕ, Bool, List, [], ◌++◌, Result, Ok, Err, refl, ◌∙◌, IsErrOf, append_assoc, append-nil, Point, AnswersTo, AnswersLines, AnswersPart, IsCut, IsEnded, IsOpening, IsWholeEnded, Writes, Begins, ConsoleState, IsReady, Session, IsFed, IsCutShort, Finishes, Ends}
 use Rattle.ob_tables.specs.declared.limits.Limits.{Limits}
 use Rattle.ob_console.specs.declared.script.RunFault.{RunFault}
 use Rattle.ob_console.specs.declared.script.RunFault.TheVariants.{Memory, Read, Write}
-use Rattle.ob_console.specs.Runs.{Point, AnswersTo, AnswersLines, AnswersPart, IsCut, IsEnded, IsOpening, IsWholeEnded}
-use Rattle.ob_script.specs.Devices.{Writes, Begins}
-use Rattle.ob_console.specs.Sessions.{ConsoleState, IsReady, Session, IsFed, IsCutShort, Finishes, Ends}
 use Rattle.ob_console.proofs.Advancing.{answers_lines, answers_part, session_begins}
 
 -- what was read is answered line by line, and the answers are written

@@ -1,36 +1,16 @@
 -- A run of a journal's script, with the lines that `--more` adds, prints what its entries were answered.
-use Rattle.std.proofs.Common.{◌≡◌, ◌⊎◌, inl, inr, ℕ, suc, ◌+◌, ◌-◌, ◌≤◌, arith, refl, ap, sym, subst, ◌∙◌, List, [], ◌∷◌, ◌++◌, length, take, length-take, All, Bool, true, false, ◌==◌, Option, Some, None, append-nil, true≢false}
-use Rattle.std.proofs.lemmas.Bool.{and_right, cases_Bool, not-true, or_parts}
-use Rattle.std.specs.Prelude.{◌≢◌, slice_index, ◌||◌}
-use Rattle.std.specs.List.{concat}
+use Rattle.ob_console.proofs.Cited.{◌≡◌, ◌⊎◌, inl, inr, ℕ, suc, ◌+◌, ◌-◌, ◌≤◌, arith, refl, ap, sym, subst, ◌∙◌, List, [], ◌∷◌, ◌++◌, length, take, length-take, All, Bool, true, false, ◌==◌, Option, Some, None, append-nil, true≢false, and_right, cases_Bool, not-true, or_parts, ◌≢◌, slice_index, ◌||◌, concat, flat_map-append, All-tail, Reclaim, IsConsistent, State, Whole, opening, settled, Reply, Refused, Outcome, IfReap, reap, Step, does, closes, lacks, final, is_lack, outcome_of, reclaim_in, Entry, printed, printed_reply, Nothing, command_of, command_of_text, AnswersAll, AnswersTo, Point, Prints, Run, last_line, with_ends, asking, comment, is_held, is_held_slot, is_repeatable, AnswersOtherwise, FitsEntry, Retells, RetellsTo, answer, is_line, script_of}
 use Rattle.std.proofs.lemmas.Bool.Decides.{nat_tests}
-use Rattle.std.proofs.lemmas.Grind.{flat_map-append}
-use Rattle.std.proofs.lemmas.List.Elements.{All-tail}
-use Rattle.pin_words.specs.declared.pin_keeper.Reclaim.{Reclaim}
 use Rattle.pin_words.specs.declared.pin_keeper.Reclaim.TheVariants.{Freed, Retired, Held}
 use Rattle.ob_rights.specs.declared.fault.Fault.TheVariants as fault
-use Rattle.ob_store.specs.Consistent.{IsConsistent}
-use Rattle.ob_store.specs.State.{State, Whole, opening, settled}
 use Rattle.ob_manager.specs.Calls.{Call}
 use Rattle.ob_manager.specs.declared.call.CallOf.TheVariants as calls
-use Rattle.ob_manager.specs.declared.reply.Reply.{Reply}
-use Rattle.ob_manager.specs.declared.reply.Reply.TheVariants.{Refused}
-use Rattle.ob_manager.specs.Outcomes.{Outcome}
-use Rattle.ob_manager.specs.Reaping.{IfReap, reap}
-use Rattle.ob_manager.specs.Steps.{Step, does, closes, lacks, final, is_lack, outcome_of, reclaim_in}
 use Rattle.ob_manager.proofs.StepLaws.{step_next}
-use Rattle.ob_shared.specs.declared.book.Entry.{Entry}
 use Rattle.ob_shared.specs.Journal.{IsHistory, IsHistoryFrom, Replays}
-use Rattle.ob_script.specs.Printed.{printed, printed_reply}
-use Rattle.ob_script.specs.Commands.{Nothing}
-use Rattle.ob_script.specs.Grammar.{command_of, command_of_text}
 use Rattle.ob_script.specs.Writing.{line_of}
 use Rattle.ob_script.proofs.Alike.{answered_alike}
 use Rattle.ob_script.proofs.Lineless.{lineless_is_refused}
 use Rattle.ob_script.proofs.ReadBack.{line_is_read}
-use Rattle.ob_console.specs.Runs.{AnswersAll, AnswersTo, Point, Prints, Run, last_line, with_ends}
-use Rattle.ob_script.specs.Telling.{asking, comment, is_held, is_held_slot, is_repeatable}
-use Rattle.ob_console.specs.Retelling.{AnswersOtherwise, FitsEntry, Retells, RetellsTo, answer, is_line, script_of}
 use Rattle.ob_console.proofs.Ends.{lines_in, lines_within, one_cut}
 use Rattle.ob_console.proofs.Going.{prints_more}
 

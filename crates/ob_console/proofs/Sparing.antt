@@ -1,28 +1,14 @@
 -- A slot of which something is held isn't taken back.
-use Rattle.std.proofs.Common.{◌≡◌, ℕ, ◌<◌, List, None, Some, get_or, position, slice_index_or, sym, ◌∙◌, arith}
+use Rattle.ob_console.proofs.Cited.{◌≡◌, ℕ, ◌<◌, List, None, Some, get_or, position, slice_index_or, sym, ◌∙◌, arith, Id, tally, same_id, Reclaim, ReaderView, is_of_slot, IsConsistent, IsMet, Whole, settled, Reply, Reaped, IfReaped, Step, does, closes, lacks, SparesHeld, IsLooked}
 use Rattle.std.proofs.lemmas.List.Quantifiers.{position-Some}
 use Rattle.std.proofs.lemmas.Option.{none-some}
-use Rattle.pin_core.specs.declared.id.Id.{Id}
-use Rattle.pin_core.specs.Holds.{tally, same_id}
 use Rattle.pin_core.proofs.Counts.{none-found, some-at}
 use Rattle.pin_core.proofs.Moves.{same_id-same}
-use Rattle.pin_words.specs.declared.pin_keeper.Reclaim.{Reclaim}
 use Rattle.pin_words.specs.declared.pin_keeper.Reclaim.TheVariants.{Held}
-use Rattle.pin_words.specs.declared.view.ReaderView.{ReaderView}
 use Rattle.pin_words.specs.Keepers.{ReclaimsFound}
-use Rattle.pin_words.specs.Views.{is_of_slot}
 use Rattle.ob_waits.proofs.Writes.{set_none}
-use Rattle.ob_store.specs.Consistent.{IsConsistent}
-use Rattle.ob_store.specs.Meetings.{IsMet}
 use Rattle.ob_store.specs.Moves.{after_reclaim}
-use Rattle.ob_store.specs.State.{Whole, settled}
 use Rattle.ob_manager.specs.declared.call.CallOf.TheVariants as calls
-use Rattle.ob_manager.specs.declared.reply.Reply.{Reply}
-use Rattle.ob_manager.specs.declared.reply.Reply.TheVariants.{Reaped}
-use Rattle.ob_manager.specs.Reaping.{IfReaped}
-use Rattle.ob_manager.specs.Steps.{Step, does, closes, lacks}
-use Rattle.ob_console.specs.Pinning.{SparesHeld}
-use Rattle.ob_console.specs.Runs.{IsLooked}
 use Rattle.ob_console.proofs.Found.{met_found}
 
 pub there : (slot : ℕ) (held : List Id) (at : ℕ) (d : Id) → position (is_of_slot slot) held ≡ Some at

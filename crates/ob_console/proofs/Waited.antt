@@ -1,23 +1,13 @@
 -- A wait for the first 65 of its handles is answered as the whole: one for more than 64 is refused, and any other
 -- keeps all.
-use Rattle.std.proofs.Common.{◌≡◌, ℕ, ◌<◌, List, Err, arith, length, take, inl, inr}
-use Rattle.std.proofs.lemmas.Bool.{cases_lt}
-use Rattle.std.proofs.lemmas.List.{length-take-le, take_all}
-use Rattle.std.specs.Prelude.{Result}
+use Rattle.ob_console.proofs.Cited.{◌≡◌, ℕ, ◌<◌, List, Err, arith, length, take, inl, inr, cases_lt, length-take-le, take_all, Result, State, Whole, Reply, ◌>>=◌, Step, does, closes, lacks, Command, Asks, shortened, Point, Prints, Enacts, Evaluation}
 use Rattle.ob_rights.specs.declared.fault.Fault.TheVariants as fault
 use Rattle.ob_waits.specs.declared.wait.Mode.{Mode}
-use Rattle.ob_store.specs.State.{State, Whole}
 use Rattle.ob_manager.specs.declared.waiting.Timeout.{Timeout}
 use Rattle.ob_manager.specs.declared.call.CallOf.TheVariants as calls
-use Rattle.ob_manager.specs.declared.reply.Reply.{Reply}
-use Rattle.ob_manager.specs.Outcomes.{◌>>=◌}
 use Rattle.ob_manager.specs.Checks.{caller}
 use Rattle.ob_manager.specs.Waiting.{wait}
-use Rattle.ob_manager.specs.Steps.{Step, does, closes, lacks}
 use Rattle.ob_script.specs.declared.output.NotWritten.{NotWritten}
-use Rattle.ob_script.specs.Commands.{Command, Asks, shortened}
-use Rattle.ob_console.specs.Runs.{Point, Prints}
-use Rattle.ob_console.specs.Sessions.{Enacts, Evaluation}
 
 refused : (s : State) (thread : ℕ) (mode : Mode) (timeout : Timeout) (handles : List ℕ) → 64 < length handles
     → wait s thread mode timeout handles ≡ (caller s thread >>= (λ process. Err fault.Parameter))

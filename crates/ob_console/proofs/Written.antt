@@ -1,10 +1,5 @@
 -- A script grows by an entry.
-use Rattle.std.proofs.Common.{◌≡◌, ℕ, ◌+◌, List, ◌++◌, take, get_or, length, ◌<◌, append-nil, arith}
-use Rattle.std.proofs.lemmas.List.{take_more}
-use Rattle.std.proofs.lemmas.Grind.{flat_map-append}
-use Rattle.ob_shared.specs.declared.book.Entry.{Entry}
-use Rattle.ob_script.specs.Telling.{text_for}
-use Rattle.ob_console.specs.Retelling.{script_of}
+use Rattle.ob_console.proofs.Cited.{◌≡◌, ℕ, ◌+◌, List, ◌++◌, take, get_or, length, ◌<◌, append-nil, arith, take_more, flat_map-append, Entry, text_for, script_of}
 
 pub script_next : (journal : List Entry) (i : ℕ) (entry : Entry) (text : List ℕ) → i < length journal
     → entry ≡ get_or journal i entry → text ≡ script_of (take i journal)

@@ -1,5 +1,4 @@
-use Rattle.ob_store.specs.Directory.{directory_of}
-use Rattle.ob_script.specs.Pending.{Spends}
+use Rattle.ob_console.proofs.Cited.{directory_of, Spends}
 use Rattle.ob_console.proofs.Listed.{IsListed}
 use Rattle.ob_console.proofs.evaluator.list.Given as goal
 

@@ -1,6 +1,4 @@
-use Rattle.std.proofs.Common.{rules, ◌∙◌}
-use Rattle.std.proofs.lemmas.List.Elements.{All-more}
-use Rattle.ob_console.specs.Retelling.{FitsEntry}
+use Rattle.ob_console.proofs.Cited.{rules, ◌∙◌, All-more, FitsEntry}
 use Rattle.ob_console.proofs.Written.{script_next}
 use Rattle.ob_console.proofs.retelling.script_of.Goals as goal
 

@@ -1,5 +1,4 @@
-use Rattle.std.proofs.Common.{◌≡◌, All, take}
-use Rattle.ob_console.specs.Retelling.{FitsEntry, script_of}
+use Rattle.ob_console.proofs.Cited.{◌≡◌, All, take, FitsEntry, script_of}
 use Rattle.ob_console.proofs.retelling.script_of.Given as goal
 
 abbrev pub invariant-loop-entry : goal.invariant-loop-entry

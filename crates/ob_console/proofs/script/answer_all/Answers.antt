@@ -1,5 +1,4 @@
-use Rattle.std.proofs.Common.{arith}
-use Rattle.std.proofs.lemmas.List.{length-take-le}
+use Rattle.ob_console.proofs.Cited.{arith, length-take-le}
 use Rattle.ob_console.proofs.Reading.{reading_on, reading_same, reading_fails, writing_fails, reading_ends, ending_fails}
 use Rattle.ob_console.proofs.script.answer_all.Goals as goal
 

@@ -1,5 +1,4 @@
-use Rattle.std.proofs.Common.{[], refl, sym}
-use Rattle.std.proofs.lemmas.List.{append-nil}
+use Rattle.ob_console.proofs.Cited.{[], refl, sym, append-nil}
 use Rattle.ob_console.proofs.Reading.{answered, reading_begins, reading_whole, reading_ends, writing_fails, ending_fails}
 use Rattle.ob_console.proofs.script.answer_whole.Goals as goal
 

@@ -1,6 +1,4 @@
-use Rattle.std.proofs.Common.{◌+◌, ◌≤◌, length}
-use Rattle.ob_script.specs.Pending.{Spends}
-use Rattle.ob_console.specs.Sessions.{IsFed}
+use Rattle.ob_console.proofs.Cited.{◌+◌, ◌≤◌, length, Spends, IsFed}
 use Rattle.ob_console.proofs.console.Console.feed.Given as goal
 
 abbrev pub invariant-loop-end : goal.invariant-loop-end

@@ -1,5 +1,4 @@
-use Rattle.std.proofs.Common.{[], arith}
-use Rattle.std.proofs.lemmas.List.{append-nil}
+use Rattle.ob_console.proofs.Cited.{[], arith, append-nil}
 use Rattle.ob_console.proofs.Advancing.{finishes_empty, finishes_line}
 use Rattle.ob_console.proofs.console.Console.last_line.Goals as goal
 

@@ -1,5 +1,4 @@
-use Rattle.std.proofs.Common.{arith}
-use Rattle.ob_script.specs.Grammar.{command_of}
+use Rattle.ob_console.proofs.Cited.{arith, command_of}
 use Rattle.ob_script.specs.PartialLines.{command_of_partial_line}
 use Rattle.ob_console.proofs.Advancing.{line_advances}
 use Rattle.ob_script.proofs.Texts.{command_of_capped}

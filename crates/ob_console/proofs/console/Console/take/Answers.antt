@@ -1,8 +1,5 @@
-use Rattle.std.proofs.Common.{◌≡◌, List, ℕ, [], Result, Ok, Err, arith}
-use Rattle.std.specs.Prelude.{OnErr}
+use Rattle.ob_console.proofs.Cited.{◌≡◌, List, ℕ, [], Result, Ok, Err, arith, OnErr, Begins, ConsoleState, IsFed, IsCutShort}
 use Rattle.ob_script.specs.declared.output.NotWritten.{NotWritten}
-use Rattle.ob_script.specs.Devices.{Begins}
-use Rattle.ob_console.specs.Sessions.{ConsoleState, IsFed, IsCutShort}
 use Rattle.ob_console.proofs.Feeding.{fed_written, fed_cut_short}
 use Rattle.ob_console.proofs.console.Console.take.Goals as goal
 

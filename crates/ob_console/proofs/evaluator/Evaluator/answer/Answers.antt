@@ -1,7 +1,4 @@
-use Rattle.std.proofs.Common.{◌+◌, arith}
-use Rattle.ob_script.specs.Grammar.{command_of}
-use Rattle.ob_console.specs.Runs.{point}
-use Rattle.ob_console.specs.Sessions.{Evaluation}
+use Rattle.ob_console.proofs.Cited.{◌+◌, arith, command_of, point, Evaluation}
 use Rattle.ob_console.proofs.Waited.{enacts_whole}
 use Rattle.ob_console.proofs.evaluator.Evaluator.answer.Goals as goal
 

@@ -1,7 +1,4 @@
-use Rattle.std.proofs.Common.{arith}
-use Rattle.ob_store.specs.Directory.{directory_of}
-use Rattle.ob_script.specs.Printed.{printed, printed_names}
-use Rattle.ob_script.proofs.Written.{put_written}
+use Rattle.ob_console.proofs.Cited.{arith, directory_of, printed, printed_names, put_written}
 use Rattle.ob_console.proofs.evaluator.Evaluator.enact.Goals as goal
 
 pub returns-in-Ask-clause-prints : goal.returns-in-Ask-clause-prints

@@ -1,6 +1,4 @@
-use Rattle.std.proofs.Common.{◌++◌, refl}
-use Rattle.ob_script.specs.Printed.{line_end, printed_pin}
-use Rattle.ob_script.proofs.Written.{put_written}
+use Rattle.ob_console.proofs.Cited.{◌++◌, refl, line_end, printed_pin, put_written}
 use Rattle.ob_console.proofs.evaluator.Evaluator.pin.Goals as goal
 
 pub returns-clause-prints : goal.returns-clause-prints

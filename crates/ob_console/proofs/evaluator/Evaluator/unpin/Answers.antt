@@ -1,6 +1,4 @@
-use Rattle.std.proofs.Common.{◌++◌, refl}
-use Rattle.ob_script.specs.Printed.{line_end, printed_unpin}
-use Rattle.ob_script.proofs.Written.{put_written}
+use Rattle.ob_console.proofs.Cited.{◌++◌, refl, line_end, printed_unpin, put_written}
 use Rattle.ob_console.proofs.evaluator.Evaluator.unpin.Goals as goal
 
 pub returns-clause-prints : goal.returns-clause-prints

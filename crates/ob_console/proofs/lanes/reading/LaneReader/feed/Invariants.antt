@@ -1,5 +1,4 @@
-use Rattle.std.proofs.Common.{◌≡◌, ◌+◌, ◌≤◌, length}
-use Rattle.ob_script.specs.Pending.{Spends}
+use Rattle.ob_console.proofs.Cited.{◌≡◌, ◌+◌, ◌≤◌, length, Spends}
 use Rattle.ob_console.proofs.lanes.reading.LaneReader.feed.Given as goal
 
 abbrev pub invariant-loop-end : goal.invariant-loop-end

@@ -1,5 +1,4 @@
-use Rattle.std.proofs.Common.{◌≡◌, ◌+◌, []}
-use Rattle.std.specs.Prelude.{replicate}
+use Rattle.ob_console.proofs.Cited.{◌≡◌, ◌+◌, [], replicate}
 use Rattle.ob_console.proofs.lanes.scripts.LaneScripts.new.Given as goal
 
 abbrev pub invariant-loop-number : goal.invariant-loop-number
