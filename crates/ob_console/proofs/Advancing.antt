@@ -31,18 +31,17 @@ line_advances old new act bytes output within is prints counted held first input
 -- a part of a line comes
 pub part_advances : (old new : ConsoleState) (bytes : List ℕ) → IsWithin bytes → new.point ≡ old.point
     → new.lines ≡ old.lines → new.held ≡ extended_line old.held bytes → Advances old bytes [] new
-part_advances old new bytes within state_is lines_is held_is first input before session =
-    record {
-      lines = session.lines;
-      rest = session.rest ++ bytes;
-      pins = session.pins;
-      outputs = session.outputs;
-      splits = splits_more input session.lines session.rest bytes within session.splits;
-      run = search arith;
-      whole = search (arith, append-nil);
-      counted = search arith;
-      held = search (arith, more_capped);
-    }
+part_advances old new bytes within state_is lines_is held_is first input before session = record {
+  lines = session.lines;
+  rest = session.rest ++ bytes;
+  pins = session.pins;
+  outputs = session.outputs;
+  splits = splits_more input session.lines session.rest bytes within session.splits;
+  run = search arith;
+  whole = search (arith, append-nil);
+  counted = search arith;
+  held = search (arith, more_capped);
+}
 
 -- one advance after another
 pub advances_on : (a b c : ConsoleState) (bytes second output more : List ℕ) → Advances a bytes output b

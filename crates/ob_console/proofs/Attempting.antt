@@ -1,5 +1,5 @@
 -- A try to pin between two meetings.
-use Rattle.ob_console.proofs.Cited.{◌≡◌, ℕ, ◌<◌, ◌≤◌, Bool, List, [], ◌∷◌, ◌++◌, Option, Some, None, slice_index_or, sym, refl, ap, subst, ◌∙◌, inl, inr, arith, Result, Ok, Err, cases_eq, Id, decoded, slot_of, opening_slot, ReaderView, look, reader_looked, IsConsistent, IsMet, State, Whole, generation_of, shape_of, Finds, IsWord, Judged, Pins, phase_in, phase_at}
+use Rattle.ob_console.proofs.Cited.{◌≡◌, ℕ, ◌<◌, ◌≤◌, Bool, List, [], ◌∷◌, ◌++◌, Option, slice_index_or, sym, refl, ap, subst, ◌∙◌, inl, inr, arith, Result, Err, cases_eq, Id, decoded, slot_of, opening_slot, ReaderView, look, reader_looked, IsConsistent, IsMet, State, Whole, generation_of, shape_of, Finds, IsWord, Judged, Pins, phase_in, phase_at}
 use Rattle.std.proofs.Math.ListN.{get_or-map}
 use Rattle.pin_core.specs.declared.descr.Descr.{Descr}
 use Rattle.pin_core.specs.declared.word.Phase.{Phase}
@@ -31,8 +31,7 @@ no_slot s held looks id out = record {
 -- what the reading of the descriptor leaves as it is
 told_looks : (tried : Result (Unit {0}) PinFault) (m r : ReaderView) (id : Id) (res : Result Descr PinFault)
     → Told tried m id res r → r.looks ≡ m.looks
-told_looks (Ok u) m r id res told = rw told.2
-told_looks (Err e) m r id res told = rw told.1
+told_looks tried m r id res told = grind arith
 
 -- a try that was refused holds nothing more
 refused : (e : PinFault) (tried : Result (Unit {0}) PinFault) (m r : ReaderView) (id : Id)
@@ -64,8 +63,7 @@ between a n b g p ga pa gb pb low high = search arith
 -- the phase that the state has for a slot is the one that the keeper has
 phase_is : (slot : ℕ) (x : Option Object) (body : Option Body) (retired : Bool) (y : Slot)
     → Agrees slot x body retired y → phase_in x body retired ≡ y.phase
-phase_is slot None body retired y agrees = sym agrees.1
-phase_is slot (Some o) body retired y agrees = sym agrees.2
+phase_is slot x body retired y agrees = grind arith
 
 judged : (vd : Verdict) (Found : ℕ → Type 0) (w : Whole) (r m r3 r4 : ReaderView) (id : Id) (n : ℕ)
     (tried : Result (Unit {0}) PinFault) (res : Result Descr PinFault)

@@ -24,7 +24,7 @@ pub use Rattle.pin_core.specs.Holds.{tally, same_id, drop_last}
 pub use Rattle.pin_core.specs.Words.{decoded, encoded}
 pub use Rattle.pin_core.specs.Worlds.{slot_of, opening_slot}
 pub use Rattle.pin_core.specs.declared.id.Id.{Id}
-pub use Rattle.pin_words.specs.Views.{look, reader_looked, id_of, is_of_slot}
+pub use Rattle.pin_words.specs.Views.{look, reader_looked, is_of_slot}
 pub use Rattle.pin_words.specs.declared.pin_keeper.Reclaim.{Reclaim}
 pub use Rattle.pin_words.specs.declared.view.ReaderView.{ReaderView}
 pub use Rattle.std.proofs.Common.{◌≡◌, ℕ, ◌+◌, List, [], ◌∷◌, ◌++◌, length, Some, refl, subst, arith, ◌⊎◌, inl, inr, ◌<◌, true, None, Result, Ok, Err, ap, ◌≤◌, Bool, Option, sym, ◌∙◌, get_or, All, if◌then◌else◌, suc, ◌-◌, take, false, ◌==◌, true≢false, position, ◌*◌, rules}

@@ -1,6 +1,5 @@
 -- The lines of a journal's script are those into which its text is cut.
-use Rattle.ob_console.proofs.Cited.{◌≡◌, ℕ, arith, refl, ap, sym, List, [], ◌∷◌, ◌++◌, length, length-append, get_or, All, ◌≢◌, flat_map, eqb-false, not-true, append_assoc, All-cons, All-nil, All-tail, AllPass-from_list_all, IsWithin, with_ends, Entry, printed_reply, comment, is_repeatable, lines_for}
-use Rattle.ob_script.proofs.Short.{no_feed}
+use Rattle.ob_console.proofs.Cited.{◌≡◌, ℕ, arith, refl, ap, sym, List, [], ◌∷◌, ◌++◌, length, length-append, All, ◌≢◌, flat_map, eqb-false, not-true, append_assoc, All-cons, All-nil, All-tail, AllPass-from_list_all, IsWithin, with_ends, Entry, printed_reply, comment, is_repeatable, lines_for}
 use Rattle.ob_script.proofs.Within.{HasNone, asking_has, comment_has, reply_has}
 
 -- each entry by its lines
@@ -8,8 +7,7 @@ abbrev pub lines_in : List Entry → List (List ℕ)
 lines_in journal = flat_map (λ (entry : Entry). lines_for entry.call entry.reply) journal
 
 is_within : (line : List ℕ) → HasNone line → IsWithin line
-is_within line has = λ k d within.
-    eqb-false (get_or line k d) 10 (not-true _ (AllPass-from_list_all no_feed line has k d within))
+is_within line has = search (arith, AllPass-from_list_all, eqb-false, not-true)
 
 pub lines_within : (journal : List Entry) → All IsWithin (lines_in journal)
 lines_within [] = All-nil IsWithin

@@ -10,14 +10,13 @@ pub run-append : (s : Point) (n : ℕ) (lines : List (List ℕ)) (outputs : List
     (later : List (List ℕ)) (more : List (List ℕ)) (u : Point) → Run s n lines outputs t
     → Run t (n + length lines) later more u → Run s n (lines ++ later) (outputs ++ more) u
 run-append s n [] [] t later more u first second = search arith
-run-append s n [] (output ∷ outputs) t later more u first second = absurd first
-run-append s n (line ∷ lines) [] t later more u first second = absurd first
 run-append s n (line ∷ lines) (output ∷ outputs) t later more u first second = (
   first.0,
   first.1,
   run-append first.0 (n + 1) lines outputs t later more u first.2
       (subst (λ (k : ℕ). Run t k later more u) (omega arith) second),
 )
+run-append s n lines outputs t later more u first second = absurd first
 
 -- no line changes the shape of the slots, and no run does
 prints_shape : (s : Point) (n : ℕ) (act : Command) (output : List ℕ) (t : Point) → Prints s n act output t
@@ -28,10 +27,9 @@ prints_shape s n act output t prints = cc
 pub run_shape : (s : Point) (n : ℕ) (lines : List (List ℕ)) (outputs : List (List ℕ)) (t : Point)
     → Run s n lines outputs t → t.whole.keeper.shape ≡ s.whole.keeper.shape
 run_shape s n [] [] t run = ap (λ (p : Point). p.whole.keeper.shape) run
-run_shape s n [] (output ∷ outputs) t run = absurd run
-run_shape s n (line ∷ lines) [] t run = absurd run
 run_shape s n (line ∷ lines) (output ∷ outputs) t run =
     search (arith, prints_shape, run_shape run.0 (n + 1) lines outputs t run.2)
+run_shape s n lines outputs t run = absurd run
 
 -- no line changes which lines are read
 pub prints_more : (s : Point) (n : ℕ) (act : Command) (output : List ℕ) (t : Point) → Prints s n act output t

@@ -1,7 +1,6 @@
 -- A run of a journal's script, with the lines that `--more` adds, prints what its entries were answered.
 use Rattle.ob_console.proofs.Cited.{◌≡◌, ◌⊎◌, inl, inr, ℕ, suc, ◌+◌, ◌-◌, ◌≤◌, arith, refl, ap, sym, subst, ◌∙◌, List, [], ◌∷◌, ◌++◌, length, take, length-take, All, Bool, true, false, ◌==◌, Option, Some, None, append-nil, true≢false, and_right, cases_Bool, not-true, or_parts, ◌≢◌, slice_index, ◌||◌, concat, flat_map-append, All-tail, Reclaim, IsConsistent, State, Whole, opening, settled, Reply, Refused, Outcome, IfReap, reap, Step, does, closes, lacks, final, is_lack, outcome_of, reclaim_in, Entry, printed, printed_reply, Nothing, command_of, command_of_text, AnswersAll, AnswersTo, Point, Prints, Run, last_line, with_ends, asking, comment, is_held, is_held_slot, is_repeatable, AnswersOtherwise, FitsEntry, Retells, RetellsTo, answer, is_line, script_of}
 use Rattle.std.proofs.lemmas.Bool.Decides.{nat_tests}
-use Rattle.pin_words.specs.declared.pin_keeper.Reclaim.TheVariants.{Freed, Retired, Held}
 use Rattle.ob_rights.specs.declared.fault.Fault.TheVariants as fault
 use Rattle.ob_manager.specs.Calls.{Call}
 use Rattle.ob_manager.specs.declared.call.CallOf.TheVariants as calls
@@ -44,15 +43,9 @@ told w v call reply (closes duplicates gives only) = inr (ap (final w.state) giv
 told w v call reply (lacks takes ok refused same) = inl refused
 
 -- what cannot be made again left the state
-held_state : (s : State) (slot : ℕ) (outcome : Reclaim) → settled s ≡ s → is_held_slot outcome ≡ true
-    → (final s (reap s slot outcome)).state ≡ s
-held_state s slot Freed still held = cc
-held_state s slot Retired still held = cc
-held_state s slot (Held pins) still held = grind arith
-
 held_next : (s : State) (call : Call) (reply : Reply) → settled s ≡ s → is_held call reply ≡ true
     → (final s (outcome_of s call reply)).state ≡ s
-held_next s (calls.Reap slot) reply still held = held_state s slot (reclaim_in reply) still held
+held_next s (calls.Reap slot) reply still held = grind arith
 held_next s call reply still held = absurd (true≢false (sym held))
 
 unrepeatable : (w v : Whole) (call : Call) (reply : Reply) → settled w.state ≡ w.state
@@ -124,8 +117,6 @@ retold : (entries : List Entry) (w v : Whole) (p q : Point) (number : ℕ) (outp
     → Replays w entries v → All FitsEntry entries → p.whole.state ≡ w.state → p.more ≡ true
     → Run p number (lines_in entries) outputs q → RetellsTo entries (concat outputs) (q.whole.state ≡ v.state)
 retold [] w v p q number [] kept replays fits level more run = (refl, rw (run, ← replays) level)
-retold [] w v p q number (output ∷ outputs) kept replays fits level more run = absurd run
-retold (entry ∷ entries) w v p q number [] kept replays fits level more run = absurd run
 retold (entry ∷ entries) w v p q number (output ∷ []) kept replays fits level more run = absurd run.2
 retold (entry ∷ entries) w v p q number (output ∷ silence ∷ outputs) kept replays fits level more run =
     let second = rw (comment_is_nothing run.0.more (printed_reply entry.reply)) at run.2.1 in
@@ -143,6 +134,7 @@ retold (entry ∷ entries) w v p q number (output ∷ silence ∷ outputs) kept 
       )
       | inr departs ↦ (output, silence ++ concat outputs, refl, inr departs)
     ]
+retold entries w v p q number outputs kept replays fits level more run = absurd run
 
 -- what is printed, whatever is so behind it
 told_over : (Behind : Type 0) (entries : List Entry) (output : List ℕ) → RetellsTo entries output Behind

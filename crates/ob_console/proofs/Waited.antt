@@ -31,15 +31,8 @@ step_of_beginning w thread mode timeout handles reply v (lacks takes there lack 
 
 prints_whole : (p : Point) (number : ℕ) (act : Command) (output : List ℕ) (q : Point)
     → Prints p number (shortened act) output q → Prints p number act output q
-prints_whole p number (Asks (calls.WaitFor thread mode timeout handles)) output q prints = (
-  prints.0,
-  step_of_beginning p.whole thread mode timeout handles prints.0 q.whole prints.1,
-  prints.2,
-  prints.3,
-  prints.4,
-  prints.5,
-  prints.6,
-)
+prints_whole p number (Asks (calls.WaitFor thread mode timeout handles)) output q prints =
+    search (arith, step_of_beginning)
 prints_whole p number act output q prints = prints
 
 -- what is answered where the first 65 handles of a wait were read is what the line is answered

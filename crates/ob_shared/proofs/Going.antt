@@ -14,8 +14,7 @@ goes_more : (acts : List Act) (xs : List Seen) (a : Act) (x : Seen) (s t u : Bet
     → ActAnswered a x t u → Goes (acts ++ a ∷ []) (xs ++ x ∷ []) s u
 goes_more [] [] a x s t u go new = (u, rw go at new, refl)
 goes_more (b ∷ acts) (y ∷ xs) a x s t u go new = (go.0, go.1, goes_more acts xs a x go.0 t u go.2 new)
-goes_more [] (y ∷ xs) a x s t u go new = absurd go
-goes_more (b ∷ acts) [] a x s t u go new = absurd go
+goes_more acts xs a x s t u go new = absurd go
 
 -- one act more of the script
 pub goes_on : (script : List Act) (i : ℕ) (a : Act) (xs : List Seen) (x : Seen) (s t u : Between) → i < length script
