@@ -110,16 +110,14 @@ pub(crate) fn pass_slot<B: Bodies>(
         (drop result.0 (numbers_of pending_index.now.index id.slot)) }
 {
     let (mut over, mut all) = (0, true);
-    // Whether the object may have changed since it was looked at.
-    let mut is_changed = false;
     for (at, number) in pending_index.numbers(id.slot).iter().enumerate() {
-        if is_changed && !is_open(live, bodies, id) {
+        // As long as no wait takes it, the object stays as it was found before the second.
+        if at > 0 && (at == 1 || over == at) && !is_open(live, bodies, id) {
             return (over, all);
         }
         let is_over = !take_effect(live, bodies, *number, Some(id.slot));
         all = is_over & all;
         over = latest(is_over, at + 1, over);
-        is_changed = is_over | (at == 0);
     }
     (over, all)
 }

@@ -1,7 +1,6 @@
 ghost use Rattle.std.specs.Prelude.{[], ◌∷◌, ◌≡◌, ◌≢◌, ◌<◌, ◌≤◌, ℕ, List, Option, true, None, Some, length, slice_index_or};
 ghost use Rattle.std.specs.List.{list_any, list_all};
 ghost use Rattle.std.specs.Option.{IfNone};
-ghost use Rattle.ob_body.specs.Body as spec;
 ghost use Rattle.ob_body.specs.declared.body.Body.{Body};
 ghost use Rattle.ob_waits.specs.Waits.{is_signaled, is_abandoned, first_signaled, list_ready, nowhere};
 ghost use Rattle.ob_waits.specs.Waits.{with_all_acquired, code_now, objects_now};
@@ -13,23 +12,26 @@ use crate::wait::Mode;
 use ob_body::{Body, RECURSION_MAX};
 use pin_core::Id;
 
-/// The same as [`Body::signaled_for`], apart.
+/// Whether an object is signaled for a thread.
 #[inline(never)]
-fn signaled_for(body: Body, thread: u32) -> bool
-    ensures { result ≡ spec.is_signaled thread body }
+fn is_any_signaled<B: Bodies>(bodies: &B, thread: u32, id: Id) -> bool
+    ensures { result ≡ is_signaled thread (B.objects bodies.now).bodies id }
 {
-    body.signaled_for(thread)
+    match bodies.body(id) {
+        Some(body) => body.signaled_for(thread),
+        None => false,
+    }
 }
 
-/// Whether an object of a list is signaled for a thread.
-// Most are events, which are told by one comparison, and others by a table of jumps.
+/// The same of an object of a list.
+// Most are events, which are told by one comparison, and the others, apart, by a table of jumps.
 #[inline(always)]
 fn is_signaled<B: Bodies>(bodies: &B, thread: u32, id: Id) -> bool
     ensures { result ≡ is_signaled thread (B.objects bodies.now).bodies id }
 {
     match bodies.body(id) {
         Some(Body::Event(event)) => event.set,
-        Some(body) => signaled_for(body, thread),
+        Some(_) => is_any_signaled(bodies, thread, id),
         None => false,
     }
 }
