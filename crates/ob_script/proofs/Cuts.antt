@@ -1,13 +1,7 @@
 -- Where a byte is first found, in the words of lists.
-use Rattle.std.proofs.Common.{◌≡◌, ◌≢◌, Option, ℕ, ◌+◌, ◌-◌, ◌<◌, List, [], ◌∷◌, length, take, drop, Some, None, arith, ap, sym, ◌∙◌}
-use Rattle.std.specs.Prelude.{MatchOption}
+use Rattle.ob_script.proofs.Cited.{◌≡◌, ◌≢◌, Option, ℕ, ◌+◌, ◌-◌, ◌<◌, List, [], ◌∷◌, length, take, drop, Some, None, arith, ap, MatchOption, position_or_len, before_first, after_first, take_rest, drop-drop, position_or_len_is, fails_before_first, IsFirstByte, is_byte, words_of, joined}
 use Rattle.std.specs.Borrow.{Bor}
-use Rattle.std.specs.List.{position_or_len, before_first, after_first}
-use Rattle.std.proofs.lemmas.List.{take_rest, drop-drop}
-use Rattle.std.proofs.lemmas.List.Sums.{position_or_len_is, fails_before_first}
 use Rattle.std.proofs.lemmas.List.Splits.{slice_split_first, slice_split_none, length-slice_split, join_with_byte-slice_split}
-use Rattle.memchr.specs.Find.{IsFirstByte, is_byte}
-use Rattle.ob_script.specs.Words.{words_of, joined}
 use Rattle.ob_script.specs.WordsLeft.{words_left}
 
 -- the place that is found is the first
@@ -26,8 +20,7 @@ no_place byte text none =
 pub behind_first : (byte : ℕ) (text rest : List ℕ) (at : ℕ) → IsFirstByte (is_byte byte) text (Some at)
     → rest ≡ drop at text → take (length rest - 1) (drop 1 rest) ≡ after_first (is_byte byte) text
 behind_first byte text rest at found rest_is =
-    take_rest rest 1 ∙ ap (drop 1) rest_is ∙ drop-drop 1 at text
-    ∙ ap (λ n. drop (n + 1) text) (sym (first_place byte text at found).0)
+    rw (take_rest, rest_is, drop-drop, (first_place byte text at found).0)
 
 -- the first word ends at the first space, or is the last
 pub words_first : (text : List ℕ) → position_or_len (is_byte 32) text < length text
@@ -56,5 +49,4 @@ words_joined text = join_with_byte-slice_split 32 text
 -- what is left of a text
 pub text_left : (rest : Option (Bor (List ℕ))) (words : List (List ℕ)) → words_left rest ≡ words
     → MatchOption rest (words ≡ []) (λ text. (text.now ≡ joined words) × (words ≢ []))
-text_left None words is = sym is
-text_left (Some rest) words is = search (arith, words_some, words_joined)
+text_left rest words is = search (arith, words_some, words_joined)

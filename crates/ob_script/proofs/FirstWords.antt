@@ -1,11 +1,5 @@
 -- The first word of a line is that of its text, unless the text is shorter.
-use Rattle.std.proofs.Common.{◌≡◌, ℕ, zero, suc, ◌+◌, ◌-◌, ◌<◌, ◌≤◌, List, [], ◌∷◌, length, take, drop, Bool, true, false, cond, min, arith, sym}
-use Rattle.std.specs.List.{position_or_len}
-use Rattle.std.proofs.Math.Seq.{take-length}
-use Rattle.std.proofs.lemmas.List.{length-take-le, take_rest}
-use Rattle.memchr.specs.Find.{is_byte}
-use Rattle.ob_script.specs.Grammar.{text_of}
-use Rattle.ob_script.specs.Words.{words_of}
+use Rattle.ob_script.proofs.Cited.{◌≡◌, ℕ, zero, suc, ◌+◌, ◌-◌, ◌<◌, ◌≤◌, List, [], ◌∷◌, length, take, drop, Bool, cond, min, arith, position_or_len, common_steps, take_rest, is_byte, text_of, words_of}
 use Rattle.ob_script.proofs.Cuts.{words_first, words_last}
 
 -- the first place of a front is that of the whole, or its end
@@ -17,8 +11,7 @@ place_of_front p (suc n) (x ∷ xs) = search (arith, place_of_front p n xs)
 module _ (line : List ℕ) where
   front_or_all : (b : Bool) → cond b (take (length line - 1) line) line
       ≡ take (length (cond b (take (length line - 1) line) line)) line
-  front_or_all true = search (arith, length-take-le)
-  front_or_all false = sym (take-length line)
+  front_or_all b = grind (arith, common_steps)
 
   place_in_text : position_or_len (is_byte 32) (text_of line)
       ≡ min (length (text_of line)) (position_or_len (is_byte 32) line)

@@ -1,6 +1,5 @@
 -- Handles that each fit, fit one behind another.
-use Rattle.std.proofs.Common.{ℕ, suc, arith, List, [], ◌∷◌, All}
-use Rattle.ob_script.specs.Fitting.{Small, FitHandles}
+use Rattle.ob_script.proofs.Cited.{ℕ, suc, arith, List, [], ◌∷◌, All, Small, FitHandles}
 
 pub each_fits : (handles : List ℕ) → All Small handles → FitHandles handles
 each_fits [] all = tt

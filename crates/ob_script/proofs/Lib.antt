@@ -1,3 +1,4 @@
+pub mod Cited
 pub mod Cuts
 pub mod Digits
 pub mod Leading

@@ -1,15 +1,10 @@
 -- What marks on the first bytes of a text say of it.
-use Rattle.std.proofs.Common.{◌≡◌, ℕ, ◌<◌, ◌≤◌, ◌%◌, ◌^◌, List, true, false, length, take, get_or, map, replicate, cond, eqb, arith, ap, sym, subst, ◌∙◌, w8, w64, ⊎_elim, bit_or}
+use Rattle.ob_script.proofs.Cited.{◌≡◌, ℕ, ◌<◌, ◌≤◌, ◌%◌, ◌^◌, List, true, false, length, take, get_or, map, replicate, cond, eqb, arith, ap, ◌∙◌, w8, w64, ⊎_elim, bit_or, position_or_len, cases_lt, get_or-map, get_or_past, get_or-take, length-map, length-take-le, position_or_len_is, is_byte}
 use Rattle.std.specs.Int.{bit_at, trailing_zeros}
-use Rattle.std.specs.List.{position_or_len}
 use Rattle.std.specs.Simd.Lanes.{mask_l, top, zip2, chunk}
-use Rattle.std.proofs.lemmas.Bool.{cases_lt}
-use Rattle.std.proofs.lemmas.List.{get_or-map, get_or_past, get_or-take, length-map, length-take-le}
-use Rattle.std.proofs.lemmas.List.Sums.{position_or_len_is}
 use Rattle.std.proofs.lemmas.Nat.{or_lt}
 use Rattle.std.proofs.lemmas.Nat.Bits.{bit_at-trailing_zeros, bit_at_or}
 use Rattle.std.proofs.lemmas.Simd.{bitmask_splat, bit_mask_l, get_or-chunk}
-use Rattle.memchr.specs.Find.{is_byte}
 use Rattle.ob_script.specs.Marks.{Marks}
 
 -- a bit for each lane
@@ -17,7 +12,7 @@ pub marks_compared : (byte : ℕ) (bytes : List ℕ) → length bytes ≡ 32
     → Marks (is_byte byte) bytes 32 (mask_l (map (top 7) (zip2 (λ a b. cond (eqb a b) 255 0) bytes (replicate 32 byte)))
     % 2 ^ 64)
 marks_compared byte bytes long =
-    subst (Marks (is_byte byte) bytes 32) (sym (bitmask_splat w8 eqb bytes 32 byte long (omega arith))) (record {
+    rw (bitmask_splat w8 eqb bytes 32 byte long (omega arith)) (record {
       each = search (arith, bit_mask_l, get_or-map);
       within = λ k set. ⊎_elim (λ within. within) (λ past. absurd (omega (arith, clear_past k past)))
           (cases_lt k 32);
@@ -72,14 +67,11 @@ module _ (text : List ℕ) (long : 32 ≤ length text) where
           let no_later : word ≤ end = search arith in
           let len : length (take end text) ≡ end = search (arith, length-take-le) in
           position_or_len_is (is_byte 32) (take end text) word 0 (omega arith)
-          (λ k before.
-          ap (is_byte 32) (get_or-take end text k 0 (omega arith))
-          ∙ clear_is 32 blanks k are_blanks (omega (arith, near))
-          (omega (arith, both k, first.2 k before)))
+          (λ k before. rw (get_or-take end text k 0 (omega arith))
+          (clear_is 32 blanks k are_blanks (omega (arith, near)) (omega (arith, both k, first.2 k before))))
           (λ within.
-          let before : word < end = omega arith in
-          ap (is_byte 32) (get_or-take end text word 0 before)
-          ∙ set_is 32 blanks word are_blanks (omega (arith, both word, lowest.2 word before)))
+          let before : word < end = omega arith in rw (get_or-take end text word 0 before)
+          (set_is 32 blanks word are_blanks (omega (arith, both word, lowest.2 word before))))
 
 -- where a line and its first word end
 pub ruleset near_laws = (line_within, line_ends, word_ends)

@@ -1,16 +1,6 @@
 -- A number is read as it was written.
-use Rattle.std.proofs.Common.{◌≡◌, ℕ, zero, suc, ◌+◌, ◌-◌, ◌*◌, ◌/◌, ◌%◌, ◌^◌, ◌<◌, ◌≤◌, arith, refl}
-use Rattle.std.proofs.Common.{List, [], ◌∷◌, length, Bool, true, false, eqb, pow-suc, Some}
-use Rattle.std.specs.Prelude.{ℤ, pos, negsuc, decimal}
-use Rattle.std.specs.Fmt.{digits, digits_onto, digit_glyph, signed_decimal}
-use Rattle.std.specs.Char.{digit_value, is_ascii_digit, is_ascii_hexdigit}
-use Rattle.std.specs.List.{list_all}
-use Rattle.std.specs.Str.Parse.{AllDigits, IsNumeral, digits_value, digits_value_after}
-use Rattle.std.proofs.lemmas.Bool.{and_from, cond_both}
-use Rattle.std.proofs.lemmas.Bool.Decides.{nat_tests}
-use Rattle.std.proofs.lemmas.Fmt.{digits_is_IsNumeral, decimal_is_IsNumeral, length-decimal-le}
-use Rattle.ob_script.specs.Fitting.{FitsSign}
-use Rattle.ob_script.specs.Words.{number_of, value_of, value_after, signed_of, up_to, long_of, moment_of, due_of, mask_of, ◌>>=◌}
+use Rattle.ob_script.proofs.Cited.{◌≡◌, ℕ, zero, suc, ◌+◌, ◌-◌, ◌*◌, ◌/◌, ◌%◌, ◌^◌, ◌<◌, ◌≤◌, arith, refl, List, [], ◌∷◌, length, Bool, true, false, pow-suc, Some, ℤ, pos, negsuc, decimal, digits_onto, digit_glyph, signed_decimal, digit_value, is_ascii_digit, is_ascii_hexdigit, list_all, AllDigits, IsNumeral, digits_value_after, and_from, cond_both, nat_tests, digits_is_IsNumeral, decimal_is_IsNumeral, length-decimal-le, Rights, FitsSign, number_of, value_of, value_after, signed_of, up_to, long_of, moment_of, due_of, mask_of, ◌>>=◌, mask_word}
+use Rattle.std.specs.Fmt.{digits}
 
 -- a decimal digit is its value behind the digit 0, and no other byte that has a meaning
 pub digit_is : (c : ℕ) → digit_value c < 10 → (48 ≤ c) × (c ≤ 57) × (c - 48 ≡ digit_value c)
@@ -23,8 +13,7 @@ module _ (test : ℕ → Bool) (base : ℕ) (positive : 0 < base)
       → list_all test (digits_onto k base false n acc) ≡ true
   onto_pass zero n acc pass = pass
   onto_pass (suc k) n acc pass =
-      let more : list_all test (digit_glyph false (n % base) ∷ acc) ≡ true =
-      search (arith, and_from) in
+      let more : list_all test (digit_glyph false (n % base) ∷ acc) ≡ true = search (arith, and_from) in
       search (arith, cond_both, onto_pass k (n / base) (digit_glyph false (n % base) ∷ acc) more)
 
   pub digits_pass : (n : ℕ) → list_all test (digits base false n) ≡ true
@@ -35,33 +24,31 @@ value_same : (n : ℕ) (ds : List ℕ) → AllDigits 10 ds → value_after n ds 
 value_same n [] all = refl
 value_same n (c ∷ cs) all = search (arith, digit_is, value_same (n * 10 + digit_value c) cs all.1, all.0, all.1)
 
-module _ (n : ℕ) (small : n < 2 ^ 64) where
-  numeral : IsNumeral 10 (decimal n) × (digits_value 10 (decimal n) ≡ n)
-  numeral = decimal_is_IsNumeral n small
+pub are_digits : (n : ℕ) → list_all is_ascii_digit (decimal n) ≡ true
+are_digits n = search (arith, digits_pass)
 
-  value_is : value_of (decimal n) ≡ n
-  value_is = search (arith, value_same, numeral, numeral.0.1, numeral.1)
+value_is : (n : ℕ) → n < 2 ^ 64 → value_of (decimal n) ≡ n
+value_is n small =
+    let is = decimal_is_IsNumeral n small in search (arith, value_same, is, is.0.1, is.1)
 
-  are_digits : list_all is_ascii_digit (decimal n) ≡ true
-  are_digits = search (arith, digits_pass)
+-- a number is 1 to so many digits, whose value it is
+number : (k n : ℕ) → 0 < k → n < 10 ^ k → n < 2 ^ 64 →
+    (0 < length (decimal n)) × (length (decimal n) ≤ k) × (list_all is_ascii_digit (decimal n) ≡ true)
+    × (value_of (decimal n) ≡ n)
+number k n some fits small = (
+  (decimal_is_IsNumeral n small).0.0,
+  length-decimal-le k n some fits small,
+  are_digits n,
+  value_is n small,
+)
 
 pub reads_number : (n : ℕ) → n ≤ 4294967295 → number_of (decimal n) ≡ Some n
 reads_number n fits =
-    let small : n < 2 ^ 64 = omega arith in
-    let some = (numeral n small).0.0 in
-    let few = length-decimal-le 10 n (omega arith) (omega arith) small in
-    let all = are_digits n small in
-    let value = value_is n small in
-    grind (arith, nat_tests)
+    let is = number 10 n (omega arith) (omega arith) (omega arith) in grind (arith, nat_tests, is.0, is.1, is.2, is.3)
 
 reads_long : (n : ℕ) → n ≤ 9223372036854775808 → long_of (decimal n) ≡ Some n
 reads_long n fits =
-    let small : n < 2 ^ 64 = omega arith in
-    let some = (numeral n small).0.0 in
-    let few = length-decimal-le 19 n (omega arith) (omega arith) small in
-    let all = are_digits n small in
-    let value = value_is n small in
-    grind (arith, nat_tests)
+    let is = number 19 n (omega arith) (omega arith) (omega arith) in grind (arith, nat_tests, is.0, is.1, is.2, is.3)
 
 pub reads_moment : (n : ℕ) → n ≤ 9223372036854775807 → moment_of (decimal n) ≡ Some n
 reads_moment n fits = search (arith, reads_long)
@@ -88,22 +75,16 @@ hex_length : (k j n : ℕ) (acc : List ℕ) → n < 16 ^ suc j → length (digit
 hex_length zero j n acc fits = omega arith
 hex_length (suc k) zero n acc fits = search arith
 hex_length (suc k) (suc i) n acc fits =
-    cond_both (eqb (n / 16) 0) _ _ (λ ds. length ds ≤ suc (suc i) + length acc) (λ _. omega arith)
-    (λ _. omega (
-      arith,
-      hex_length k i (n / 16) (digit_glyph false (n % 16) ∷ acc)
-          (omega (arith, fits, pow-suc 16 (suc i))),
-    ))
+    let less : n / 16 < 16 ^ suc i = omega (arith, pow-suc 16 (suc i)) in
+    grind (arith, nat_tests, hex_length k i (n / 16) (digit_glyph false (n % 16) ∷ acc) less)
 
 pub hex_few : (n : ℕ) → n ≤ 4294967295 → length (digits 16 false n) ≤ 8
 unfolding digits
 hex_few n fits = omega (arith, hex_length 64 7 n [] (omega arith))
 
-pub reads_mask : (n : ℕ) → n ≤ 4294967295 → mask_of (48 ∷ 120 ∷ digits 16 false n) ≡ Some (record { 0 = n })
-reads_mask n fits =
-    let is = digits_is_IsNumeral 16 false (omega arith) (omega arith) n (omega arith) in
-    let few = hex_few n fits in
-    let all = digits_pass is_ascii_hexdigit 16 (omega arith) (λ d small. grind (arith, nat_tests)) n in
-    let value = is.1 in
-    let some : 0 < length (digits 16 false n) = is.0.0 in
-    grind (arith, nat_tests)
+pub reads_mask : (mask : Rights) → mask.0 ≤ 4294967295 → mask_of (mask_word mask) ≡ Some mask
+reads_mask mask fits =
+    let is = digits_is_IsNumeral 16 false (omega arith) (omega arith) mask.0 (omega arith) in
+    let all = digits_pass is_ascii_hexdigit 16 (omega arith) (λ d small. grind (arith, nat_tests)) mask.0 in
+    let read : mask_of (mask_word mask) ≡ Some (record { 0 = mask.0 }) =
+    grind (arith, nat_tests, is.0.0, is.1, all, hex_few mask.0 fits) in read

@@ -1,14 +1,6 @@
 -- Words that are joined by spaces are read as they were.
-use Rattle.std.proofs.Common.{◌≡◌, ℕ, suc, ℤ, pos, negsuc, arith, refl, List, [], ◌∷◌, ◌++◌, Bool, true, false, not, ◌==◌, All, decimal, append-nil, map}
-use Rattle.std.proofs.lemmas.Bool.{not-true}
-use Rattle.std.specs.Fmt.{digits, signed_decimal}
-use Rattle.std.specs.List.{list_all, flat_map}
-use Rattle.std.proofs.lemmas.List.Folds.{flat_map-map, list_all-append}
+use Rattle.ob_script.proofs.Cited.{◌≡◌, ℕ, suc, ℤ, pos, negsuc, arith, refl, List, [], ◌∷◌, ◌++◌, Bool, true, false, not, ◌==◌, All, decimal, append-nil, not-true, digits, signed_decimal, list_all, list_all-append, AllPass-from_list_all, is_byte, words_of, joined, said}
 use Rattle.std.proofs.lemmas.List.Splits.{slice_split_at, slice_split_none}
-use Rattle.std.proofs.lemmas.List.Sums.{AllPass-from_list_all}
-use Rattle.memchr.specs.Find.{is_byte}
-use Rattle.ob_script.specs.Words.{words_of, joined}
-use Rattle.ob_script.specs.Writing.{said, behind_spaces, label}
 use Rattle.ob_script.proofs.Numerals.{digits_pass}
 
 -- whether a word has no space
@@ -61,7 +53,3 @@ pub said_joined : (words : List (List ℕ)) → said words ≡ joined words
 said_joined [] = refl
 said_joined (word ∷ []) = append-nil word
 said_joined (word ∷ next ∷ words) = search (arith, said_joined (next ∷ words))
-
-pub spaces_of_handles : (handles : List ℕ) → flat_map (λ handle. 32 ∷ label 104 handle) handles
-    ≡ behind_spaces (map (label 104) handles)
-spaces_of_handles handles = search (arith, flat_map-map)

@@ -1,7 +1,5 @@
 -- What a capped text is.
-use Rattle.std.proofs.Common.{◌≡◌, ℕ, Bool, List, ◌++◌, arith}
-use Rattle.std.proofs.lemmas.List.{length-append, length-take}
-use Rattle.ob_script.specs.Grammar.{command_of}
+use Rattle.ob_script.proofs.Cited.{◌≡◌, ℕ, Bool, List, ◌++◌, arith, length-append, length-take, command_of}
 use Rattle.ob_script.specs.PartialLines.{capped, extended_line, command_of_partial_line}
 
 -- what is kept of a line is enough to say what it is

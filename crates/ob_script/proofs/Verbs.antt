@@ -1,8 +1,5 @@
 -- A verb without words behind it is bad, whichever it is.
-use Rattle.std.proofs.Common.{◌≡◌, ℕ, List, [], ◌∷◌, Bool, true, false, refl}
-use Rattle.std.specs.Prelude.{if◌then◌else◌}
-use Rattle.ob_script.specs.Commands.{Command, Bad}
-use Rattle.ob_script.specs.Grammar.{command_of_words}
+use Rattle.ob_script.proofs.Cited.{◌≡◌, ℕ, List, [], ◌∷◌, Bool, true, false, refl, if◌then◌else◌, Command, Bad, command_of_words}
 
 skips : (b : Bool) (rest : Command) → rest ≡ Bad → (if b then Bad else rest) ≡ Bad
 skips true rest bad = refl

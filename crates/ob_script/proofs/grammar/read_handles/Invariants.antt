@@ -1,5 +1,4 @@
-use Rattle.std.proofs.Common.{◌≡◌, ◌++◌, ◌≤◌, length, take}
-use Rattle.ob_script.specs.Words.{are_handles, handles_in}
+use Rattle.ob_script.proofs.Cited.{◌≡◌, ◌++◌, ◌≤◌, length, take, are_handles, handles_in}
 use Rattle.ob_script.proofs.grammar.read_handles.Given as goal
 
 abbrev pub invariant-loop-handle : goal.invariant-loop-handle

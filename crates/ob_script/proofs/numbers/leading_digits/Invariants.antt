@@ -1,7 +1,4 @@
-use Rattle.std.proofs.Common.{◌≡◌, ◌<◌, ◌^◌, take, true}
-use Rattle.std.specs.List.{list_all}
-use Rattle.std.specs.Char.{is_ascii_digit}
-use Rattle.ob_script.specs.Words.{value_of}
+use Rattle.ob_script.proofs.Cited.{◌≡◌, ◌<◌, ◌^◌, take, true, list_all, is_ascii_digit, value_of}
 use Rattle.ob_script.proofs.numbers.leading_digits.Given as goal
 
 abbrev pub invariant-loop-count : goal.invariant-loop-count

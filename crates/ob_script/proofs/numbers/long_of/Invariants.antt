@@ -1,7 +1,4 @@
-use Rattle.std.proofs.Common.{◌≡◌, ◌<◌, ◌^◌, drop}
-use Rattle.std.specs.List.{list_all}
-use Rattle.std.specs.Char.{is_ascii_digit}
-use Rattle.ob_script.specs.Words.{value_after, value_of}
+use Rattle.ob_script.proofs.Cited.{◌≡◌, ◌<◌, ◌^◌, drop, list_all, is_ascii_digit, value_after, value_of}
 use Rattle.ob_script.proofs.numbers.long_of.Given as goal
 
 abbrev pub invariant-loop-byte : goal.invariant-loop-byte

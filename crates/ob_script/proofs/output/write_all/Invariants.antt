@@ -1,5 +1,4 @@
-use Rattle.std.proofs.Common.{◌≡◌, ◌+◌}
-use Rattle.ob_script.specs.Devices.{Writes}
+use Rattle.ob_script.proofs.Cited.{◌≡◌, ◌+◌, Writes}
 use Rattle.ob_script.proofs.output.write_all.Given as goal
 
 abbrev pub invariant-loop-rest : goal.invariant-loop-rest

@@ -1,5 +1,4 @@
-use Rattle.std.proofs.Common.{arith, length-take-le, sym}
-use Rattle.std.proofs.lemmas.List.{take_all}
+use Rattle.ob_script.proofs.Cited.{arith, length-take-le, sym, take_all}
 use Rattle.ob_script.proofs.record.cut.Goals as goal
 
 pub slice_bounds-result-end : goal.slice_bounds-result-end

@@ -1,7 +1,4 @@
-use Rattle.std.proofs.Common.{◌≡◌, ◌<◌, ◌^◌, drop}
-use Rattle.std.specs.List.{list_all}
-use Rattle.std.specs.Char.{is_ascii_hexdigit}
-use Rattle.std.specs.Str.Parse.{digits_value, digits_value_after}
+use Rattle.ob_script.proofs.Cited.{◌≡◌, ◌<◌, ◌^◌, drop, list_all, is_ascii_hexdigit, digits_value, digits_value_after}
 use Rattle.ob_script.proofs.rights.hex_of.Given as goal
 
 abbrev pub invariant-loop-byte : goal.invariant-loop-byte

@@ -1,6 +1,4 @@
-use Rattle.std.proofs.Common.{◌≡◌, ◌++◌, ◌∷◌, take}
-use Rattle.std.specs.List.{flat_map}
-use Rattle.ob_script.specs.Writing.{label}
+use Rattle.ob_script.proofs.Cited.{◌≡◌, ◌++◌, ◌∷◌, take, flat_map, label}
 use Rattle.ob_script.proofs.writing.Line.each.Given as goal
 
 abbrev pub invariant-loop-handle : goal.invariant-loop-handle
