@@ -11,7 +11,7 @@ pub use Rattle.ob_script.specs.Commands.{Command, Bad, Asks}
 pub use Rattle.ob_script.specs.Devices.{Writes, Begins}
 pub use Rattle.ob_script.specs.Fitting.{FitsMake, FitHandles, FitsKind, FitsTarget, FitsTimeout, Fits, FitsSign, Small, FitsMask}
 pub use Rattle.ob_script.specs.Grammar.{command_of, command_of_words, limit_of, mode_of, timeout_of, text_of, asked, open_of, wait_of, text_of_words, name_of, make_of, target_of, access_of, command_of_text}
-pub use Rattle.ob_script.specs.Words.{words_of, number_of, value_of, ◌>>=◌, joined, labelled, value_after, kind_of, id_of, are_handles, handles_in, type_of, either_of, signed_of, up_to, long_of, moment_of, due_of, mask_of}
+pub use Rattle.ob_script.specs.Words.{words_of, number_of, value_of, ◌>>=◌, joined, labelled, value_after, kind_of, id_of, are_handles, handles_in, type_of, signed_of, up_to, long_of, moment_of, due_of, mask_of}
 pub use Rattle.ob_script.specs.Writing.{label, mask_word, line_of, either_word, make_words, kind_word, words_for, can_be_said, as_said, id_word, word_if, mask_words, mode_word, timeout_word, target_word, name_words, ended, said, text_words, text_for, is_line}
 pub use Rattle.pin_core.specs.declared.id.Id.{Id}
 pub use Rattle.std.proofs.Common.{arith, ◌≡◌, ℕ, List, [], ◌∷◌, ◌++◌, ◌≤◌, ◌<◌, refl, length, true, false, take, Bool, ◌-◌, ◌+◌, Some, None, Option, ◌∙◌, drop, ◌^◌, suc, ap, sym, ◌*◌, zero, inl, inr, ◌≢◌, decimal, ◌%◌, not, rules, if◌then◌else◌, map, codes, nat_lt, Result, ◌/◌, get_or, cond, All, Ok, Err, IfSome, ◌&&◌, ℤ, pos, negsuc, ◌==◌, ◌⊎◌, ◌↔◌, min, is_ok, replicate, eqb, w8, w64, ⊎_elim, bit_or}

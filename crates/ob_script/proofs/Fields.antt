@@ -1,5 +1,5 @@
 -- What stands in the line of a call is read as it was written, field by field.
-use Rattle.ob_script.proofs.Cited.{◌≡◌, ℕ, zero, suc, ◌+◌, ◌≤◌, arith, refl, ◌∙◌, List, [], ◌∷◌, ◌++◌, Bool, true, false, Option, Some, None, decimal, map, codes, nat_lt, if◌then◌else◌, IsNumeral, decimal_is_IsNumeral, Id, Kind, Rights, Timeout, Zero, Infinite, Millis, Until, Making, words_of, joined, number_of, id_of, kind_of, type_of, either_of, are_handles, handles_in, ◌>>=◌, text_of_words, name_of, make_of, target_of, access_of, mode_of, limit_of, timeout_of, FitsKind, FitsMake, FitsTarget, FitsTimeout, FitHandles, label, id_word, mask_word, either_word, word_if, mask_words, text_words, make_words, kind_word, mode_word, timeout_word, target_word}
+use Rattle.ob_script.proofs.Cited.{◌≡◌, ℕ, zero, suc, ◌+◌, ◌≤◌, arith, refl, ◌∙◌, List, [], ◌∷◌, ◌++◌, Bool, true, false, Option, Some, None, decimal, map, codes, nat_lt, if◌then◌else◌, IsNumeral, decimal_is_IsNumeral, Id, Kind, Rights, Timeout, Zero, Infinite, Millis, Until, Making, words_of, joined, number_of, id_of, kind_of, type_of, are_handles, handles_in, ◌>>=◌, text_of_words, name_of, make_of, target_of, access_of, mode_of, limit_of, timeout_of, FitsKind, FitsMake, FitsTarget, FitsTimeout, FitHandles, label, id_word, mask_word, either_word, word_if, mask_words, text_words, make_words, kind_word, mode_word, timeout_word, target_word}
 use Rattle.std.specs.Str.{bytes_eq}
 use Rattle.ob_waits.specs.declared.wait.Mode.{Mode}
 use Rattle.ob_waits.specs.declared.wait.Mode.TheVariants.{Any, All}
@@ -8,11 +8,6 @@ use Rattle.ob_script.proofs.Cuts.{words_joined}
 use Rattle.ob_script.proofs.Numerals.{are_digits, digit_is, reads_due, reads_mask, reads_number}
 use Rattle.ob_script.proofs.Objects.{id_parts}
 use Rattle.ob_script.proofs.Spaces.{is_word, AreWords, read_words, reads_front, word_append, decimal_word, hex_word, signed_word}
-
-pub reads_either : (first second : List ℕ) (is_so : Bool) → bytes_eq first first ≡ true → bytes_eq second first ≡ false
-    → bytes_eq second second ≡ true
-    → either_of first second (either_word first second is_so) ≡ Some is_so
-reads_either first second is_so same other self = search arith
 
 -- the name of a create, as it stands in the words of a line
 abbrev pub name_read : Option (List ℕ) → List (List ℕ)

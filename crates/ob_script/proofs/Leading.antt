@@ -39,10 +39,6 @@ module _ (stop : ℕ) (text : List ℕ) (n : ℕ) (other : is_ascii_digit stop �
   ]
 
 -- a number behind a letter, which is no blank
-labelled_is : (letter : ℕ) (word : List ℕ) (value : ℕ) → number_of word ≡ Some value
-    → labelled letter (letter ∷ word) ≡ Some value
-labelled_is letter word value number = grind arith
-
 pub behind_letter : (letter : ℕ) (text digits : List ℕ) (found : Option (ℕ × Option (Bor (List ℕ)))) → letter ≢ 32
     → 1 ≤ length text → get_or text 0 0 ≡ letter →
     IfSome found (λ number. (word : List ℕ) × (number_of word ≡ Some number.0)
@@ -53,7 +49,7 @@ behind_letter letter [] digits found dark some is number rest = absurd (omega ar
 behind_letter letter (first ∷ more) digits None dark some is number rest = number
 behind_letter letter (first ∷ more) digits (Some found) dark some is (word, number, words) rest = (
   letter ∷ word,
-  labelled_is letter word found.0 number,
+  grind arith,
   search arith,
 )
 

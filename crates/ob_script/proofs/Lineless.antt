@@ -35,13 +35,11 @@ nameless s process text is = search (arith, unprintable)
 
 own_fails : (s : State) (process : ℕ) (name : Option (List ℕ)) → is_nameable name ≡ false
     → is_ok (own_name s process name) ≡ false
-own_fails s process None is = absurd (true≢false is)
-own_fails s process (Some text) is = search (arith, first_fails, nameless)
+own_fails s process name is = search (arith, first_fails, nameless)
 
 -- one that is has its place there
 name_short : (name : Option (List ℕ)) → is_nameable name ≡ true → AreShort 260 (name_words name)
-name_short None is = tt
-name_short (Some text) is = search arith
+name_short name is = search arith
 
 -- a call whose other words are few and short has no line for its name alone
 misnamed : (call : Call) (name : Option (List ℕ)) → can_be_said call ≡ true → length (words_for call) ≤ 15

@@ -11,9 +11,6 @@ object slot generation = do
   generation ← generation
   Some (record { slot = slot; generation = generation })
 
-none_behind_slot : (slot : Option ℕ) → object slot None ≡ None
-none_behind_slot slot = search arith
-
 -- an object by the place of its full stop
 id_at : (text : List ℕ) (n : ℕ) → position_or_len (is_byte 46) text ≡ n
     → id_of (115 ∷ text) ≡ object (number_of (take n text)) (number_of (drop (n + 1) text))
@@ -77,7 +74,7 @@ no_generation text rest tail n some letter behind digits within stop last none w
     by (w ∷ ws) is =
         let led = object_led text rest w n ws some letter behind digits within stop (rw last at is) in
         let none_in : id_of (115 ∷ (take n rest ++ 46 ∷ w)) ≡ None =
-        rw (id_parts (take n rest) w digits, none w ws is, none_behind_slot) in cc
+        rw (id_parts (take n rest) w digits, none w ws is) (search arith) in cc
 
 -- behind the letter is no number with a full stop
 no_slot_in : (word : List ℕ) (n slot : ℕ) → list_all is_ascii_digit (take n word) ≡ true

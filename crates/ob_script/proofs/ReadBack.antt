@@ -3,7 +3,7 @@ use Rattle.ob_script.proofs.Cited.{◌≡◌, ℕ, ◌≤◌, arith, ap, ◌∙�
 use Rattle.ob_manager.specs.declared.call.CallOf.TheVariants as calls
 use Rattle.ob_script.proofs.Numerals.{reads_due, reads_mask, reads_moment, reads_number, reads_signed}
 use Rattle.ob_script.proofs.Spaces.{said_joined, AreWords, read_words, reads_front, reads_all}
-use Rattle.ob_script.proofs.Fields.{reads_make, reads_make_words, reads_text, reads_open_words, reads_id, reads_kind, reads_type, reads_mode, reads_timeout, reads_handles, reads_target, reads_access, options_are, reads_either, line_words}
+use Rattle.ob_script.proofs.Fields.{reads_make, reads_make_words, reads_text, reads_open_words, reads_id, reads_kind, reads_type, reads_mode, reads_timeout, reads_handles, reads_target, reads_access, options_are, line_words}
 
 -- a line of words alone
 reads_words : (call : Call) → AreWords (words_for call) → command_of_words true (words_for call) ≡ Asks (as_said call)
@@ -61,16 +61,7 @@ reads (calls.WaitFor thread mode timeout handles) fits can =
     (search (arith, reads_number, reads_mode, reads_timeout, are.0, are.1))
 reads call fits can =
     reads_words call (search (arith, line_words) depth 12)
-    (search (
-      arith,
-      reads_number,
-      reads_signed,
-      reads_due,
-      reads_id,
-      reads_timeout,
-      reads_either (codes "plain") (codes "inherit"),
-      reads_either (codes "clear") (codes "set"),
-    ))
+    (search (arith, reads_number, reads_signed, reads_due, reads_id, reads_timeout))
 
 starts : (call : Call) → nat_lt 4096 (length (text_for call)) ≡ false
     → command_of_text true (text_for call) ≡ command_of_words true (read_words (words_for call))

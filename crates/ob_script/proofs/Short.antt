@@ -1,8 +1,7 @@
 -- A call whose name and handles are few enough has a line.
-use Rattle.ob_script.proofs.Cited.{◌≡◌, ℕ, ◌+◌, ◌*◌, ◌<◌, ◌≤◌, arith, refl, List, [], ◌∷◌, ◌++◌, length, Bool, true, false, not, ◌&&◌, ◌==◌, Option, Some, None, decimal, map, codes, if◌then◌else◌, ℤ, pos, negsuc, length-append, digits, signed_decimal, list_all, nat_le, nat_tests, length-decimal-le, list_all-append, Id, Kind, Rights, Timeout, Zero, Infinite, Millis, Until, Making, Call, joined, FitsKind, FitsMake, FitsMask, FitsSign, FitsTarget, FitsTimeout, FitHandles, label, id_word, mask_word, either_word, word_if, mask_words, name_words, make_words, kind_word, mode_word, timeout_word, target_word, words_for, can_be_said, line_of}
+use Rattle.ob_script.proofs.Cited.{Some, ◌≡◌, ℕ, ◌+◌, ◌*◌, ◌<◌, ◌≤◌, arith, refl, List, [], ◌∷◌, ◌++◌, length, Bool, true, false, not, ◌&&◌, ◌==◌, Option, None, decimal, map, codes, if◌then◌else◌, ℤ, pos, negsuc, length-append, digits, signed_decimal, list_all, nat_le, nat_tests, length-decimal-le, list_all-append, Id, Kind, Rights, Timeout, Zero, Infinite, Millis, Until, Making, Call, joined, FitsKind, FitsMake, FitsMask, FitsSign, FitsTarget, FitsTimeout, FitHandles, label, id_word, mask_word, either_word, word_if, mask_words, name_words, make_words, kind_word, mode_word, timeout_word, target_word, words_for, can_be_said, line_of}
 use Rattle.ob_rights.specs.declared.kind.Kind.TheVariants.{Host}
 use Rattle.ob_waits.specs.declared.wait.Mode.{Mode}
-use Rattle.ob_waits.specs.declared.wait.Mode.TheVariants.{Any, All}
 use Rattle.ob_script.proofs.Numerals.{digits_pass, hex_few}
 
 -- a byte that is no line feed
@@ -68,8 +67,7 @@ module _ (most : ℕ) (room : 22 ≤ most) where
   moment_short n fits = search (arith, most_digits, digits_within)
 
   pub due_short : (due : ℤ) → FitsSign 9223372036854775808 due → IsShort most (signed_decimal due)
-  due_short (pos n) fits = search (arith, most_digits, digits_within)
-  due_short (negsuc n) fits = search (arith, most_digits, digits_within)
+  due_short due fits = search (arith, most_digits, digits_within)
 
   pub signed_short : (z : ℤ) → FitsSign 2147483648 z → IsShort most (signed_decimal z)
   signed_short (pos n) fits = due_short (pos n) (omega (arith, fits))
@@ -87,15 +85,13 @@ module _ (most : ℕ) (room : 22 ≤ most) where
   kind_short kind fits = search arith
 
   pub mode_short : (mode : Mode) → IsShort most (mode_word mode)
-  mode_short Any = search arith
-  mode_short All = search arith
+  mode_short mode = search arith
 
   pub timeout_short : (timeout : Timeout) → FitsTimeout timeout → IsShort most (timeout_word timeout)
   timeout_short Zero fits = number_short 0 (omega arith)
   timeout_short Infinite fits = search arith
   timeout_short (Millis millis) fits = number_short millis fits
-  timeout_short (Until (pos n)) fits = search (arith, most_digits, digits_within)
-  timeout_short (Until (negsuc n)) fits = search (arith, most_digits, digits_within)
+  timeout_short (Until due) fits = search (arith, most_digits, digits_within)
 
   pub target_short : (target : Option ℕ) → FitsTarget target → IsShort most (target_word target)
   target_short None fits = search arith
@@ -120,8 +116,7 @@ module _ (most : ℕ) (room : 22 ≤ most) where
 
   masks_short : (keyword : List ℕ) (mask : Option Rights) → IsShort most keyword → FitsMask mask
       → AreShort most (mask_words keyword mask)
-  masks_short keyword None is fits = tt
-  masks_short keyword (Some mask) is fits = (is, (mask_short mask fits, tt))
+  masks_short keyword mask is fits = search (arith, mask_short)
 
   -- what a create asks for but its name
   pub make_short : (make : Making) → FitsMake make → AreShort most (name_words make.name)

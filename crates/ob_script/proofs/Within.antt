@@ -1,7 +1,6 @@
 -- No line of a call and its answer has a line feed.
-use Rattle.ob_script.proofs.Cited.{◌≡◌, ℕ, zero, suc, arith, refl, List, [], ◌∷◌, ◌++◌, take, Bool, true, false, Option, Some, None, IfSome, decimal, list_all, list_all-append, Id, Call, Reply, ended, line_of}
+use Rattle.ob_script.proofs.Cited.{false, Some, None, ◌≡◌, ℕ, zero, suc, arith, refl, List, [], ◌∷◌, ◌++◌, take, Bool, true, Option, IfSome, decimal, list_all, list_all-append, Id, Call, Reply, ended, line_of}
 use Rattle.pin_words.specs.declared.pin_keeper.Reclaim.{Reclaim}
-use Rattle.pin_words.specs.declared.pin_keeper.Reclaim.TheVariants.{Held}
 use Rattle.ob_manager.specs.declared.reply.Reply.TheVariants.{Reaped}
 use Rattle.ob_script.specs.Printed.{printed_id, printed_reclaim, printed_reply}
 use Rattle.ob_script.proofs.Short.{digits_within, no_feed}
@@ -20,8 +19,7 @@ id_has : (id : Id) → HasNone (printed_id id)
 id_has id = search (arith, join, number)
 
 reclaim_has : (outcome : Reclaim) → HasNone (printed_reclaim outcome)
-reclaim_has (Held pins) = search (arith, join, number)
-reclaim_has outcome = refl
+reclaim_has outcome = search (arith, join, number)
 
 pub reply_has : (reply : Reply) → HasNone (printed_reply reply)
 reply_has (Reaped id outcome) = search (arith, join, id_has, reclaim_has)
