@@ -1,5 +1,5 @@
 -- A call is answered as its line is.
-use Rattle.ob_script.proofs.Cited.{◌≡◌, ◌↔◌, arith, Reply, Zero, Call, as_said}
+use Rattle.ob_script.proofs.Cited.{Zero, ◌≡◌, ◌↔◌, arith, Reply, Call, as_said}
 use Rattle.ob_manager.specs.declared.call.CallOf.TheVariants as calls
 use Rattle.ob_manager.specs.Steps.{Step, does, closes, lacks, is_duplicate, outcome_of, takes_memory}
 use Rattle.ob_store.specs.State.{State, Whole}
@@ -15,18 +15,12 @@ carries a b alike w v reply (does is keeps) = search arith
 carries a b alike w v reply (closes is gives only) = search arith
 carries a b alike w v reply (lacks takes ok is same) = search arith
 
-itself : (call : Call) → Alike call call
-itself call = search arith
-
 flipped : (a b : Call) → Alike a b → Alike b a
 flipped a b alike = search arith
 
 said_alike : (call : Call) → Alike (as_said call) call
-said_alike (calls.Duplicate thread source handle target mask inherit options) = search arith
-said_alike (calls.WaitFor thread mode Zero handles) = search arith
 said_alike (calls.SignalAndWait thread signal Zero handle) = search arith
-said_alike (calls.Sleep thread Zero) = search arith
-said_alike call = itself call
+said_alike call = search arith
 
 pub answered_alike : (w v : Whole) (call : Call) (reply : Reply) → Step w (as_said call) reply v ↔ Step w call reply v
 answered_alike w v call reply = (

@@ -14,7 +14,7 @@ pub use Rattle.ob_script.specs.Grammar.{command_of, command_of_words, limit_of, 
 pub use Rattle.ob_script.specs.Words.{words_of, number_of, value_of, ◌>>=◌, joined, labelled, value_after, kind_of, id_of, are_handles, handles_in, type_of, signed_of, up_to, long_of, moment_of, due_of, mask_of}
 pub use Rattle.ob_script.specs.Writing.{label, mask_word, line_of, either_word, make_words, kind_word, words_for, can_be_said, as_said, id_word, word_if, mask_words, mode_word, timeout_word, target_word, name_words, ended, said, text_words, text_for, is_line}
 pub use Rattle.pin_core.specs.declared.id.Id.{Id}
-pub use Rattle.std.proofs.Common.{arith, ◌≡◌, ℕ, List, [], ◌∷◌, ◌++◌, ◌≤◌, ◌<◌, refl, length, true, false, take, Bool, ◌-◌, ◌+◌, Some, None, Option, ◌∙◌, drop, ◌^◌, suc, ap, sym, ◌*◌, zero, inl, inr, ◌≢◌, decimal, ◌%◌, not, rules, if◌then◌else◌, map, codes, nat_lt, Result, ◌/◌, get_or, cond, All, Ok, Err, IfSome, ◌&&◌, ℤ, pos, negsuc, ◌==◌, ◌⊎◌, ◌↔◌, min, is_ok, replicate, eqb, w8, w64, ⊎_elim, bit_or}
+pub use Rattle.std.proofs.Common.{arith, ◌≡◌, ℕ, List, [], ◌∷◌, ◌++◌, ◌≤◌, ◌<◌, refl, length, true, false, take, Bool, ◌-◌, ◌+◌, Some, None, Option, ◌∙◌, drop, ◌^◌, suc, ap, sym, ◌*◌, zero, inl, inr, ◌≢◌, decimal, ◌%◌, not, rules, if◌then◌else◌, map, codes, nat_lt, Result, ◌/◌, get_or, cond, All, Ok, Err, IfSome, ◌&&◌, ℤ, pos, negsuc, ◌==◌, ◌⊎◌, ◌↔◌, min, is_ok, replicate, eqb, w8, w64, bit_or}
 pub use Rattle.std.proofs.Math.Nat.{pow-le-pow_right, pow-suc}
 pub use Rattle.std.proofs.lemmas.Bool.{cases_lt, cases_eq, ne_eqb, true≢false, false_from_ne_true, and_from, cond_both, not-true}
 pub use Rattle.std.proofs.lemmas.Bool.Decides.{nat_tests}

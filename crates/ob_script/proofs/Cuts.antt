@@ -13,8 +13,7 @@ first_place byte text at found = search (arith, position_or_len_is)
 pub no_place : (byte : ℕ) (text : List ℕ) → IsFirstByte (is_byte byte) text None
     → position_or_len (is_byte byte) text ≡ length text
 no_place byte text none =
-    position_or_len_is (is_byte byte) text (length text) 0 (omega arith)
-    (search arith) (λ past. absurd (omega arith))
+    position_or_len_is (is_byte byte) text (length text) 0 (omega arith) (search arith) (λ past. absurd (omega arith))
 
 -- what is behind the first place
 pub behind_first : (byte : ℕ) (text rest : List ℕ) (at : ℕ) → IsFirstByte (is_byte byte) text (Some at)

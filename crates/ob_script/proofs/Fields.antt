@@ -1,13 +1,12 @@
 -- What stands in the line of a call is read as it was written, field by field.
-use Rattle.ob_script.proofs.Cited.{◌≡◌, ℕ, zero, suc, ◌+◌, ◌≤◌, arith, refl, ◌∙◌, List, [], ◌∷◌, ◌++◌, Bool, true, false, Option, Some, None, decimal, map, codes, nat_lt, if◌then◌else◌, IsNumeral, decimal_is_IsNumeral, Id, Kind, Rights, Timeout, Zero, Infinite, Millis, Until, Making, words_of, joined, number_of, id_of, kind_of, type_of, are_handles, handles_in, ◌>>=◌, text_of_words, name_of, make_of, target_of, access_of, mode_of, limit_of, timeout_of, FitsKind, FitsMake, FitsTarget, FitsTimeout, FitHandles, label, id_word, mask_word, either_word, word_if, mask_words, text_words, make_words, kind_word, mode_word, timeout_word, target_word}
+use Rattle.ob_script.proofs.Cited.{list_all-append, ◌≡◌, ℕ, zero, suc, ◌+◌, ◌≤◌, arith, refl, List, [], ◌∷◌, ◌++◌, Bool, true, false, Option, Some, None, decimal, map, codes, nat_lt, if◌then◌else◌, IsNumeral, decimal_is_IsNumeral, Id, Kind, Rights, Timeout, Zero, Infinite, Millis, Until, Making, words_of, joined, number_of, id_of, kind_of, type_of, are_handles, handles_in, ◌>>=◌, text_of_words, name_of, make_of, target_of, access_of, mode_of, limit_of, timeout_of, FitsKind, FitsMake, FitsTarget, FitsTimeout, FitHandles, label, id_word, mask_word, either_word, word_if, mask_words, text_words, make_words, kind_word, mode_word, timeout_word, target_word}
 use Rattle.std.specs.Str.{bytes_eq}
 use Rattle.ob_waits.specs.declared.wait.Mode.{Mode}
-use Rattle.ob_waits.specs.declared.wait.Mode.TheVariants.{Any, All}
 use Rattle.ob_manager.specs.Copying.{closes, keeps_rights}
 use Rattle.ob_script.proofs.Cuts.{words_joined}
 use Rattle.ob_script.proofs.Numerals.{are_digits, digit_is, reads_due, reads_mask, reads_number}
 use Rattle.ob_script.proofs.Objects.{id_parts}
-use Rattle.ob_script.proofs.Spaces.{is_word, AreWords, read_words, reads_front, word_append, decimal_word, hex_word, signed_word}
+use Rattle.ob_script.proofs.Spaces.{is_word, AreWords, read_words, reads_front, decimal_word, hex_word, signed_word}
 
 -- the name of a create, as it stands in the words of a line
 abbrev pub name_read : Option (List ℕ) → List (List ℕ)
@@ -37,7 +36,8 @@ pub reads_open_words : (inherit : Bool) (text : List ℕ)
 reads_open_words inherit text = search arith
 
 -- the words of a duplicate behind its mask
-pub dup_words_are : (inherit is_so : Bool) → AreWords (word_if inherit (codes "inherit") ++ word_if is_so (codes "close"))
+pub dup_words_are : (inherit is_so : Bool)
+    → AreWords (word_if inherit (codes "inherit") ++ word_if is_so (codes "close"))
 dup_words_are inherit is_so = search arith
 
 pub reads_access : (same : Bool) (mask : Rights) → mask.0 ≤ 4294967295
@@ -77,8 +77,7 @@ pub either_is_word : (first second : List ℕ) (is_so : Bool) → is_word first 
 either_is_word first second is_so first_is second_is = search arith
 
 pub reads_mode : (mode : Mode) → mode_of (mode_word mode) ≡ Some mode
-reads_mode Any = refl
-reads_mode All = refl
+reads_mode mode = search arith
 
 pub mode_is_word : (mode : Mode) → is_word (mode_word mode) ≡ true
 mode_is_word mode = search arith
@@ -105,10 +104,7 @@ said_timeout (Until due) = Until due
 
 pub reads_timeout : (timeout : Timeout) → FitsTimeout timeout
     → timeout_of true (timeout_word timeout) ≡ Some (said_timeout timeout)
-reads_timeout Zero fits = reads_millis 0 (omega arith)
-reads_timeout Infinite fits = refl
-reads_timeout (Millis millis) fits = reads_millis millis fits
-reads_timeout (Until due) fits = rw (reads_due due fits)
+reads_timeout timeout fits = search (arith, reads_millis, reads_due)
 
 pub timeout_is_word : (timeout : Timeout) → is_word (timeout_word timeout) ≡ true
 timeout_is_word timeout = search (arith, decimal_word, signed_word)
@@ -124,11 +120,14 @@ handles_are_words (handle ∷ handles) = (decimal_word handle, handles_are_words
 
 pub reads_id : (id : Id) → id.slot ≤ 4294967295 → id.generation ≤ 4294967295 → id_of (id_word id) ≡ Some id
 reads_id id slot_fits generation_fits =
-    id_parts (decimal id.slot) (decimal id.generation) (are_digits id.slot)
-    ∙ rw (reads_number id.slot slot_fits, reads_number id.generation generation_fits)
+    search (arith, id_parts, are_digits, reads_number)
 
 pub id_is_word : (id : Id) → is_word (id_word id) ≡ true
-id_is_word id = search (arith, decimal_word, word_append)
+id_is_word id = search (arith, decimal_word, list_all-append)
 
--- what stands between the spaces of a line
-pub ruleset line_words = (decimal_word, hex_word, signed_word, id_is_word, either_is_word, kind_is_word, mode_is_word, timeout_is_word, target_is_word, access_is_word, handles_are_words, dup_words_are)
+-- what stands between the spaces of a line: numbers, and other words
+pub ruleset number_words = (decimal_word, hex_word, signed_word, id_is_word, timeout_is_word, handles_are_words)
+
+pub ruleset other_words = (either_is_word, kind_is_word, mode_is_word, target_is_word, access_is_word, dup_words_are)
+
+pub ruleset line_words = (number_words, other_words)

@@ -1,5 +1,5 @@
 -- What marks on the first bytes of a text say of it.
-use Rattle.ob_script.proofs.Cited.{◌≡◌, ℕ, ◌<◌, ◌≤◌, ◌%◌, ◌^◌, List, true, false, length, take, get_or, map, replicate, cond, eqb, arith, ap, ◌∙◌, w8, w64, ⊎_elim, bit_or, position_or_len, cases_lt, get_or-map, get_or_past, get_or-take, length-map, length-take-le, position_or_len_is, is_byte}
+use Rattle.ob_script.proofs.Cited.{length-take-le, nat_tests, ◌≡◌, ℕ, ◌<◌, ◌≤◌, ◌%◌, ◌^◌, List, true, false, length, take, get_or, map, replicate, cond, eqb, arith, ap, ◌∙◌, w8, w64, bit_or, position_or_len, get_or-map, get_or_past, get_or-take, length-map, position_or_len_is, is_byte}
 use Rattle.std.specs.Int.{bit_at, trailing_zeros}
 use Rattle.std.specs.Simd.Lanes.{mask_l, top, zip2, chunk}
 use Rattle.std.proofs.lemmas.Nat.{or_lt}
@@ -14,8 +14,7 @@ pub marks_compared : (byte : ℕ) (bytes : List ℕ) → length bytes ≡ 32
 marks_compared byte bytes long =
     rw (bitmask_splat w8 eqb bytes 32 byte long (omega arith)) (record {
       each = search (arith, bit_mask_l, get_or-map);
-      within = λ k set. ⊎_elim (λ within. within) (λ past. absurd (omega (arith, clear_past k past)))
-          (cases_lt k 32);
+      within = grind (arith, nat_tests, clear_past);
     })
   where
     clear_past : (k : ℕ) → 32 ≤ k → bit_at (mask_l (map (is_byte byte) bytes)) k ≡ 0
@@ -69,9 +68,8 @@ module _ (text : List ℕ) (long : 32 ≤ length text) where
           position_or_len_is (is_byte 32) (take end text) word 0 (omega arith)
           (λ k before. rw (get_or-take end text k 0 (omega arith))
           (clear_is 32 blanks k are_blanks (omega (arith, near)) (omega (arith, both k, first.2 k before))))
-          (λ within.
-          let before : word < end = omega arith in rw (get_or-take end text word 0 before)
-          (set_is 32 blanks word are_blanks (omega (arith, both word, lowest.2 word before))))
+          (λ within. rw (get_or-take end text word 0 (omega arith))
+          (set_is 32 blanks word are_blanks (omega (arith, both word, lowest.2 word (omega arith)))))
 
 -- where a line and its first word end
 pub ruleset near_laws = (line_within, line_ends, word_ends)

@@ -27,19 +27,15 @@ value_same n (c ∷ cs) all = search (arith, digit_is, value_same (n * 10 + digi
 pub are_digits : (n : ℕ) → list_all is_ascii_digit (decimal n) ≡ true
 are_digits n = search (arith, digits_pass)
 
-value_is : (n : ℕ) → n < 2 ^ 64 → value_of (decimal n) ≡ n
-value_is n small =
-    let is = decimal_is_IsNumeral n small in search (arith, value_same, is, is.0.1, is.1)
-
 -- a number is 1 to so many digits, whose value it is
 number : (k n : ℕ) → 0 < k → n < 10 ^ k → n < 2 ^ 64 →
     (0 < length (decimal n)) × (length (decimal n) ≤ k) × (list_all is_ascii_digit (decimal n) ≡ true)
     × (value_of (decimal n) ≡ n)
-number k n some fits small = (
-  (decimal_is_IsNumeral n small).0.0,
+number k n some fits small = let is = decimal_is_IsNumeral n small in (
+  is.0.0,
   length-decimal-le k n some fits small,
   are_digits n,
-  value_is n small,
+  search (arith, value_same, is, is.0.1, is.1),
 )
 
 pub reads_number : (n : ℕ) → n ≤ 4294967295 → number_of (decimal n) ≡ Some n

@@ -77,7 +77,8 @@ reads_line : (call : Call) → Fits call → can_be_said call ≡ true → nat_l
 reads_line call fits can short =
     ap (command_of_text true) (drops_return (text_for call)) ∙ starts call short ∙ reads call fits can
 
-pub line_is_read : (call : Call) → Fits call → IfSome (line_of call) (λ line. command_of true line ≡ Asks (as_said call))
+pub line_is_read : (call : Call) → Fits call
+    → IfSome (line_of call) (λ line. command_of true line ≡ Asks (as_said call))
 line_is_read call fits = search (arith, nat_tests, reads_line call fits)
 
 -- the text that was written, and what becomes of it

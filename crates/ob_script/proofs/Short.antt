@@ -1,5 +1,5 @@
 -- A call whose name and handles are few enough has a line.
-use Rattle.ob_script.proofs.Cited.{Some, ◌≡◌, ℕ, ◌+◌, ◌*◌, ◌<◌, ◌≤◌, arith, refl, List, [], ◌∷◌, ◌++◌, length, Bool, true, false, not, ◌&&◌, ◌==◌, Option, None, decimal, map, codes, if◌then◌else◌, ℤ, pos, negsuc, length-append, digits, signed_decimal, list_all, nat_le, nat_tests, length-decimal-le, list_all-append, Id, Kind, Rights, Timeout, Zero, Infinite, Millis, Until, Making, Call, joined, FitsKind, FitsMake, FitsMask, FitsSign, FitsTarget, FitsTimeout, FitHandles, label, id_word, mask_word, either_word, word_if, mask_words, name_words, make_words, kind_word, mode_word, timeout_word, target_word, words_for, can_be_said, line_of}
+use Rattle.ob_script.proofs.Cited.{Some, ◌≡◌, ℕ, ◌+◌, ◌*◌, ◌<◌, ◌≤◌, arith, refl, List, [], ◌∷◌, ◌++◌, length, Bool, true, false, not, ◌&&◌, ◌==◌, Option, None, decimal, map, codes, if◌then◌else◌, ℤ, length-append, digits, signed_decimal, list_all, nat_le, nat_tests, length-decimal-le, list_all-append, Id, Kind, Rights, Timeout, Zero, Infinite, Millis, Until, Making, Call, joined, FitsKind, FitsMake, FitsMask, FitsSign, FitsTarget, FitsTimeout, FitHandles, label, id_word, mask_word, either_word, word_if, mask_words, name_words, make_words, kind_word, mode_word, timeout_word, target_word, words_for, can_be_said, line_of}
 use Rattle.ob_rights.specs.declared.kind.Kind.TheVariants.{Host}
 use Rattle.ob_waits.specs.declared.wait.Mode.{Mode}
 use Rattle.ob_script.proofs.Numerals.{digits_pass, hex_few}
@@ -13,7 +13,7 @@ pub record IsShort (most : ℕ) (word : List ℕ) : Type 0 where
   pub len : length word ≤ most
   pub within : list_all no_feed word ≡ true
 
--- a keyword is
+-- the same as a test, for keywords
 abbrev is_known : List ℕ → Bool
 is_known word = nat_le (length word) 22 && list_all no_feed word
 
@@ -70,8 +70,7 @@ module _ (most : ℕ) (room : 22 ≤ most) where
   due_short due fits = search (arith, most_digits, digits_within)
 
   pub signed_short : (z : ℤ) → FitsSign 2147483648 z → IsShort most (signed_decimal z)
-  signed_short (pos n) fits = due_short (pos n) (omega (arith, fits))
-  signed_short (negsuc n) fits = due_short (negsuc n) (omega (arith, fits))
+  signed_short z fits = search (arith, most_digits, digits_within)
 
   pub mask_short : (mask : Rights) → mask.0 ≤ 4294967295 → IsShort most (mask_word mask)
   mask_short mask fits = search (arith, digits_within, hex_few)
@@ -118,7 +117,7 @@ module _ (most : ℕ) (room : 22 ≤ most) where
       → AreShort most (mask_words keyword mask)
   masks_short keyword mask is fits = search (arith, mask_short)
 
-  -- what a create asks for but its name
+  -- what a create asks for, where its name is short
   pub make_short : (make : Making) → FitsMake make → AreShort most (name_words make.name)
       → AreShort most (make_words make)
   make_short make fits named = search (arith, append_short, if_short, masks_short)
@@ -129,8 +128,12 @@ least = omega arith
 pub wide : 22 ≤ 260
 wide = omega arith
 
--- what the words of a call are made of
-pub ruleset words_short = (least, wide, number_short, label_short, type_short, id_short, due_short, signed_short, mask_short, either_short, kind_short, mode_short, timeout_short, target_short, access_short, if_short, append_short)
+-- the words of a call: numbers, keywords, and what is either
+pub ruleset numbers_short = (least, wide, number_short, label_short, type_short, id_short, due_short, signed_short)
+
+pub ruleset keywords_short = (either_short, kind_short, mode_short, if_short, append_short)
+
+pub ruleset words_short = (numbers_short, keywords_short, mask_short, timeout_short, target_short, access_short)
 
 -- how many words a create has at most
 pub make_few : (make : Making) → length (make_words make) ≤ 7

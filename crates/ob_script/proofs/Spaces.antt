@@ -1,5 +1,5 @@
 -- Words that are joined by spaces are read as they were.
-use Rattle.ob_script.proofs.Cited.{◌≡◌, ℕ, suc, ℤ, pos, negsuc, arith, refl, List, [], ◌∷◌, ◌++◌, Bool, true, false, not, ◌==◌, All, decimal, append-nil, not-true, digits, signed_decimal, list_all, list_all-append, AllPass-from_list_all, is_byte, words_of, joined, said}
+use Rattle.ob_script.proofs.Cited.{◌≡◌, ℕ, ℤ, arith, refl, List, [], ◌∷◌, ◌++◌, Bool, true, false, not, ◌==◌, All, decimal, append-nil, not-true, digits, signed_decimal, list_all, AllPass-from_list_all, is_byte, words_of, joined, said}
 use Rattle.std.proofs.lemmas.List.Splits.{slice_split_at, slice_split_none}
 use Rattle.ob_script.proofs.Numerals.{digits_pass}
 
@@ -42,11 +42,7 @@ pub decimal_word : (n : ℕ) → is_word (decimal n) ≡ true
 decimal_word n = search (arith, digits_pass)
 
 pub signed_word : (z : ℤ) → is_word (signed_decimal z) ≡ true
-signed_word (pos n) = decimal_word n
-signed_word (negsuc n) = decimal_word (suc n)
-
-pub word_append : (front back : List ℕ) → is_word front ≡ true → is_word back ≡ true → is_word (front ++ back) ≡ true
-word_append front back front_is back_is = search (arith, list_all-append)
+signed_word z = search (arith, decimal_word)
 
 -- words that each have a space before them
 pub said_joined : (words : List (List ℕ)) → said words ≡ joined words
