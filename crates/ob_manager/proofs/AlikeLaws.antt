@@ -1,5 +1,5 @@
 -- Two managers of one state answer each call alike.
-use Rattle.std.proofs.Common.{◌≡◌, ◌∙◌, ap, false, refl, sym}
+use Rattle.std.proofs.Common.{◌≡◌, ap, arith, false, refl}
 use Rattle.ob_store.specs.State.{State, Whole}
 use Rattle.ob_manager.specs.Calls.{Call}
 use Rattle.ob_manager.specs.declared.call.CallOf.TheVariants as calls
@@ -22,13 +22,15 @@ comes_to : (w v : Whole) (call : Call) (r : Reply) → Step w call r v → is_la
     → final w.state (outcome_of w.state call r) ≡ come r v.state
 comes_to w v call r (does e keeps) enough = e
 comes_to w v call r (closes duplicate e keeps) enough = ap (final w.state) e
-comes_to w v call r (lacks takes passes is same) enough = absurd (cc (sym (ap is_lack is) ∙ enough))
+comes_to w v call r (lacks takes passes is same) enough = grind arith
 
 pub answers_alike : (a b v w : Whole) (call : Call) (r t : Reply) → a.state ≡ b.state → Step a call r v
     → Step b call t w → is_lack r ≡ false → is_lack t ≡ false → reclaim_in r ≡ reclaim_in t
     → (r ≡ t) × (v.state ≡ w.state)
 answers_alike a b v w call r t same one other enough enough' free =
-    let alike : come r v.state ≡ come t w.state =
-    sym (comes_to a v call r one enough) ∙ ap (λ (s : State). final s (outcome_of s call r)) same
-    ∙ ap (final b.state) (same_outcome b.state call r t free) ∙ comes_to b w call t other enough' in
-    (ap (λ (o : Outcome). o.reply) alike, ap (λ (o : Outcome). o.state) alike)
+    let alike : come r v.state ≡ come t w.state = cc (
+      comes_to a v call r one enough,
+      comes_to b w call t other enough',
+      same_outcome b.state call r t free,
+    ) in
+    (λ i. (alike i).reply, λ i. (alike i).state)
