@@ -1,6 +1,4 @@
-use Rattle.std.proofs.Common.{◌<◌, ◌∙◌, sym, subst, get_or}
-use Rattle.ob_store.specs.State.{Whole, handles_of}
-use Rattle.ob_waits.specs.Waits.{nowhere}
+use Rattle.std.proofs.Common.{◌∙◌, sym}
 use Rattle.ob_manager.proofs.Waited.{waitable}
 use Rattle.ob_manager.proofs.waiting.wait_on.Goals as goal
 
@@ -15,5 +13,4 @@ add_wait-requires-clause-waitable g c =
     c.requires.not_empty c.requires.at_most (sym c.is_for_one_twice.ensures ∙ c.if-is_for_one_twice.false)
 
 pub add_wait-requires-clause-handled : goal.add_wait-requires-clause-handled
-add_wait-requires-clause-handled g c = λ i lt. subst (λ (w : Whole). 0
-    < handles_of w.state (get_or c.args.ids.now i nowhere)) (sym c.in_default.ensures.none) (c.requires.is_there i lt)
+add_wait-requires-clause-handled g c = rw c.in_default.ensures.none c.requires.is_there
