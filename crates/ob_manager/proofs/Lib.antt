@@ -1,6 +1,4 @@
 pub mod Refusing
-pub mod Counts
-pub mod EntryStays
 pub mod StepLaws
 pub mod LimitLaws
 pub mod Waited
