@@ -13,7 +13,7 @@ use Rattle.std.proofs.alloc.Calls.{Fits}
 use Rattle.std.specs.Prelude.{Option, Some, None}
 use Rattle.std.specs.contracts.impls.GlobalAllocator.TheImpl.{ghosts}
 use Rattle.std.specs.declared.alloc.Global.{Global}
-use Rattle.obman_c_base.proofs.Walks.{◌≡◌, ℕ, refl, subst, [], ◌∷◌, ◌++◌, List, T, lit<, Val, vnull, vstruct, vcons, vnil, of_list, has_ty, WT, ent, never, fst∗, Fml, fsep, RattleType, Ptr, RawPtr, block_ptr, null_ptr, ptr_val, in_a_block, bare, Logic, sem, ‵, ◌$◌, move, drop, use1, fsplit, fpick, feq_l, box_owns, handle_tells, P, box_ty, handle, word, and_tt, on_heap}
+use Rattle.obman_c_base.proofs.Walks.{◌≡◌, ℕ, refl, [], ◌∷◌, List, T, lit<, Val, vnull, vstruct, vcons, vnil, of_list, has_ty, WT, ent, never, fst∗, Fml, fsep, RattleType, Ptr, RawPtr, block_ptr, null_ptr, ptr_val, in_a_block, bare, Logic, sem, ‵, ◌$◌, move, drop, use1, fsplit, fpick, feq_l, box_owns, handle_tells, P, box_ty, handle, word, and_tt, on_heap}
 use Rattle.obman_c_base.specs.Owning.{owns_or_null}
 
 abbrev pub null_word : Val → Val
@@ -65,8 +65,6 @@ module _ (R : RattleType) (laws : Laws R) (a : Global) where
         feq_l t (λ ep. fsplit t $ handle_tells (on_heap R laws).al t a vss.1.0 (λ h ea fits. move t (1 ∷ []) $ drop t $
         move t (1 ∷ []) $
         let laid : (p : Ptr) → at ≡ p → vs ≡ vstruct (of_list (ptr_val p ∷ h ∷ [])) ∷ [] =
-        λ p is. subst (λ (q : Ptr). vs ≡ vstruct (of_list (ptr_val q ∷ h ∷ [])) ∷ []) is
-        (subst (λ (ws : List Val). vs ≡ vstruct (of_list (ptr_val at ∷ (ws ++ []))) ∷ []) ea
-        (subst (λ (ps : List Val). vs ≡ vstruct (of_list (ps ++ (vss.1.0 ++ []))) ∷ []) ep ev)) in
+        λ p is. rw (ep, ea, is) at ev in
         either t at value (λ is_none null. none h is_none (laid null_ptr null) fits)
         (λ x b o is_some at_b low. some x b o h is_some (laid (block_ptr b o) at_b) fits low)))))

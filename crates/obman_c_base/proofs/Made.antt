@@ -11,21 +11,16 @@ use Rattle.ob_script.specs.Telling.{text_for}
 use Rattle.obman_c_base.specs.Made.{Makes}
 use Rattle.obman_c_base.specs.declared.owned.OwnedManager.{OwnedManager}
 
-pub noted : {old new : OwnedManager} {call : Call} {reply : Reply} → Step old.manager call reply new.manager
-    → IfReap call (λ slot. IfReaped reply
-    (λ outcome. ReclaimsFound old.manager.keeper slot outcome new.manager.keeper))
-    → Notes old.recorder (text_for call reply) new.recorder → new.kept ≡ data_after call reply old.kept
-    → Makes old call reply new
-noted step exact lines kept = record { step = step; exact = exact; noted = lines; kept = kept }
+module _ {old new : OwnedManager} {call : Call} {reply : Reply} where
+  pub noted : Step old.manager call reply new.manager → IfReap call (λ slot. IfReaped reply
+      (λ outcome. ReclaimsFound old.manager.keeper slot outcome new.manager.keeper))
+      → Notes old.recorder (text_for call reply) new.recorder → new.kept ≡ data_after call reply old.kept
+      → Makes old call reply new
+  noted step exact lines kept = record { step = step; exact = exact; noted = lines; kept = kept }
 
-pub unnoted : {old new : OwnedManager} {call : Call} {reply : Reply} {on : Bool} → on ≡ false
-    → on ≡ old.recorder.is_on → new.recorder ≡ old.recorder → Step old.manager call reply new.manager
-    → IfReap call (λ slot. IfReaped reply
-    (λ outcome. ReclaimsFound old.manager.keeper slot outcome new.manager.keeper))
-    → new.kept ≡ data_after call reply old.kept → Makes old call reply new
-unnoted {old} {new} {call} {reply} off is same step exact kept = record {
-  step = step;
-  exact = exact;
-  noted = subst (λ (b : Bool). AddsWhere b old.recorder (text_for call reply) new.recorder) (sym off ∙ is) same;
-  kept = kept;
-}
+  pub unnoted : {on : Bool} → on ≡ false → on ≡ old.recorder.is_on → new.recorder ≡ old.recorder
+      → Step old.manager call reply new.manager → IfReap call (λ slot. IfReaped reply
+      (λ outcome. ReclaimsFound old.manager.keeper slot outcome new.manager.keeper))
+      → new.kept ≡ data_after call reply old.kept → Makes old call reply new
+  unnoted off is same step exact kept = noted step exact
+      (subst (λ (b : Bool). AddsWhere b old.recorder (text_for call reply) new.recorder) (sym off ∙ is) same) kept

@@ -1,5 +1,5 @@
 -- The names of the logic that the walks in owner/ cite, and what a box is under the names of this crate.
-pub use mathlib.Core.Path.{◌≡◌, refl, sym, subst, ap, ◌∙◌}
+pub use mathlib.Core.Path.{◌≡◌, refl, sym, ap, ◌∙◌}
 pub use mathlib.Core.List.{List, [], ◌∷◌, ◌++◌}
 pub use Prim.Native.Nat.{ℕ}
 pub use lib.Dec.{T, lit<}

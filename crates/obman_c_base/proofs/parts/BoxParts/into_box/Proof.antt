@@ -1,5 +1,5 @@
 -- What the parts own is what `from_raw` asks for.
-use Rattle.obman_c_base.proofs.Walks.{◌≡◌, refl, sym, subst, ap, [], ◌∷◌, ◌++◌, List, T, Val, vptr, has_ty, WT, id⊢, no, plain, only, heard, nothing, RattleType, block_ptr, ◌⊑◌, fact, Stays, stay_dropped, walk_of, triple_of, Goes-blank, WpFn, inst_fn, fm_of, calls_at_last, alloc_all, pass_all, free_all, look_at, get, get_in, sets, lands_last, env, ‵, raw, ◌⊛◌, some, later, prop, at_ret, ◌$◌, ◌∵◌, !, qed, move, drop, use1, join, split, split3, pick, rewrite, regoal, suffices, fsplit, fjoin, feq_i, await, done, whole, sub, stop, fld, no_more, and_then, of_opd, first, blocks, exec, returns, enter, after, proved_at, ends_at, says, ftrue, flft, fsep, box_owns, token, Bx, D, B, P, R, box_ty, box_typed, box_out, box_in}
+use Rattle.obman_c_base.proofs.Walks.{◌≡◌, refl, sym, ap, [], ◌∷◌, ◌++◌, List, T, Val, vptr, has_ty, WT, id⊢, no, plain, only, heard, nothing, RattleType, block_ptr, ◌⊑◌, fact, Stays, stay_dropped, walk_of, triple_of, Goes-blank, WpFn, inst_fn, fm_of, calls_at_last, alloc_all, pass_all, free_all, look_at, get, get_in, sets, lands_last, env, ‵, raw, ◌⊛◌, some, later, prop, at_ret, ◌$◌, ◌∵◌, !, qed, move, drop, use1, join, split, split3, pick, rewrite, regoal, suffices, fsplit, fjoin, feq_i, await, done, whole, sub, stop, fld, no_more, and_then, of_opd, first, blocks, exec, returns, enter, after, proved_at, ends_at, says, ftrue, flft, fsep, box_owns, token, Bx, D, B, P, R, box_ty, box_typed, box_out, box_in}
 use contract.Running.{tables, tables_of}
 use Rattle.std.proofs.BoxSteps.Form.{args}
 use Rattle.std.specs.contracts.boxed.Box.from_raw as callee
@@ -53,8 +53,7 @@ into_box_spec 𝓤 𝓛 𝓜 𝓡 wired X Z LX LZ g d dd allocator md =
     (λ _. split3 ! $ drop ! $ heard ! (r.value ≡ parts.value) (λ same. drop ! $ split ! $ move ! (1 ∷ []) $
     box_out E ! r (u ∷ []) (λ b' o' h' at' told fits'. box_in E ! r b' o' r.value at' refl $ rewrite !
     0 (λ (vs : List Val). ‵ ((B E).own_val r vs)) (sym told) refl $
-    let good : T (has_ty (box_ty E) u) × WT u = subst (λ (v : Val). T (has_ty (box_ty E) v)
-    × WT v) (sym (ap only told)) (box_typed E h' b' o' fits') in
+    let good : T (has_ty (box_ty E) u) × WT u = rw (ap only told) (box_typed E h' b' o' fits') in
     lands_last ! refl good $ exec ! 𝓣.C 𝓣.Λ (env fn.locals l) (after 3 fn.body) (at_ret (env fn.locals l) Post) $
     sets ! (of_opd ! (get ! refl)) refl good $ returns ! (look_at ! 0 refl) $ free_all ! refl $
     suffices ! _ (ends_at 𝓛 En hs c z u r ((tt, (tt, tt)), tt) (tt, tt)) $ says ! same $
