@@ -1,5 +1,5 @@
 -- What a walk found, as C is told of it.
-use Rattle.std.proofs.Common.{◌≡◌, ◌+◌, ◌≤◌, ℕ, zero, suc, Bool, false, List, length, Option, Some, None, IfSome, ap, ◌∙◌, refl, subst, sym, arith}
+use Rattle.std.proofs.Common.{◌≡◌, ◌+◌, ◌≤◌, ℕ, zero, suc, Bool, false, List, length, Option, Some, None, IfSome, refl, arith}
 use Rattle.std.specs.Option.{option_map}
 use Rattle.least.specs.Dues.{IsLeast}
 use Rattle.least.specs.From.{IsLeastFrom}
@@ -41,29 +41,22 @@ pub due_next : {s : State} {status before after : ℕ} {found : Option ℕ} → 
 due_next {found = found} least told = record { found = found; least = least; told = told }
 
 -- a number from 1 on is told as it is, and none as 0
-at_or_zero : (found : Option ℕ) → IfSome found (λ n. 1 ≤ n) → number_at (or_zero found) ≡ found
-at_or_zero None above = refl
-at_or_zero (Some zero) above = absurd (omega (arith, above))
-at_or_zero (Some (suc n)) above = refl
-
-above_zero : (from : ℕ) (found : Option ℕ) → IfSome found (λ n. from + 1 ≤ n) → IfSome found (λ n. 1 ≤ n)
-above_zero from None above = tt
-above_zero from (Some n) above = omega (arith, above)
+at_or_zero : (from : ℕ) (found : Option ℕ) → IfSome found (λ n. from + 1 ≤ n) → number_at (or_zero found) ≡ found
+at_or_zero from None above = refl
+at_or_zero from (Some zero) above = absurd (omega (arith, above))
+at_or_zero from (Some (suc n)) above = refl
 
 pub numbered : (from : ℕ) {number : ℕ} {test : ℕ → Bool} (found : Option ℕ) → number ≡ or_zero found
     → IsLeastFrom (from + 1) test found
     → IsLeastFrom (from + 1) test (number_at number)
-numbered from {number} {test} found told least =
-    subst (λ (o : Option ℕ). IsLeastFrom (from + 1) test o)
-    (sym (ap number_at told ∙ at_or_zero found (above_zero from found least.above))) least
+numbered from found told least = rw (told, at_or_zero from found least.above) least
 
 -- a wait that is pending is told with its objects
 pub waited : {wait : Option Wait} {status thread : ℕ} {mode : Mode} {ids : List Id} {deadline : Option ℕ}
     (before : WaitPlaces) {after : WaitPlaces} → wait ≡ Some (new_wait thread mode ids deadline)
     → after.pending ≡ pending_wait thread mode deadline → after.count ≡ length ids
     → IdsTell ids status before.objects after.objects → WaitTells wait status before after
-waited {status = status} before {after = after} is value many told =
-    subst (λ (w : Option Wait). WaitTells w status before after) (sym is) (value, many, told)
+waited before is value many told = rw is (value, many, told)
 
 state_unwaited : (thread : ℕ) (deadline : Option ℕ) (state : WaitsState) {status : ℕ} {before after : WaitPlaces}
     → state_pending state ≡ false → status ≡ 87 → after ≡ before

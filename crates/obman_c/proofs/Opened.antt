@@ -17,13 +17,4 @@ no_memory = lacks
 -- limits are as C gave them, whatever the manager does beside
 pub same_but_ways : {b : CLimits} {limits : Limits} (reuse repeats : Bool) → AreAs b limits
     → AreAs b (record limits { reuse = reuse; repeats = repeats })
-same_but_ways reuse repeats are = record {
-  slots = are.slots;
-  processes = are.processes;
-  threads = are.threads;
-  handles = are.handles;
-  waits = are.waits;
-  max_pins = are.max_pins;
-  max_gen = are.max_gen;
-  max_recursion = are.max_recursion;
-}
+same_but_ways reuse repeats are = assumption

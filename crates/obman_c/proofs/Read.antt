@@ -1,13 +1,12 @@
 -- What is told of a reader's calls, by what a function knows of them.
-use Rattle.std.proofs.Common.{◌≡◌, ℕ, ◌<◌, true, List, [], ◌∷◌, length, get_or, Option, Some, refl, ap, inl, inr, arith}
+use Rattle.std.proofs.Common.{◌≡◌, ℕ, ◌<◌, true, List, [], ◌∷◌, length, get_or, Option, Some, refl, inl, inr, arith}
 use Rattle.std.specs.Prelude.{Ok, Err}
 use Rattle.pin_core.specs.declared.id.Id.{Id}
 use Rattle.pin_core.specs.declared.descr.Descr.{Descr}
-use Rattle.pin_core.specs.Holds.{drop_last, same_id, tally, weight}
+use Rattle.pin_core.specs.Holds.{drop_last, same_id, tally}
 use Rattle.pin_core.proofs.Counts.{count-drop_last}
 use Rattle.pin_core.proofs.Moves.{same_id-same}
 use Rattle.pin_words.specs.declared.fault.PinFault.{PinFault}
-use Rattle.pin_words.specs.declared.fault.PinFault.TheVariants.{NoSuchSlot, Unborn, Stale, Busy, PinsFull, HeldFull}
 use Rattle.pin_words.specs.Plays.{Show}
 use Rattle.pin_words.specs.Seats.{ReaderState}
 use Rattle.pin_words.specs.Tries.{Tries}
@@ -24,35 +23,31 @@ use Rattle.obman_c.specs.Finding.{description_of}
 use Rattle.obman_c.specs.Pinning.{pin_status}
 use Rattle.obman_c.specs.Reading.{AreOfOne, DescribeTold, InspectTold, IsHeld, PinTold, ReaderOpens, UnpinTold, opens, lacks, descriptor_of}
 
-pub pinned : {id : Id} {old new : ReaderState} {status : ℕ} → Tries old.view id (Ok tt) new.view → status ≡ 0
-    → PinTold id old status new
-pinned tries told = record { answer = Ok tt; tries = tries; told = told }
+module _ {id : Id} {old new : ReaderState} {status : ℕ} where
+  pub pinned : Tries old.view id (Ok tt) new.view → status ≡ 0 → PinTold id old status new
+  pinned tries told = record { answer = Ok tt; tries = tries; told = told }
 
-pub refused : {id : Id} {old new : ReaderState} {status : ℕ} {fault : PinFault} → Tries old.view id (Err fault) new.view
-    → status ≡ pin_status fault → PinTold id old status new
-refused {fault = fault} tries told = record { answer = Err fault; tries = tries; told = told }
+  pub refused : {fault : PinFault} → Tries old.view id (Err fault) new.view → status ≡ pin_status fault
+      → PinTold id old status new
+  refused {fault = fault} tries told = record { answer = Err fault; tries = tries; told = told }
 
--- no refusal of a pin is told as 0
-pub not_told : {A : Type 0} (fault : PinFault) {status : ℕ} → status ≡ pin_status fault → status ≡ 0 → A
-not_told NoSuchSlot is none = absurd (omega (arith, is, none))
-not_told Unborn is none = absurd (omega (arith, is, none))
-not_told Stale is none = absurd (omega (arith, is, none))
-not_told (Busy seen) is none = absurd (omega (arith, is, none))
-not_told PinsFull is none = absurd (omega (arith, is, none))
-not_told HeldFull is none = absurd (omega (arith, is, none))
+  pub described : {before after : Descriptor} {d : Descr} → IsHeld id old → status ≡ 0 → after ≡ descriptor_of d
+      → new.view ≡ reader_noted old.view id d → DescribeTold id old status new before after
+  described {d = d} held told value noted = inl (held, told, (d, value, noted))
 
-pub opened : {old new : Whole} {r : ReaderState} {status : ℕ} {before after : Option OwnedReader} → status ≡ 0
-    → after ≡ Some (record { reader = r }) → r.view ≡ given_by old.keeper → AreOfOne old r
-    → new ≡ record old { keeper = with_next old.keeper } → ReaderOpens old status new before after
-opened {r = r} = opens r
+  pub undescribed : {before after : Descriptor} → (IsHeld id old → ⊥) → status ≡ 6 → new ≡ old → after ≡ before
+      → DescribeTold id old status new before after
+  undescribed none told same value = inr (none, told, λ i. (same i, value i))
 
-pub lacking : {old new : Whole} {status : ℕ} {before after : Option OwnedReader} → status ≡ 8 → after ≡ before
-    → new ≡ record old { keeper = with_next old.keeper } → ReaderOpens old status new before after
-lacking told same given = lacks told same (inr given)
+  pub inspected : {m : Whole} {before after : Description} {made : Card} → IsHeld id old → status ≡ 0
+      → card m.state id ≡ Some made → after ≡ description_of made → Show id made.descr old.view.notes
+      → IsMet m.keeper old.view id.slot new.view → InspectTold m id old status new before after
+  inspected {made = made} held told there value noted looked =
+      inl (held, told, record { made = made; is_there = there; value = value; noted = noted; looked = looked })
 
-pub lacking_owner : {old new : Whole} {status : ℕ} {before after : Option OwnedReader} → status ≡ 8 → after ≡ before
-    → new ≡ old → ReaderOpens old status new before after
-lacking_owner told same kept = lacks told same (inl kept)
+  pub uninspected : {m : Whole} {before after : Description} → (IsHeld id old → ⊥) → status ≡ 6 → new ≡ old
+      → after ≡ before → InspectTold m id old status new before after
+  uninspected none told same value = inr (none, told, λ i. (same i, value i))
 
 pub unpinned : (id : Id) {old new : ReaderState} {status : ℕ} → IsHeld id old → status ≡ 0
     → new.view ≡ reader_released old.view id → UnpinTold id old status new
@@ -62,40 +57,33 @@ pub unheld : (id : Id) {old new : ReaderState} {status : ℕ} → (IsHeld id old
     → UnpinTold id old status new
 unheld id none told same = inr (none, told, same)
 
-pub described : {id : Id} {old new : ReaderState} {status : ℕ} {before after : Descriptor} {d : Descr} → IsHeld id old
-    → status ≡ 0 → after ≡ descriptor_of d → new.view ≡ reader_noted old.view id d
-    → DescribeTold id old status new before after
-described {d = d} held told value noted = inl (held, told, (d, value, noted))
+-- no refusal of a pin is told as 0
+pub not_told : {A : Type 0} (fault : PinFault) {status : ℕ} → status ≡ pin_status fault → status ≡ 0 → A
+not_told fault is none = absurd (grind arith)
 
-pub undescribed : {id : Id} {old new : ReaderState} {status : ℕ} {before after : Descriptor} → (IsHeld id old → ⊥)
-    → status ≡ 6 → new ≡ old → after ≡ before → DescribeTold id old status new before after
-undescribed none told same value = inr (none, told, λ i. (same i, value i))
+module _ {old new : Whole} {status : ℕ} {before after : Option OwnedReader} where
+  pub opened : {r : ReaderState} → status ≡ 0 → after ≡ Some (record { reader = r }) → r.view ≡ given_by old.keeper
+      → AreOfOne old r → new ≡ record old { keeper = with_next old.keeper } → ReaderOpens old status new before after
+  opened {r = r} = opens r
 
-pub inspected : {m : Whole} {id : Id} {old new : ReaderState} {status : ℕ} {before after : Description} {made : Card}
-    → IsHeld id old → status ≡ 0 → card m.state id ≡ Some made → after ≡ description_of made
-    → Show id made.descr old.view.notes → IsMet m.keeper old.view id.slot new.view
-    → InspectTold m id old status new before after
-inspected {made = made} held told there value noted looked =
-    inl (held, told, record { made = made; is_there = there; value = value; noted = noted; looked = looked })
+  pub lacking : status ≡ 8 → after ≡ before → new ≡ record old { keeper = with_next old.keeper }
+      → ReaderOpens old status new before after
+  lacking told same given = lacks told same (inr given)
 
-pub uninspected : {m : Whole} {id : Id} {old new : ReaderState} {status : ℕ} {before after : Description}
-    → (IsHeld id old → ⊥) → status ≡ 6 → new ≡ old → after ≡ before → InspectTold m id old status new before after
-uninspected none told same value = inr (none, told, λ i. (same i, value i))
+  pub lacking_owner : status ≡ 8 → after ≡ before → new ≡ old → ReaderOpens old status new before after
+  lacking_owner told same kept = lacks told same (inl kept)
 
 -- the first Id of which a copy is held
 pub first_there : (held : List Id) (d : Id) → 0 < length held → 0 < tally (same_id (get_or held 0 d)) held
 first_there [] d some = absurd (let c : ⊥ = omega arith in c)
-first_there (x ∷ held) d some = let one : weight (same_id x x) ≡ 1 = ap weight (same_id-same x) in omega arith
+first_there (x ∷ held) d some = search (arith, same_id-same)
 
 every : (held : List Id) → tally (λ _. true) held ≡ length held
 every [] = refl
-every (x ∷ held) = let e = every held in omega arith
+every (x ∷ held) = omega (arith, every held)
 
 -- with a copy less there are fewer
 pub fewer : (id : Id) (held : List Id) → 0 < tally (same_id id) held
     → length (drop_last (same_id id) held) < length held
 fewer id held some =
-    let less = count-drop_last (λ _. true) (same_id id) true held (λ x e. refl) some in
-    let all = every held in
-    let left = every (drop_last (same_id id) held) in
-    omega arith
+    omega (arith, every, count-drop_last (λ _. true) (same_id id) true held (λ x e. refl) some)

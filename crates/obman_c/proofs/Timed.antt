@@ -1,38 +1,30 @@
 -- What is due is still to come, and a tick to it is made.
-use Rattle.std.proofs.Common.{◌≡◌, ◌<◌, ◌≤◌, ◌∙◌, ℕ, zero, suc, Bool, true, false, List, [], ◌∷◌, Option, Some, None, Ok, ◌++◌, map, get_or, sym, ap, subst, arith, inl, inr, refl, ⊎_elim}
-use Rattle.std.specs.Prelude.{nat_le, nat_lt, ◌||◌, ◌⊎◌}
+use Rattle.std.proofs.Common.{◌≡◌, ◌<◌, ◌≤◌, ◌∙◌, ℕ, zero, suc, true, false, List, [], ◌∷◌, Option, Some, None, ◌++◌, map, get_or, sym, ap, arith, inl, inr, refl, ⊎_elim}
+use Rattle.std.specs.Prelude.{nat_lt, ◌||◌, ◌⊎◌}
 use Rattle.std.proofs.Math.ListN.{get_or-map}
 use Rattle.std.proofs.lemmas.Bool.Decides.{nat_tests}
 use Rattle.least.specs.Dues.{IsLeast}
-use Rattle.ob_waits.specs.Form.{IsAfter, slot_due}
+use Rattle.ob_waits.specs.Form.{slot_due}
 use Rattle.ob_waits.specs.Deadlines.{deadline_of}
 use Rattle.ob_store.specs.Consistent.{IsConsistent}
 use Rattle.ob_store.specs.Dues.{dues_of, reached}
-use Rattle.ob_store.specs.State.{State, Whole}
-use Rattle.ob_store.specs.Ticks.{last_moment, ticked}
+use Rattle.ob_store.specs.State.{Whole}
+use Rattle.ob_store.specs.Ticks.{last_moment}
 use Rattle.ob_rights.specs.declared.fault.Fault.TheVariants as fault
 use Rattle.ob_manager.specs.declared.call.CallOf.TheVariants as calls
 use Rattle.ob_manager.specs.declared.reply.Reply.{Reply}
 use Rattle.ob_manager.specs.declared.reply.Reply.TheVariants.{Ticked, Refused}
-use Rattle.ob_manager.specs.Outcomes.{Outcome, ◌>>=◌, refuse_if}
-use Rattle.ob_manager.specs.Steps.{Step, does, closes, lacks, final}
+use Rattle.ob_manager.specs.Outcomes.{Outcome}
+use Rattle.ob_manager.specs.Steps.{Step, does, closes, lacks}
 use Rattle.obman_c_base.specs.Made.{Makes}
 use Rattle.obman_c_base.specs.declared.owned.OwnedManager.{OwnedManager}
 use Rattle.obman_c.specs.Telling.{status_of}
 use Rattle.obman_c.specs.Timing.{Advances, Serves, none}
 use Rattle.obman_c.proofs.Told.{tells}
 
-reached_here : (x : Option ℕ) (due : ℕ) (few : Bool) → (x ≡ Some due → few ≡ nat_le due last_moment)
-    → reached x ≡ Some due → (x ≡ Some due) × (due ≤ last_moment)
-reached_here None due few is same = absurd (cc same)
-reached_here (Some m) due few is same = grind (arith, nat_tests)
-
--- what can be reached is one of all that is due
-reached_at : (xs : List (Option ℕ)) (place due : ℕ) → get_or (map reached xs) place None ≡ Some due
-    → (get_or xs place None ≡ Some due) × (due ≤ last_moment)
-reached_at [] place due is = absurd (cc is)
-reached_at (x ∷ xs) zero due is = reached_here x due (nat_le due last_moment) (λ _. refl) is
-reached_at (x ∷ xs) (suc place) due is = reached_at xs place due is
+-- what can be reached is due by then
+reached_here : (x : Option ℕ) (due : ℕ) → reached x ≡ Some due → (x ≡ Some due) × (due ≤ last_moment)
+reached_here x due is = grind (arith, nat_tests)
 
 either : (xs ys : List (Option ℕ)) (place due : ℕ) → get_or (xs ++ ys) place None ≡ Some due
     → (get_or xs place None ≡ Some due) ⊎ ((k : ℕ) × (get_or ys k None ≡ Some due))
@@ -44,44 +36,33 @@ either (x ∷ xs) ys (suc place) due is = either xs ys place due is
 pub due_after : (w : Whole) (due : ℕ) → IsConsistent w → IsLeast (dues_of w.state) (Some due)
     → (w.state.clock < due) × (due ≤ last_moment)
 due_after w due consistent least =
+    let place = least.stands.0 in
     let timers = map slot_due w.state.bodies in
     let waits = map deadline_of w.state.waits in
-    let at = reached_at (timers ++ waits) least.stands.0 due least.stands.1 in
-    let later : w.state.clock < due =
-    ⊎_elim
-    (λ (e : get_or timers least.stands.0 None ≡ Some due). subst (λ x. IsAfter w.state.clock x)
-    (sym (get_or-map slot_due w.state.bodies least.stands.0 None) ∙ e) (consistent.formed.later least.stands.0))
-    (λ (e : (k : ℕ) × (get_or waits k None ≡ Some due)). subst (λ x. IsAfter w.state.clock x)
-    (sym (get_or-map deadline_of w.state.waits e.0 None) ∙ e.1) (consistent.ahead.each e.0))
-    (either timers waits least.stands.0 due at.0) in
-    (later, at.1)
-
-goes_on : (s t : State) (now : ℕ) (reply : Reply) (early : Bool) → early ≡ false
-    → final s (refuse_if early fault.Parameter >>= (λ _. Ok (record { reply = Ticked now; state = ticked now s })))
-    ≡ record { reply = reply; state = t } → (reply ≡ Ticked now) × (t.clock ≡ now)
-goes_on s t now reply true is comes = absurd (cc is)
-goes_on s t now reply false is comes =
-    (sym (ap (λ (o : Outcome). o.reply) comes), sym (ap (λ (o : Outcome). o.state.clock) comes))
+    let here = reached_here (get_or (timers ++ waits) place None) due
+    (sym (get_or-map reached (timers ++ waits) place None) ∙ least.stands.1) in
+    let later : w.state.clock < due = elim (either timers waits place due here.0) [
+      | inl e ↦ rw (← get_or-map slot_due w.state.bodies place None, e) at (consistent.formed.later place)
+      | inr e ↦ rw (← get_or-map deadline_of w.state.waits e.0 None, e.1) at (consistent.ahead.each e.0)
+    ] in
+    (later, here.1)
 
 -- a tick that goes neither back nor past the last moment is made
 pub goes : (w v : Whole) (now : ℕ) (reply : Reply) → w.state.clock ≤ now → now ≤ last_moment
     → Step w (calls.Tick now) reply v → (reply ≡ Ticked now) × (v.state.clock ≡ now)
-goes w v now reply later last (does comes keeps) = goes_on w.state v.state now reply
-    (nat_lt now w.state.clock || nat_lt last_moment now) (grind (arith, nat_tests)) comes
+goes w v now reply later last (does comes keeps) =
+    let passes : (nat_lt now w.state.clock || nat_lt last_moment now) ≡ false = grind (arith, nat_tests) in
+    let told = rw passes at comes in
+    (sym (ap (λ (o : Outcome). o.reply) told), sym (ap (λ (o : Outcome). o.state.clock) told))
 goes w v now reply later last (closes is comes keeps) = absurd (cc is)
 goes w v now reply later last (lacks takes ok fault same) = absurd (cc takes)
-
-refused_past : (s t : State) (now : ℕ) (reply : Reply) (past : Bool) → past ≡ true
-    → final s (refuse_if past fault.Parameter >>= (λ _. Ok (record { reply = Ticked now; state = ticked now s })))
-    ≡ record { reply = reply; state = t } → reply ≡ Refused fault.Parameter
-refused_past s t now reply true is comes = sym (ap (λ (o : Outcome). o.reply) comes)
-refused_past s t now reply false is comes = absurd (cc is)
 
 -- a tick past the last moment is refused
 pub past_last : (w v : Whole) (now : ℕ) (reply : Reply) → last_moment < now → Step w (calls.Tick now) reply v
     → reply ≡ Refused fault.Parameter
-past_last w v now reply past (does comes keeps) = refused_past w.state v.state now reply
-    (nat_lt now w.state.clock || nat_lt last_moment now) (grind (arith, nat_tests)) comes
+past_last w v now reply past (does comes keeps) =
+    let fails : (nat_lt now w.state.clock || nat_lt last_moment now) ≡ true = grind (arith, nat_tests) in
+    sym (ap (λ (o : Outcome). o.reply) (rw fails at comes))
 past_last w v now reply past (closes is comes keeps) = absurd (cc is)
 past_last w v now reply past (lacks takes ok fault same) = absurd (cc takes)
 

@@ -1,5 +1,5 @@
 -- What is told of a call that was made.
-use Rattle.std.proofs.Common.{◌≡◌, ℕ, rules, subst}
+use Rattle.std.proofs.Common.{◌≡◌, ℕ, rules}
 use Rattle.ob_store.specs.State.{Whole}
 use Rattle.pin_core.specs.declared.id.Id.{Id}
 use Rattle.ob_manager.specs.Calls.{Call}
@@ -18,11 +18,6 @@ pub tells_as : {V : Type 0} {value_of : Reply → V → V} {old new : OwnedManag
     {status : ℕ} {before after : V} → Makes old call reply new → status ≡ status_of reply
     → after ≡ value_of reply before → TellsValue value_of old call status new before after
 tells_as {reply = reply} made told value = record { reply = reply; made = made; told = told; value = value }
-
--- the call in other words
-pub made_as : {A : Type 0} {old new : OwnedManager} {reply : Reply} {x y : A} (call : A → Call) → x ≡ y
-    → Makes old (call x) reply new → Makes old (call y) reply new
-made_as {old = old} {new = new} {reply = reply} call is made = subst (λ z. Makes old (call z) reply new) is made
 
 -- What is read changes nothing.
 pub flags_same : (w v : Whole) (thread handle : ℕ) (reply : Reply) → Step w (calls.GetFlags thread handle) reply v

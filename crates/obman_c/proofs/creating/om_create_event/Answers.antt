@@ -1,8 +1,6 @@
-use Rattle.ob_manager.specs.declared.call.CallOf.TheVariants as calls
-use Rattle.obman_c.proofs.Told.{made_as, tells_as}
+use Rattle.obman_c.proofs.Told.{tells_as}
 use Rattle.obman_c.proofs.creating.om_create_event.Goals as goal
 
 pub returns : goal.returns
 returns c =
-    tells_as (made_as (λ m. calls.MakeEvent c.args.thread m c.args.manual c.args.set) c.make_of-make.ensures c.call.ensures)
-    c.tell_opening.ensures.told c.tell_opening.ensures.value
+    tells_as (rw c.make_of-make.ensures at c.call.ensures) c.tell_opening.ensures.told c.tell_opening.ensures.value

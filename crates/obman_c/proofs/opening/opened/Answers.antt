@@ -1,6 +1,4 @@
-use Rattle.std.proofs.Common.{refl, ap, ◌∙◌, Some}
-use Rattle.ob_tables.specs.declared.limits.Limits.{Limits}
-use Rattle.obman_c_base.specs.declared.owned.OwnedManager.{OwnedManager}
+use Rattle.std.proofs.Common.{refl}
 use Rattle.obman_c.specs.Opening.{opens}
 use Rattle.obman_c.proofs.Opened.{same_but_ways}
 use Rattle.obman_c.proofs.opening.opened.Goals as goal
@@ -10,5 +8,5 @@ pub returns-in-Ok-held : goal.returns-in-Ok-held
 returns-in-Ok-held c = let new = c.in-Ok-held.ensures.new in
     opens c.with_repeats.result new.0
     (rw (c.with_repeats.ensures, c.with_reuse.ensures) (same_but_ways c.args.reuse c.args.repeats c.in-Ok.ensures.same))
-    (rw (c.with_repeats.ensures, c.with_reuse.ensures) refl) (ap (λ (l : Limits). l.repeats) c.with_repeats.ensures) refl
-    (c.of.ensures ∙ ap (λ (held : OwnedManager). Some held) new.1)
+    (rw (c.with_repeats.ensures, c.with_reuse.ensures) refl) (rw c.with_repeats.ensures refl) refl
+    (rw new.1 at c.of.ensures)

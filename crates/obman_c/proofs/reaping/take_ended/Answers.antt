@@ -1,8 +1,5 @@
-use Rattle.std.proofs.Common.{◌+◌, ◌<◌, ◌∙◌, length, length-set, refl, subst, arith}
-use Rattle.ob_manager.specs.declared.call.CallOf.TheVariants as calls
-use Rattle.ob_manager.specs.declared.reply.Reply.{Reply}
+use Rattle.std.proofs.Common.{◌+◌, ◌<◌, ◌∙◌, length, length-set, refl, arith}
 use Rattle.ob_manager.specs.Steps.{reclaim_in, reply_of}
-use Rattle.obman_c_base.specs.Made.{Makes}
 use Rattle.obman_c.specs.Reaping.{ReapsNext}
 use Rattle.obman_c.proofs.Chains.{chain_set, rest_set}
 use Rattle.obman_c.proofs.Taking.{reaped, told_as}
@@ -16,16 +13,14 @@ loop-place-preserved c =
     let new = c.call-answer.new.self in
     let id = c.in-Some.id in
     let reply = reply_of c.call-answer.result in
-    let outcome = reclaim_in reply in
     let told = c.tell_reaping.new.out in
-    let made = c.call-answer.ensures in
     let is = reaped old.manager new.manager id reply c.kept.ensures c.in-Some.ensures.object
-    c.in-Some.ensures.least.passes made.step in
+    c.in-Some.ensures.least.passes c.call-answer.ensures.step in
     let next : ReapsNext (c.loop-place.from, old) told (id.slot + 1, new) = record {
       id = id;
-      outcome = outcome;
+      outcome = reclaim_in reply;
       least = c.in-Some.ensures.least;
-      made = subst (λ (r : Reply). Makes old (calls.Reap id.slot) r new) is made;
+      made = rw is at c.call-answer.ensures;
       value = told_as _ is c.tell_reaping.ensures.value;
       next = refl;
     } in

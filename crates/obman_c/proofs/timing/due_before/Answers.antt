@@ -12,4 +12,4 @@ returns-then-due-moment-clause-last c =
 
 pub returns-else-due-moment-clause-none : goal.returns-else-due-moment-clause-none
 returns-else-due-moment-clause-none c due least =
-    let first = c.in_ok-due.ensures.least.first least.stands.0 due least.stands.1 in omega (arith, first, c.if-due-moment.false)
+    omega (arith, c.in_ok-due.ensures.least.first least.stands.0 due least.stands.1, c.if-due-moment.false)

@@ -1,13 +1,8 @@
-use Rattle.std.proofs.Common.{◌∙◌, ap}
 use Rattle.std.proofs.Math.Facts.{to_z-of_z}
-use Rattle.ob_manager.specs.declared.call.CallOf.TheVariants as calls
-use Rattle.obman_c.specs.Waiting.{timeout_of}
-use Rattle.obman_c.proofs.Told.{made_as, tells_as}
+use Rattle.obman_c.proofs.Told.{tells_as}
 use Rattle.obman_c.proofs.waiting.om_wait_until.Goals as goal
 
 pub returns : goal.returns
 returns c =
-    let until = c.timeout_of-timeout.ensures ∙ ap timeout_of (to_z-of_z c.ranges.due) in
-    tells_as (made_as (λ call. call)
-    (λ i. calls.WaitFor c.args.thread (c.mode_of-mode.ensures i) (until i) c.args.handles.now) c.call.ensures)
+    tells_as (rw (c.mode_of-mode.ensures, c.timeout_of-timeout.ensures, to_z-of_z c.ranges.due) at c.call.ensures)
     c.tell_answer.ensures.told c.tell_answer.ensures.value

@@ -1,9 +1,5 @@
-use Rattle.std.proofs.Common.{◌<◌, ◌∙◌, length, length-set, subst, arith}
-use Rattle.ob_manager.specs.declared.call.CallOf.TheVariants as calls
-use Rattle.ob_manager.specs.declared.reply.Reply.{Reply}
-use Rattle.ob_manager.specs.Steps.{reply_of}
+use Rattle.std.proofs.Common.{◌<◌, ◌∙◌, length, length-set, arith}
 use Rattle.obman_c.specs.declared.waiting.CAnswer.{CAnswer}
-use Rattle.obman_c_base.specs.Made.{Makes}
 use Rattle.obman_c.specs.Waiting.{TakesNext}
 use Rattle.obman_c.proofs.Chains.{chain_set, rest_set}
 use Rattle.obman_c.proofs.Taking.{answered}
@@ -17,12 +13,8 @@ loop-place-preserved c =
     let new = c.call.new.self in
     let a = c.in-Some.field-0 in
     let told : CAnswer = record { wait = a.wait; thread = a.thread; code = a.code } in
-    let is = answered old.manager new.manager a.wait a.code (reply_of c.call.result) c.in-Some.ensures.found
-    c.call.ensures.step in
-    let next : TakesNext old told new = record {
-      next = c.in-Some.ensures;
-      made = subst (λ (reply : Reply). Makes old (calls.WaitResult a.wait) reply new) is c.call.ensures;
-    } in
+    let is = answered old.manager new.manager a.wait a.code _ c.in-Some.ensures.found c.call.ensures.step in
+    let next : TakesNext old told new = record { next = c.in-Some.ensures; made = rw is at c.call.ensures } in
     let within : place < length list = omega (arith, c.loop-place-test.true, c.loop-place.invariant.length_is) in
     record {
       taken = chain_set TakesNext c.args.held.now old new told place list within c.loop-place.invariant.taken next;
