@@ -44,7 +44,7 @@ kept_again d w fits some again =
       store,
     ) refl
 
--- a savestate in which it keeps nothing
+-- a savestate in which it keeps nothing is read alike, whatever reads its number and its store
 abbrev with_data_at : (List ℕ → Read ℕ) → (List ℕ → Read Whole) → List ℕ → Read (Whole × HostData)
 with_data_at number store bytes = do
   m ← number bytes
@@ -61,11 +61,7 @@ pub plain_loads : (bytes : List ℕ) (w : Whole) → load bytes ≡ Ok w → loa
 plain_loads bytes w e = plain (unsealed bytes) (number_at w64) store_at w e
 
 pub empty_is : (d : HostData) → is_empty d ≡ true → d ≡ no_data
-empty_is d e = λ i. record {
-  objects = nil_from_length d.objects (grind (arith, nat_tests, e)) i;
-  threads = nil_from_length d.threads (grind (arith, nat_tests, e)) i;
-  processes = nil_from_length d.processes (grind (arith, nat_tests, e)) i;
-}
+empty_is d e = grind (arith, nat_tests, nil_from_length)
 
 -- what is read behind a mark was written so, whatever state is read behind that
 abbrev IsBack : ℕ → List ℕ → HostData × List ℕ → Type 0

@@ -1,6 +1,6 @@
 -- The model never refuses for want of memory, so what a reply says of a step is unambiguous; and no call changes the
 -- limits.
-use Rattle.std.proofs.Common.{◌≡◌, ℕ, zero, suc, Bool, false, List, [], ◌∷◌, Option, Some, None, Result, Ok, Err, refl, sym, ap, ◌∙◌, arith, cond}
+use Rattle.std.proofs.Common.{◌≡◌, ℕ, zero, suc, Bool, false, List, [], ◌∷◌, Option, Result, Ok, Err, refl, sym, ap, ◌∙◌, arith, cond}
 use Rattle.std.specs.Prelude.{ℤ}
 use Rattle.pin_core.specs.declared.id.Id.{Id}
 use Rattle.ob_rights.specs.declared.fault.Fault.{Fault}
@@ -10,8 +10,6 @@ use Rattle.ob_tables.specs.declared.entry.Entry.{Entry}
 use Rattle.ob_tables.specs.declared.limits.Limits.{Limits}
 use Rattle.ob_body.specs.declared.body.Body.{Body}
 use Rattle.ob_name.specs.Names.{ObjectName}
-use Rattle.ob_name.specs.Listing.{find_name}
-use Rattle.ob_store.specs.Directory.{directory_of}
 use Rattle.ob_store.specs.Ends.{threads_ended}
 use Rattle.ob_store.specs.State.{State, Whole}
 use Rattle.ob_manager.specs.Calls.{Call}
@@ -22,7 +20,7 @@ use Rattle.ob_manager.specs.declared.reply.Reply.{Reply}
 use Rattle.ob_manager.specs.declared.waiting.Timeout.{Timeout}
 use Rattle.ob_manager.specs.Outcomes.{Outcome, ◌>>=◌, or_refuse, refuse_if}
 use Rattle.ob_manager.specs.Checks.{caller}
-use Rattle.ob_manager.specs.Creating.{created, name_in, named_object, new_handle, new_object, new_semaphore, own_name}
+use Rattle.ob_manager.specs.Creating.{created, name_in, new_handle, new_object, new_semaphore, own_name}
 use Rattle.ob_manager.specs.Waiting.{after_signal, all_found, give_and_wait}
 use Rattle.ob_manager.specs.Steps.{Step, does, closes, lacks, final, is_lack, is_memory, next, outcome_of}
 use Rattle.ob_manager.proofs.Refusing.{text_wants, wants}
@@ -68,8 +66,7 @@ module _ (s : State) where
   name_wants p text = grind (arith, text_wants)
 
   own_wants : (p : ℕ) (name : Option (List ℕ)) → wants (own_name s p name) ≡ false
-  own_wants p None = refl
-  own_wants p (Some text) = search (then_wants, name_wants)
+  own_wants p name = search (arith, then_wants, name_wants)
 
   -- what a call comes to isn't for want of memory, and leaves the limits
   abbrev IsFair : Result Outcome Fault → Type 0
@@ -87,14 +84,8 @@ module _ (s : State) where
   object_fair : (p : ℕ) (m : Making) (new : New) (name : Option ObjectName) → IsFair (new_object s p m new name)
   object_fair p m new name = grind arith
 
-  named_fair : (p : ℕ) (m : Making) (new : New) (name : ObjectName) (id : Option Id)
-      → IsFair (named_object s p m new name id)
-  named_fair p m new name None = object_fair p m new (Some name)
-  named_fair p m new name (Some id) = handle_fair p id _ _ _ _ refl
-
   created_fair : (p : ℕ) (m : Making) (new : New) (name : Option ObjectName) → IsFair (created s p m new name)
-  created_fair p m new None = object_fair p m new None
-  created_fair p m new (Some name) = named_fair p m new name (find_name name (directory_of s))
+  created_fair p m new name = grind (arith, object_fair p m new, handle_fair p)
 
   given_fair : (t : ℕ) (timeout : Timeout) (waited signaled : Id) (after : Body)
       → IsFair (give_and_wait s t timeout waited signaled after)

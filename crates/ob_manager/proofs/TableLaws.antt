@@ -6,7 +6,6 @@ use Rattle.pin_words.specs.Seats.{TableState}
 use Rattle.ob_store.specs.State.{State, Whole}
 use Rattle.ob_manager.specs.Calls.{Call}
 use Rattle.ob_manager.specs.declared.reply.Reply.{Reply}
-use Rattle.ob_manager.specs.declared.reply.Reply.TheVariants.{Made, Reaped}
 use Rattle.ob_manager.specs.Steps.{Step, does, closes, lacks, KeeperAfter}
 
 -- which table the keeper has, and its shape
@@ -14,9 +13,7 @@ abbrev table_of : KeeperState → Option TableState × Shape
 table_of k = (k.table, k.shape)
 
 kept_alike : (reply : Reply) (s : State) (k k' : KeeperState) → KeeperAfter reply s k k' → table_of k' ≡ table_of k
-kept_alike (Made handle id) s k k' keeps = grind arith
-kept_alike (Reaped id outcome) s k k' keeps = grind arith
-kept_alike reply s k k' keeps = ap table_of keeps
+kept_alike reply s k k' keeps = grind arith
 
 step_alike : (w v : Whole) (call : Call) (reply : Reply) → Step w call reply v → table_of v.keeper ≡ table_of w.keeper
 step_alike w v call reply (does outcome keeps) = kept_alike reply v.state w.keeper v.keeper keeps
