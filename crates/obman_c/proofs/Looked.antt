@@ -1,5 +1,5 @@
 -- What a walk found, as C is told of it.
-use Rattle.std.proofs.Common.{◌≡◌, ◌+◌, ◌≤◌, ℕ, zero, suc, Bool, false, List, length, Option, Some, None, IfSome, refl, arith}
+use Rattle.std.proofs.Common.{◌≡◌, ◌+◌, ◌≤◌, ℕ, Bool, false, List, length, Option, Some, IfSome, arith}
 use Rattle.std.specs.Option.{option_map}
 use Rattle.least.specs.Dues.{IsLeast}
 use Rattle.least.specs.From.{IsLeastFrom}
@@ -8,10 +8,8 @@ use Rattle.ob_tables.specs.declared.entry.Entry.{Entry}
 use Rattle.ob_tables.specs.Table.{entry_at}
 use Rattle.ob_tables.specs.Tables.{table_of}
 use Rattle.ob_waits.specs.declared.wait.Mode.{Mode}
-use Rattle.ob_waits.specs.declared.wait.State.{State as WaitsState}
-use Rattle.ob_waits.specs.declared.wait.State.TheVariants.{Pending, Answered}
 use Rattle.ob_waits.specs.declared.wait.Wait.{Wait}
-use Rattle.ob_waits.specs.Waits.{is_pending, new_wait, state_pending}
+use Rattle.ob_waits.specs.Waits.{is_pending, new_wait}
 use Rattle.ob_store.specs.Dues.{dues_of}
 use Rattle.ob_store.specs.Kept.{IsThere}
 use Rattle.ob_store.specs.State.{State}
@@ -19,7 +17,7 @@ use Rattle.ob_store.specs.Walking.{is_object_at, is_value_of}
 use Rattle.obman_c.specs.declared.looking.HandleEntry.{HandleEntry}
 use Rattle.obman_c.specs.declared.values.Object.{Object}
 use Rattle.obman_c.specs.Asking.{number_at}
-use Rattle.obman_c.specs.Looking.{IdsTell, NextDue, NextHandle, NextObject, StateTells, WaitPlaces, WaitTells, Walks, handle_entry, or_zero, pending_wait}
+use Rattle.obman_c.specs.Looking.{IdsTell, NextDue, NextHandle, NextObject, WaitPlaces, WaitTells, Walks, handle_entry, or_zero, pending_wait}
 use Rattle.obman_c.specs.Telling.{object_of}
 
 pub object_next : {s : State} {from status : ℕ} {before after : Object} (found : Option Id)
@@ -42,9 +40,7 @@ due_next {found = found} least told = record { found = found; least = least; tol
 
 -- a number from 1 on is told as it is, and none as 0
 at_or_zero : (from : ℕ) (found : Option ℕ) → IfSome found (λ n. from + 1 ≤ n) → number_at (or_zero found) ≡ found
-at_or_zero from None above = refl
-at_or_zero from (Some zero) above = absurd (omega (arith, above))
-at_or_zero from (Some (suc n)) above = refl
+at_or_zero from found above = grind arith
 
 pub numbered : (from : ℕ) {number : ℕ} {test : ℕ → Bool} (found : Option ℕ) → number ≡ or_zero found
     → IsLeastFrom (from + 1) test found
@@ -58,14 +54,7 @@ pub waited : {wait : Option Wait} {status thread : ℕ} {mode : Mode} {ids : Lis
     → IdsTell ids status before.objects after.objects → WaitTells wait status before after
 waited before is value many told = rw is (value, many, told)
 
-state_unwaited : (thread : ℕ) (deadline : Option ℕ) (state : WaitsState) {status : ℕ} {before after : WaitPlaces}
-    → state_pending state ≡ false → status ≡ 87 → after ≡ before
-    → StateTells thread deadline state status before after
-state_unwaited thread deadline (Pending mode ids) none told same = cc
-state_unwaited thread deadline (Answered code) none told same = (told, same)
-
 -- no other is told
 pub unwaited : (wait : Option Wait) {status : ℕ} {before after : WaitPlaces} → is_pending wait ≡ false → status ≡ 87
     → after ≡ before → WaitTells wait status before after
-unwaited None none told same = (told, same)
-unwaited (Some wait) none told same = state_unwaited wait.thread wait.deadline wait.state none told same
+unwaited wait none told same = search arith

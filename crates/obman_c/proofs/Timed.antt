@@ -71,22 +71,21 @@ pub advances : {old between new : OwnedManager} {moment status : ℕ} {reply : R
     → ((due : ℕ) → IsLeast (dues_of between.manager.state) (Some due) → moment ≤ due)
     → (between ≡ old) ⊎ (between.manager.state.clock < moment) → Makes between (calls.Tick moment) reply new
     → status ≡ status_of reply → Advances old moment status new
-advances {between = between} {new = new} {moment = moment} {reply = reply} last served all still made told = record {
+advances {between = between} last served all still made told = record {
   between = between;
   served = served;
   told = tells made told;
   all = λ _. all;
-  refused = λ fails. ⊎_elim (λ same. same) (λ before. absurd (fails (told
-      ∙ ap status_of (goes between.manager new.manager moment reply (omega (arith, before)) last made.step).0))) still;
+  refused = λ fails. ⊎_elim (λ same. same)
+      (λ before. absurd (fails (told ∙ ap status_of (goes _ _ _ _ (omega (arith, before)) last made.step).0))) still;
 }
 
 pub advances_none : {old new : OwnedManager} {moment status : ℕ} {reply : Reply} → last_moment < moment
     → Makes old (calls.Tick moment) reply new → status ≡ status_of reply → Advances old moment status new
-advances_none {old = old} {new = new} {moment = moment} {reply = reply} past made told = record {
+advances_none {old = old} past made told = record {
   between = old;
   served = none;
   told = tells made told;
-  all = λ done. absurd (cc (sym done ∙ told
-      ∙ ap status_of (past_last old.manager new.manager moment reply past made.step)));
+  all = λ done. absurd (cc (sym done ∙ told ∙ ap status_of (past_last _ _ _ _ past made.step)));
   refused = λ _. refl;
 }
