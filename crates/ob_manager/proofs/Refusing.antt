@@ -1,5 +1,5 @@
 -- A refusal that isn't for want of memory is the model's.
-use Rattle.std.proofs.Common.{◌≡◌, ◌≢◌, Bool, false, ℕ, List, Result, Ok, Err, refl, arith, cond, not, ltb, length}
+use Rattle.std.proofs.Common.{◌≡◌, ◌≢◌, Bool, false, ℕ, List, Result, Ok, Err, arith, cond, not, ltb, length}
 use Rattle.std.specs.Prelude.{IfErr}
 use Rattle.std.specs.List.{list_all}
 use Rattle.ob_name.specs.declared.name.NameRef.{NameRef}
@@ -12,8 +12,7 @@ use Rattle.ob_manager.specs.Outcomes.{Refuses}
 use Rattle.ob_manager.specs.Steps.{is_memory}
 
 pub refuses_err : {A : Type 0} (e : Fault) (r : Result A Fault) → e ≢ fault.Memory → r ≡ Err e → Refuses e r
-refuses_err fault.Memory r other is = absurd (other refl)
-refuses_err e r other is = is
+refuses_err e r other is = grind arith
 
 -- whether a part of a call refuses for want of memory
 abbrev pub wants : {A : Type 0} → Result A Fault → Bool
@@ -30,5 +29,4 @@ text_wants text session = by (ltb 260 (length text)) (list_all is_printable text
 
 pub name_known : (r : Result NameRef Fault) (text : List ℕ) (session : ℕ) → parsed_name r ≡ name_of text session
     → IfErr r (λ e. e ≢ fault.Memory)
-name_known (Ok name) text session is = tt
-name_known (Err e) text session is = let known = rw (← is) at (text_wants text session) in grind arith
+name_known r text session is = grind (arith, text_wants text session)

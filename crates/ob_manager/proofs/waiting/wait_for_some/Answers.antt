@@ -5,10 +5,4 @@ pub wait_on-requires : goal.wait_on-requires
 wait_on-requires g c =
     let are = asked c.args.store.now.state c.args.process c.args.mode c.args.handles.now c.collect.new.ids.items
     c.in_ok-collect.ensures.value in
-    rw c.as_slice.ensures.value (record {
-      not_empty = λ all. are.not_empty;
-      at_most = are.at_most;
-      alone = c.requires.alone;
-      live = c.requires.live;
-      is_there = are.is_there;
-    })
+    rw c.as_slice.ensures.value (search are)

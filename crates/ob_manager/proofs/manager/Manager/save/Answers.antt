@@ -12,10 +12,5 @@ returns-clause-saved g c = rw (
 )
 
 pub returns-clause-again : goal.returns-clause-again
-returns-clause-again g c = rw (
-  ← c.self.view_is,
-  c.in_ok-seal.ensures,
-  c.in_ok-write-2.ensures.text,
-  c.in_ok-write.ensures.text,
-  c.new-bytes.ensures.items,
-) (loads_again c.self.inside.store (c.in_ok-write-2.ensures.again []))
+returns-clause-again g c =
+    rw (returns-clause-saved g c, ← c.self.view_is) (loads_again c.self.inside.store (c.in_ok-write-2.ensures.again []))

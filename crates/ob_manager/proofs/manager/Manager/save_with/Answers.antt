@@ -1,25 +1,22 @@
-use Rattle.std.proofs.Common.{◌≡◌, [], ◌++◌, sym, ◌∙◌}
+use Rattle.std.proofs.Common.{[], sym, ◌∙◌}
 use Rattle.std.proofs.lemmas.List.{append_assoc}
 use Rattle.std.proofs.lemmas.Result.{IfOk-weaker}
 use Rattle.std.specs.Int.{w64, to_le_bytes}
-use Rattle.ob_codec.specs.Sealing.{sealed}
 use Rattle.ob_store.specs.SavedStore.{store_text}
 use Rattle.ob_manager.specs.HostData.{data_text}
 use Rattle.ob_manager.specs.Savestates.{data_mark}
 use Rattle.ob_manager.proofs.SavestateLaws.{empty_is, kept_again, plain_loads}
 use Rattle.ob_manager.proofs.manager.Manager.save_with.Goals as goal
-use Rattle.ob_manager.proofs.manager.Manager.save_with.Given as given
 
 pub returns-then-is_empty-clause-again : goal.returns-then-is_empty-clause-again
 returns-then-is_empty-clause-again g c =
     rw (empty_is c.args.kept.now (sym c.is_empty.ensures ∙ c.if-is_empty.true)) (IfOk-weaker c.save.result _ _
     (λ bytes again. plain_loads bytes.items _ again) c.save.ensures.again)
 
--- what is sealed
-text : (g : given.Over) (c : goal.In_ok-seal g)
-    → c.seal.new.text.items
-    ≡ sealed (to_le_bytes w64 data_mark ++ (data_text c.args.kept.now ++ store_text c.self.inside.store))
-text g c = rw (
+pub returns-clause-saved : goal.returns-clause-saved
+returns-clause-saved g c = rw (
+  ← c.self.view_is,
+  sym c.is_empty.ensures ∙ c.if-is_empty.false,
   c.in_ok-seal.ensures,
   c.in_ok-write-3.ensures.text,
   c.in_ok-write-2.ensures.text,
@@ -28,9 +25,8 @@ text g c = rw (
   append_assoc (to_le_bytes w64 data_mark) (data_text c.args.kept.now) (store_text c.self.inside.store),
 )
 
-pub returns-clause-saved : goal.returns-clause-saved
-returns-clause-saved g c = rw (← c.self.view_is, sym c.is_empty.ensures ∙ c.if-is_empty.false) (text g c)
-
 pub returns-clause-again : goal.returns-clause-again
-returns-clause-again g c = rw (← c.self.view_is, text g c) (kept_again c.args.kept.now c.self.inside.store
-    c.in_ok-write-2.ensures.fits (sym c.is_empty.ensures ∙ c.if-is_empty.false) (c.in_ok-write-3.ensures.again []))
+returns-clause-again g c =
+    let some = sym c.is_empty.ensures ∙ c.if-is_empty.false in
+    rw (returns-clause-saved g c, ← c.self.view_is, some) (kept_again c.args.kept.now c.self.inside.store
+    c.in_ok-write-2.ensures.fits some (c.in_ok-write-3.ensures.again []))
