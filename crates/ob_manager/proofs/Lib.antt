@@ -1,4 +1,5 @@
 pub mod Refusing
+pub mod EntryStays
 pub mod StepLaws
 pub mod LimitLaws
 pub mod Waited
