@@ -14,7 +14,7 @@ use pin_core::Id;
 
 /// Whether an object is signaled for a thread.
 #[inline(never)]
-fn is_any_signaled<B: Bodies>(bodies: &B, thread: u32, id: Id) -> bool
+fn is_signaled_apart<B: Bodies>(bodies: &B, thread: u32, id: Id) -> bool
     ensures { result ≡ is_signaled thread (B.objects bodies.now).bodies id }
 {
     match bodies.body(id) {
@@ -31,7 +31,7 @@ fn is_signaled<B: Bodies>(bodies: &B, thread: u32, id: Id) -> bool
 {
     match bodies.body(id) {
         Some(Body::Event(event)) => event.set,
-        Some(_) => is_any_signaled(bodies, thread, id),
+        Some(_) => is_signaled_apart(bodies, thread, id),
         None => false,
     }
 }
@@ -123,8 +123,8 @@ fn take_all<B: Bodies>(bodies: &mut B, thread: u32, ids: &[Id]) -> bool
 }
 
 /// Takes an object, if it is signaled, and gives the code.
-#[inline(always)]
-fn take_one<B: Bodies>(bodies: &mut B, thread: u32, id: Id) -> Option<u32>
+#[inline(never)]
+fn take_apart<B: Bodies>(bodies: &mut B, thread: u32, id: Id) -> Option<u32>
     requires room { HasRoom RECURSION_MAX thread (B.objects bodies.old).bodies (id ∷ []) }
     ensures code { (mode : Mode) → result ≡ code_now mode thread (B.objects bodies.old).bodies (id ∷ []) }
     ensures objects { (mode : Mode) → B.objects bodies.new ≡ objects_now mode thread (B.objects bodies.old) (id ∷ []) }
@@ -135,6 +135,27 @@ fn take_one<B: Bodies>(bodies: &mut B, thread: u32, id: Id) -> Option<u32>
         return None;
     };
     if !body.signaled_for(thread) {
+        return None;
+    }
+    if bodies.acquire(id, thread) {
+        return Some(WAIT_ABANDONED_0);
+    }
+    Some(0)
+}
+
+/// The same, of an event at once.
+#[inline(always)]
+fn take_one<B: Bodies>(bodies: &mut B, thread: u32, id: Id) -> Option<u32>
+    requires room { HasRoom RECURSION_MAX thread (B.objects bodies.old).bodies (id ∷ []) }
+    ensures code { (mode : Mode) → result ≡ code_now mode thread (B.objects bodies.old).bodies (id ∷ []) }
+    ensures objects { (mode : Mode) → B.objects bodies.new ≡ objects_now mode thread (B.objects bodies.old) (id ∷ []) }
+    ensures rest { B.rest bodies.new ≡ B.rest bodies.old }
+    ensures unready { IfNone result (bodies.new ≡ bodies.old) }
+{
+    let Some(Body::Event(event)) = bodies.body(id) else {
+        return take_apart(bodies, thread, id);
+    };
+    if !event.set {
         return None;
     }
     if bodies.acquire(id, thread) {
