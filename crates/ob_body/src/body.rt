@@ -122,9 +122,9 @@ impl Body {
         }
     }
 
-    /// What a satisfied wait of this thread does, and whether it was an abandoned mutex: an event and a host's object that
-    /// aren't reset by hand and a synchronization timer are reset, a semaphore's count falls by 1, and the thread owns a
-    /// mutex once more, which is no longer abandoned.
+    /// What a satisfied wait of this thread does, and whether it was an abandoned mutex: an event and a host's object
+    /// that aren't reset by hand and a synchronization timer are reset, a semaphore's count falls by 1, and the thread
+    /// owns a mutex once more, which is no longer abandoned.
     pub fn acquire(&mut self, thread: u32) -> bool
         requires signaled { spec.is_signaled thread self.old ≡ true }
         requires room { spec.has_room RECURSION_MAX thread self.old ≡ true }
@@ -244,9 +244,9 @@ impl Body {
         }
     }
 
-    /// Sets a timer to a moment, in units of 100 ns, and to a period, in milliseconds, 0 for none: it is nonsignaled until
-    /// then, and signaled at once where the moment isn't after `now` ([SetWaitableTimer]). With a period it becomes
-    /// signaled again a period after its moment, and so on.
+    /// Sets a timer to a moment, in units of 100 ns, and to a period, in milliseconds, 0 for none: it is nonsignaled
+    /// until then, and signaled at once where the moment isn't after `now` ([SetWaitableTimer]). With a period it
+    /// becomes signaled again a period after its moment, and so on.
     ///
     /// [SetWaitableTimer]: https://learn.microsoft.com/windows/win32/api/synchapi/nf-synchapi-setwaitabletimer
     pub fn arm(&mut self, due: u64, now: u64, period: u32)

@@ -149,8 +149,8 @@ impl From<AllocError> for OptionsFault {
 
 /// Reads the arguments after the program's name, by the habits of `clap`: `--slots 4` or `--slots=4`, in any order,
 /// each option at most once, `--help` or `-h`, and `--version` or `-V`. The options are the *profile*'s: one for each
-/// limit of [`Limits`], `--reuse`, `--repeats`, `--more`, `--lanes`, `--load` and `--save`. A savestate has limits of its
-/// own, and lanes go over new managers alone: beside `--load` stands no limit, no `--reuse` and no `--repeats`, and
+/// limit of [`Limits`], `--reuse`, `--repeats`, `--more`, `--lanes`, `--load` and `--save`. A savestate has limits of
+/// its own, and lanes go over new managers alone: beside `--load` stands no limit, no `--reuse` and no `--repeats`, and
 /// beside `--load` and `--save` no `--lanes`.
 pub fn read_options(alloc: Global, args: Vec<String>) -> Result<Options, OptionsFault>
     ensures lanes { IfOk result (λ options. options.lanes ≤ 64) }
@@ -212,8 +212,8 @@ fn value_of<'a>(word: &'a str, next: Option<&'a String>) -> &'a str {
     }
 }
 
-/// The command, with an option for each limit, one for numbers that come back, one for more lines, one for lanes and two
-/// for savestates.
+/// The command, with an option for each limit, one for numbers that come back, one for more lines, one for lanes and
+/// two for savestates.
 fn command<'a>(alloc: Global) -> Result<Command<'a>, AllocError> {
     let mut command = Command::new(alloc, "obman")
         .no_binary_name(true)

@@ -132,8 +132,8 @@ impl<K: PinKeeper> Store<K> {
         }
     }
 
-    /// Makes the wait of a thread for an object pending, gives an object, perhaps the same, another body, and settles the
-    /// waits: so what comes to be signaled goes to those who waited before. Answers the number of the wait.
+    /// Makes the wait of a thread for an object pending, gives an object, perhaps the same, another body, and settles
+    /// the waits: so what comes to be signaled goes to those who waited before. Answers the number of the wait.
     ///
     /// Refused as [`add_wait`](Store::add_wait) is.
     fn wait_and_put(

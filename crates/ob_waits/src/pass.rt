@@ -1,4 +1,5 @@
-ghost use Rattle.std.specs.Prelude.{[], ◌∷◌, ◌≡◌, ◌<◌, ◌≤◌, true, false, IfSome, None, Some, drop, if◌then◌else◌, length, slice_index_or};
+ghost use Rattle.std.specs.Prelude.{[], ◌∷◌, ◌≡◌, ◌<◌, ◌≤◌, true, false, IfSome, None, Some, drop};
+ghost use Rattle.std.specs.Prelude.{if◌then◌else◌, length, slice_index_or};
 ghost use Rattle.ob_waits.specs.CountedBodies.{without_blocks};
 ghost use Rattle.ob_waits.specs.RisingNumbers.{numbers_of, Thins};
 ghost use Rattle.ob_waits.specs.PendingIndex.{IsRight};
@@ -82,7 +83,7 @@ pub(crate) fn pass<B: Bodies>(live: &mut Live, bodies: &mut B, numbers: &[u32])
     }
 }
 
-/// A count, where there is a later one, and else the earlier one.
+/// The later of two counts, where it is there.
 #[inline(always)]
 fn latest(is_there: bool, later: usize, earlier: usize) -> usize
     ensures { result ≡ if is_there then later else earlier }
@@ -111,7 +112,7 @@ pub(crate) fn pass_slot<B: Bodies>(
 {
     let (mut over, mut all) = (0, true);
     for (at, number) in pending_index.numbers(id.slot).iter().enumerate() {
-        // As long as no wait takes it, the object stays as it was found before the second.
+        // Whether it is open is asked before the second, and again behind each wait that is over.
         if at > 0 && (at == 1 || over == at) && !is_open(live, bodies, id) {
             return (over, all);
         }

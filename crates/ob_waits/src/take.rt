@@ -23,8 +23,7 @@ fn is_signaled_apart<B: Bodies>(bodies: &B, thread: u32, id: Id) -> bool
     }
 }
 
-/// The same of an object of a list.
-// Most are events, which are told by one comparison, and the others, apart, by a table of jumps.
+/// The same, of an event by one comparison, as most objects are; of others apart, by a table of jumps.
 #[inline(always)]
 fn is_signaled<B: Bodies>(bodies: &B, thread: u32, id: Id) -> bool
     ensures { result ≡ is_signaled thread (B.objects bodies.now).bodies id }
@@ -143,7 +142,7 @@ fn take_apart<B: Bodies>(bodies: &mut B, thread: u32, id: Id) -> Option<u32>
     Some(0)
 }
 
-/// The same, of an event at once.
+/// The same, of an event here, and of what is none apart.
 #[inline(always)]
 fn take_one<B: Bodies>(bodies: &mut B, thread: u32, id: Id) -> Option<u32>
     requires room { HasRoom RECURSION_MAX thread (B.objects bodies.old).bodies (id ∷ []) }
