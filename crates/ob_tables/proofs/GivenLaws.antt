@@ -50,23 +50,14 @@ next_is_free false numbers one = record {
 
 module _ {A : Type 0} (xs : List A) (n : ℕ) (x : A) (within : n ≤ length xs) where
   pub get_or-put : (k : ℕ) (d : A) → get_or (put xs n x) k d ≡ cond (eqb k n) x (get_or xs k d)
-  get_or-put k d = elim (cases_lt n (length xs)) [
-    | inl lt ↦ grind (arith, nat_tests, at_place)
-    | inr le ↦ grind (arith, nat_tests, at_place)
-  ]
+  get_or-put k d = grind (arith, nat_tests, at_place)
 
   pub length-put : (length xs ≤ length (put xs n x)) × ((most : ℕ) → length xs ≤ most → n < most
       → length (put xs n x) ≤ most)
-  length-put = elim (cases_lt n (length xs)) [
-    | inl lt ↦ grind (arith, nat_tests, at_place)
-    | inr le ↦ grind (arith, nat_tests, at_place)
-  ]
+  length-put = grind (arith, nat_tests, at_place)
 
   pub within-put : n < length (put xs n x)
-  within-put = elim (cases_lt n (length xs)) [
-    | inl lt ↦ grind (arith, nat_tests, at_place)
-    | inr le ↦ grind (arith, nat_tests, at_place)
-  ]
+  within-put = grind (arith, nat_tests, at_place)
 
   pub length-put-same : {B : Type 0} (ys : List B) (y : B) → length ys ≡ length xs
       → length (put ys n y) ≡ length (put xs n x)
@@ -81,19 +72,13 @@ any_set p (y ∷ xs) (suc n) x other lt none = search (arith, any_set p xs n x o
 
 pub any_put : (p : Option ℕ → Bool) (xs : List (Option ℕ)) (n : ℕ) (x : Option ℕ) → p None ≡ false → IsFree xs n
     → list_any p (put xs n x) ≡ (p x || list_any p xs)
-any_put p xs n x other free = elim (cases_lt n (length xs)) [
-  | inl lt ↦ grind (arith, nat_tests, any_set p xs n x other lt free.none)
-  | inr le ↦ grind (arith, nat_tests, list_any-append)
-]
+any_put p xs n x other free = grind (arith, nat_tests, any_set, list_any-append)
 
 pub live_put : (xs : List (Option ℕ)) (n x k : ℕ) → IsFree xs n → IsLive xs k → IsLive (put xs n (Some x)) k
 live_put xs n x k free live = grind (arith, nat_tests, get_or-put xs n (Some x) free.within k None)
 
 pub from_one_put : (xs : List (Option ℕ)) (n : ℕ) (x : Option ℕ) → IsFree xs n → IsFromOne xs → IsFromOne (put xs n x)
-from_one_put xs n x free one = record {
-  not_empty = omega (arith, (length-put xs n x free.within).0, one.not_empty);
-  none = grind (arith, nat_tests, get_or-put xs n x free.within 0 None, one.none, free.above);
-}
+from_one_put xs n x free one = grind (arith, nat_tests, get_or-put xs n x free.within, length-put xs n x free.within)
 
 -- what is kept where a process comes with its first thread and a table
 pub process_kept : (limits : Limits) (l : ProcessesState) (ts : List (List (Option Entry))) (n m session : ℕ)
@@ -102,39 +87,26 @@ pub process_kept : (limits : Limits) (l : ProcessesState) (ts : List (List (Opti
       processes = put l.processes n (Some session);
       threads = put l.threads m (Some n);
     }) (put ts n table)
-process_kept limits l ts n m session table p t few_p few_t k = record {
-  few_processes = (length-put l.processes n (Some session) p.within).1 (limits.processes + 1) k.few_processes
-      (omega (arith, few_p));
-  few_threads = (length-put l.threads m (Some n) t.within).1 (limits.threads + 1) k.few_threads (omega (arith, few_t));
-  processes_from_one = from_one_put l.processes n (Some session) p k.processes_from_one;
-  threads_from_one = from_one_put l.threads m (Some n) t k.threads_from_one;
-  tabled = length-put-same l.processes n (Some session) p.within ts table k.tabled;
-  vacated = λ q. grind (
-    arith,
-    nat_tests,
-    get_or-put l.processes n (Some session) p.within q None,
-    get_or-put ts n table (omega (arith, p.within, k.tabled)) q [],
-    k.vacated q,
-  );
-  live = λ u q. grind (
-    arith,
-    nat_tests,
-    get_or-put l.threads m (Some n) t.within u None,
-    get_or-put l.processes n (Some session) p.within q None,
-    k.live u q,
-  );
-}
+process_kept limits l ts n m session table p t few_p few_t k = grind (
+  arith,
+  nat_tests,
+  from_one_put,
+  get_or-put l.processes n (Some session) p.within,
+  get_or-put ts n table (omega (arith, p.within, k.tabled)),
+  get_or-put l.threads m (Some n) t.within,
+  length-put l.processes n (Some session) p.within,
+  length-put l.threads m (Some n) t.within,
+  length-put-same l.processes n (Some session) p.within,
+)
 
 -- and where a thread does
 pub thread_kept : (limits : Limits) (l : ProcessesState) (ts : List (List (Option Entry))) (m process : ℕ)
     → IsFree l.threads m → m ≤ limits.threads → IsLive l.processes process → ProcessesKept limits l ts
     → ProcessesKept limits (record l { threads = put l.threads m (Some process) }) ts
-thread_kept limits l ts m process t few live k = record {
-  few_processes = k.few_processes;
-  few_threads = (length-put l.threads m (Some process) t.within).1 (limits.threads + 1) k.few_threads (omega (arith, few));
-  processes_from_one = k.processes_from_one;
-  threads_from_one = from_one_put l.threads m (Some process) t k.threads_from_one;
-  tabled = k.tabled;
-  vacated = k.vacated;
-  live = λ u q. grind (arith, nat_tests, get_or-put l.threads m (Some process) t.within u None, k.live u q);
-}
+thread_kept limits l ts m process t few live k = grind (
+  arith,
+  nat_tests,
+  from_one_put,
+  get_or-put l.threads m (Some process) t.within,
+  length-put l.threads m (Some process) t.within,
+)

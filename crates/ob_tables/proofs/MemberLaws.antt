@@ -18,10 +18,7 @@ use Rattle.ob_tables.proofs.GivenLaws.{IsFree, get_or-put, length-put}
 
 -- each thread of each process has a number of its own
 key_same : (p t q u : ℕ) → t < 4294967296 → u < 4294967296 → eqb (key p t) (key q u) ≡ (eqb p q && eqb t u)
-key_same p t q u lt lu = elim (cases_eq p q) [
-  | inl same ↦ grind (arith, nat_tests)
-  | inr other ↦ grind (arith, nat_tests)
-]
+key_same p t q u lt lu = grind (arith, nat_tests)
 
 -- a change at one of them
 pub changed_at : (s s' : BTreeSet ℕ) (p t : ℕ) (b : Bool) → t < 4294967296 → Updates nat_cmp s s' (key p t) b → (q u : ℕ)
@@ -30,52 +27,32 @@ changed_at s s' p t b lt changed q u lu = grind (arith, nat_tests, changed.0 (ke
 
 pub member_added : (threads : List (Option ℕ)) (s s' : BTreeSet ℕ) (p t : ℕ) → AreMembers threads s → IsFree threads t
     → t ≤ 65536 → Updates nat_cmp s s' (key p t) true → AreMembers (put threads t (Some p)) s'
-member_added threads s s' p t are free few changed = record {
-  few = (length-put threads t (Some p) free.within).1 65537 are.few (omega (arith, few));
-  each = λ q u lu. grind (
-    arith,
-    nat_tests,
-    changed_at s s' p t true (omega (arith, few)) changed q u lu,
-    get_or-put threads t (Some p) free.within u None,
-    are.each q u lu,
-    free.none,
-  );
-}
+member_added threads s s' p t are free few changed = grind (
+  arith,
+  nat_tests,
+  length-put threads t (Some p) free.within,
+  changed_at s s' p t true (omega (arith, few)) changed,
+  get_or-put threads t (Some p) free.within,
+)
 
 pub member_gone : (threads : List (Option ℕ)) (s s' : BTreeSet ℕ) (p t : ℕ) → AreMembers threads s
     → get_or threads t None ≡ Some p → t < 4294967296 → Updates nat_cmp s s' (key p t) false
     → AreMembers (set threads t None) s'
-member_gone threads s s' p t are its lt changed = record {
-  few = omega (arith, length-set threads t None, are.few);
-  each = λ q u lu. grind (
-    arith,
-    nat_tests,
-    at_place,
-    changed_at s s' p t false lt changed q u lu,
-    are.each q u lu,
-    its,
-  );
-}
+member_gone threads s s' p t are its lt changed = grind (arith, nat_tests, at_place, changed_at s s' p t false lt changed)
 
 -- one that came leaves again
 pub member_undone : (threads : List (Option ℕ)) (s s' s'' : BTreeSet ℕ) (p t : ℕ) → AreMembers threads s
     → IsFree threads t → t ≤ 65536 → Updates nat_cmp s s' (key p t) true → Updates nat_cmp s' s'' (key p t) false
     → AreMembers threads s''
-member_undone threads s s' s'' p t are free few came left = record {
-  few = are.few;
-  each = λ q u lu. grind (
-    arith,
-    nat_tests,
-    changed_at s s' p t true (omega (arith, few)) came q u lu,
-    changed_at s' s'' p t false (omega (arith, few)) left q u lu,
-    are.each q u lu,
-    free.none,
-  );
-}
+member_undone threads s s' s'' p t are free few came left = grind (
+  arith,
+  nat_tests,
+  changed_at s s' p t true (omega (arith, few)) came,
+  changed_at s' s'' p t false (omega (arith, few)) left,
+)
 
 is_false : (b : Bool) → (b ≡ true → ⊥) → b ≡ false
-is_false true not = absurd (not refl)
-is_false false not = refl
+is_false = search arith
 
 -- a process has a thread where the least one is there
 pub any_least : (threads : List (Option ℕ)) (p : ℕ) (least : Option ℕ)
@@ -100,8 +77,7 @@ own_within threads p t h = grind (arith, nat_tests, get_or_past)
 
 pub few_from : (threads : List (Option ℕ)) (p from : ℕ) (least : Option ℕ) → length threads ≤ 65537
     → IsLeastFrom from (λ t. is_of p (get_or threads t None)) least → IfSome least (λ t. t ≤ 65536)
-few_from threads p from None few is = tt
-few_from threads p from (Some t) few is = (let lt = own_within threads p t is.passes in omega (arith, lt, few))
+few_from threads p from least few is = grind (arith, own_within)
 
 -- the least number from one on that stands for a thread of a process
 module _ (members : BTreeSet ℕ) (p from : ℕ) (threads : List (Option ℕ)) (are : AreMembers threads members) where
@@ -125,15 +101,7 @@ module _ (members : BTreeSet ℕ) (p from : ℕ) (threads : List (Option ℕ)) (
 
   pub none_is : ((q : ℕ) → key p from ≤ q → q ≤ key p 4294967295 → contains nat_cmp members q ≡ false)
       → IsLeastFrom from own None
-  none_is none = record {
-    passes = tt;
-    above = tt;
-    least = λ t since h.
-        let lt = own_within threads p t h in
-        let out = none (key p t) (omega (arith, since)) (omega (arith, lt, are.few)) in
-        let its = are.each p t (omega (arith, lt, are.few)) in
-        cc (out, its, h);
-  }
+  none_is none = grind (arith, own_within)
 
 -- the first of a range of them
 pub record IsFirst (members : BTreeSet ℕ) (low high n : ℕ) : Type 0 where
@@ -147,11 +115,4 @@ not_above a b le = grind (arith, nat_tests)
 
 pub first_of : (members : BTreeSet ℕ) (low high n : ℕ) (rest keys : List ℕ) → keys ≡ n ∷ rest
     → IsKeyRangeOf nat_cmp (Included low) (Included high) members keys → IsFirst members low high n
-first_of members low high n rest keys is range =
-    let r = rw is at range in
-    record {
-      above = le_from_not_gt low n r.1.0.0;
-      below = le_from_not_gt n high r.1.0.1;
-      there = r.1.1;
-      least = λ q above below h. le_from_not_gt n q (r.2 q (not_above low q above, not_above q high below) h);
-    }
+first_of members low high n rest keys is range = search (arith, le_from_not_gt, not_above)

@@ -29,12 +29,7 @@ same_least (true ∷ taken) (Some x ∷ numbers) same = search (arith, same_leas
 pub least_is : (taken : List Bool) (numbers : List (Option ℕ)) → 0 < length numbers
     → ((k : ℕ) → is_taken taken k ≡ is_some (get_or numbers (k + 1) None))
     → least_free taken + 1 ≡ next_number true numbers
-least_is taken [] some same = absurd (omega (arith, some))
-least_is taken (x ∷ numbers) some same =
-    ap (λ n. n + 1) (same_least taken numbers (λ k. same k ∙ ap (λ n. is_some (get_or (x ∷ numbers) n None)) (next k)))
-  where
-    next : (k : ℕ) → k + 1 ≡ suc k
-    next k = omega arith
+least_is taken numbers some same = grind (arith, same_least)
 
 -- a number that is taken stands in the set
 pub stands_taken : (taken : List Bool) (k : ℕ) → is_taken taken k ≡ true → slice_get taken k ≡ Some true
@@ -44,12 +39,7 @@ stands_taken (x ∷ taken) (suc k) is = stands_taken taken k is
 
 pub live_taken : (m : Numbers) → AreNumbers m → (n : ℕ) → is_some (get_or m.places.items n None) ≡ true
     → slice_get m.taken (n - 1) ≡ Some true
-live_taken m are zero some = absurd (let none = are.from_one.none in cc (none, some))
-live_taken m are (suc k) some = stands_taken m.taken (suc k - 1)
-    (are.taken (suc k - 1) ∙ ap (λ n. is_some (get_or m.places.items n None)) same ∙ some)
-  where
-    same : suc k - 1 + 1 ≡ suc k
-    same = omega arith
+live_taken m are n some = grind (arith, stands_taken)
 
 -- the set while it is made: each place from one on still has its number taken
 pub record IsReadTo (places : List (Option ℕ)) (taken : List Bool) (place : ℕ) : Type 0 where
@@ -58,30 +48,16 @@ pub record IsReadTo (places : List (Option ℕ)) (taken : List Bool) (place : �
   pub behind : (k : ℕ) → place ≤ k + 1 → k + 1 < length places → is_taken taken k ≡ true
 
 pub read_first : (places : List (Option ℕ)) (n : ℕ) → n + 1 ≡ length places → IsReadTo places (replicate n true) 1
-read_first places n long = record {
-  long = omega (arith, length-replicate n true, long);
-  before = λ k less. absurd (omega (arith, less));
-  behind = λ k above less. get_or-replicate n k true false (omega (arith, less, long));
-}
+read_first places n long = search (arith, length-replicate, get_or-replicate)
 
 pub read_next : (places : List (Option ℕ)) (taken taken' : List Bool) (place : ℕ) → 0 < place → place < length places
     → taken' ≡ cond (is_some (get_or places place None)) taken (set taken (place - 1) false) → IsReadTo places taken place
     → IsReadTo places taken' (place + 1)
-read_next places taken taken' place above within is so_far = record {
-  long = grind (arith, nat_tests, at_place, is, so_far.long);
-  before = λ k less. elim (cases_eq (k + 1) place) [
-    | inl same ↦ grind (arith, nat_tests, at_place, is, so_far.long, so_far.behind k)
-    | inr other ↦ grind (arith, nat_tests, at_place, is, so_far.before k)
-  ];
-  behind = λ k past less. grind (arith, nat_tests, at_place, is, so_far.behind k);
-}
+read_next places taken taken' place above within is so_far = grind (arith, nat_tests, at_place)
 
 pub read_all : (places : List (Option ℕ)) (taken : List Bool) → IsReadTo places taken (length places) → (k : ℕ)
     → is_taken taken k ≡ is_some (get_or places (k + 1) None)
-read_all places taken so_far k = elim (cases_lt (k + 1) (length places)) [
-  | inl lt ↦ so_far.before k lt
-  | inr le ↦ grind (arith, nat_tests, get_or_past, so_far.long)
-]
+read_all places taken so_far k = grind (arith, nat_tests, get_or_past)
 
 -- as many numbers are taken as live ones stand behind place 0
 none_ahead : (numbers : List (Option ℕ)) → count_by is_some (None ∷ numbers) ≡ count_by is_some numbers
