@@ -25,8 +25,7 @@ least_within (Some x ∷ xs) = omega (arith, least_within xs)
 
 least_none : (xs : List (Option ℕ)) → get_or xs (position_or_len is_none xs) None ≡ None
 least_none [] = refl
-least_none (None ∷ xs) = search arith
-least_none (Some x ∷ xs) = search (arith, least_none xs)
+least_none (x ∷ xs) = grind (arith, least_none xs)
 
 least_is_free : (xs : List (Option ℕ)) → 0 < length xs → IsFree xs (next_number true xs)
 least_is_free [] some = absurd (omega (arith, some))
@@ -67,8 +66,7 @@ module _ {A : Type 0} (xs : List A) (n : ℕ) (x : A) (within : n ≤ length xs)
 any_set : (p : Option ℕ → Bool) (xs : List (Option ℕ)) (n : ℕ) (x : Option ℕ) → p None ≡ false → n < length xs
     → get_or xs n None ≡ None → list_any p (set xs n x) ≡ (p x || list_any p xs)
 any_set p [] n x other lt none = absurd (omega (arith, lt))
-any_set p (y ∷ xs) zero x other lt none = search arith
-any_set p (y ∷ xs) (suc n) x other lt none = search (arith, any_set p xs n x other (omega (arith, lt)) none)
+any_set p (y ∷ xs) n x other lt none = grind (arith, any_set p xs)
 
 pub any_put : (p : Option ℕ → Bool) (xs : List (Option ℕ)) (n : ℕ) (x : Option ℕ) → p None ≡ false → IsFree xs n
     → list_any p (put xs n x) ≡ (p x || list_any p xs)

@@ -37,8 +37,7 @@ before_first a0 a1 = search arith
 -- no entry goes
 pub at-trimmed : (t : List (Option Entry)) (k : ℕ) → get_or (trimmed t) k None ≡ get_or t k None
 at-trimmed [] k = refl
-at-trimmed (x ∷ t) zero = before_first x (trimmed t)
-at-trimmed (x ∷ t) (suc k) = search (arith, at-trimmed t k)
+at-trimmed (x ∷ t) k = grind (arith, before_first, at-trimmed t)
 
 -- how much is inherited of one more place
 pub inherited_none : (t : List (Option Entry)) (x : Option Entry) → inheritable x ≡ None

@@ -89,15 +89,7 @@ module _ (members : BTreeSet ℕ) (p from : ℕ) (threads : List (Option ℕ)) (
       → IsLeastFrom from own (Some (n % 4294967296))
   first_is n above below there least =
       let is : key p (n % 4294967296) ≡ n = omega (arith, above, below) in
-      record {
-        passes = sym (are.each p (n % 4294967296) (omega arith)) ∙ ap (contains nat_cmp members) is ∙ there;
-        above = omega (arith, above, below);
-        least = λ t since h.
-            let lt = own_within threads p t h in
-            let low = least (key p t) (omega (arith, since)) (omega (arith, lt, are.few))
-            (are.each p t (omega (arith, lt, are.few)) ∙ h) in
-            omega (arith, low, above, below);
-      }
+      grind (arith, own_within, are.each p (n % 4294967296), is)
 
   pub none_is : ((q : ℕ) → key p from ≤ q → q ≤ key p 4294967295 → contains nat_cmp members q ≡ false)
       → IsLeastFrom from own None

@@ -16,14 +16,9 @@ use Rattle.ob_tables.specs.Processes.{IsFromOne, next_number}
 same_least : (taken : List Bool) (numbers : List (Option ℕ))
     → ((k : ℕ) → is_taken taken k ≡ is_some (get_or numbers k None)) → least_free taken ≡ position_or_len is_none numbers
 same_least [] [] same = refl
-same_least [] (None ∷ numbers) same = search arith
-same_least [] (Some x ∷ numbers) same = absurd (let h = same 0 in cc h)
-same_least (false ∷ taken) [] same = search arith
-same_least (true ∷ taken) [] same = absurd (let h = same 0 in cc h)
-same_least (false ∷ taken) (None ∷ numbers) same = search arith
-same_least (false ∷ taken) (Some x ∷ numbers) same = absurd (let h = same 0 in cc h)
-same_least (true ∷ taken) (None ∷ numbers) same = absurd (let h = same 0 in cc h)
-same_least (true ∷ taken) (Some x ∷ numbers) same = search (arith, same_least taken numbers (λ k. same (suc k)))
+same_least [] (x ∷ numbers) same = grind (arith, same 0)
+same_least (x ∷ taken) [] same = grind (arith, same 0)
+same_least (x ∷ taken) (y ∷ numbers) same = grind (arith, same 0, same_least taken numbers (λ k. same (suc k)))
 
 -- the least free one is the least that is gone
 pub least_is : (taken : List Bool) (numbers : List (Option ℕ)) → 0 < length numbers
@@ -97,11 +92,10 @@ counted_behind taken (None ∷ numbers) one same = omega (
 
 few_behind : (numbers : List (Option ℕ)) → IsFromOne numbers → count_by is_some numbers < length numbers
 few_behind [] one = absurd (omega (arith, one.not_empty))
-few_behind (Some x ∷ numbers) one = absurd (let h = one.none in cc h)
-few_behind (None ∷ numbers) one = omega (arith, none_ahead numbers, count_by-le-length is_some numbers)
+few_behind (x ∷ numbers) one = grind (arith, none_ahead, count_by-le-length is_some numbers)
 
 pub live_counted : (m : Numbers) → AreNumbers m → taken_count m.taken ≡ count_by is_some m.places.items
-live_counted m are = counted_behind m.taken m.places.items are.from_one are.taken
+live_counted m are = search (arith, counted_behind)
 
 pub live_few : (m : Numbers) → AreNumbers m → count_by is_some m.places.items < length m.places.items
-live_few m are = few_behind m.places.items are.from_one
+live_few m are = search (arith, few_behind)

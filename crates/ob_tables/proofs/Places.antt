@@ -15,21 +15,18 @@ use Rattle.ob_tables.proofs.Counting.{found_place}
 -- the least number that is not taken is the least free place
 pub least_free_places : {A : Type 0} (t : List (Option A)) → least_free (map is_some t) ≡ free_place t
 least_free_places [] = refl
-least_free_places (None ∷ t) = refl
-least_free_places (Some x ∷ t) = search (arith, least_free_places t)
+least_free_places (x ∷ t) = grind (arith, least_free_places t)
 
 -- a table that is free at its end alone gets the entry there
 pub with_entry_end : (t : List (Option Entry)) (e : Entry) → free_place t ≡ length t → with_entry t e ≡ t ++ Some e ∷ []
 with_entry_end [] e h = refl
-with_entry_end (None ∷ t) e h = cc
-with_entry_end (Some x ∷ t) e h = ap (λ r. Some x ∷ r) (with_entry_end t e (omega arith))
+with_entry_end (x ∷ t) e h = grind (arith, with_entry_end t e)
 
 -- otherwise the entry is written at the free place
 pub with_entry_at : (t : List (Option Entry)) (e : Entry) → free_place t < length t
     → with_entry t e ≡ set t (free_place t) (Some e)
 with_entry_at [] e h = absurd (omega arith)
-with_entry_at (None ∷ t) e h = refl
-with_entry_at (Some x ∷ t) e h = ap (λ r. Some x ∷ r) (with_entry_at t e (omega arith))
+with_entry_at (x ∷ t) e h = grind (arith, with_entry_at t e)
 
 -- the least number of a table's set is its least free place, and is free
 pub least_place : (taken : List Bool) (t : List (Option Entry)) → TableInvariant taken t

@@ -49,9 +49,8 @@ slot_handles-without_entries slot = counted-without_entries (names_slot slot) re
 pub slot_handles-few : (slot processes handles : ℕ) (ts : List (List (Option Entry))) → IsBounded processes handles ts
     → slot_handles slot ts ≤ 65537 * 16384
 slot_handles-few slot processes handles ts b =
-    let each : slot_handles slot ts ≤ length ts * 16384 = sum_by-le (slot_handles_in slot) 16384 ts
-    (All-from_get_or (λ (t : List (Option Entry)). slot_handles_in slot t ≤ 16384) ts [] (λ i lt. omega (arith, count_by-le-length (names_slot slot) (table_of ts i)))) in
-    omega arith
+    let each = All-from_get_or (λ (t : List (Option Entry)). slot_handles_in slot t ≤ 16384) ts [] in
+    grind (arith, sum_by-le (slot_handles_in slot) 16384 ts, count_by-le-length (names_slot slot), each)
 
 pub slot_handles-le : (id : Id) (ts : List (List (Option Entry))) → handles_among id ts ≤ slot_handles id.slot ts
 slot_handles-le id ts = search (arith, sum_by-le-sum_by)
