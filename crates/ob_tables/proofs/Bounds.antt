@@ -10,9 +10,7 @@ use Rattle.ob_tables.specs.Tables.{IsBounded, table_of}
 all-short : (handles : ℕ) (tables : List (List (Option Entry)))
     → ((process : ℕ) → length (table_of tables process) ≤ handles) → list_all (is_short handles) tables ≡ true
 all-short handles [] short = refl
-all-short handles (table ∷ tables) short =
-    and_from (leb (length table) handles) (list_all (is_short handles) tables) (le-leb _ _ (short 0))
-    (all-short handles tables (λ process. short (suc process)))
+all-short handles (table ∷ tables) short = grind (arith, le-leb, short 0, all-short handles tables (λ process. short (suc process)))
 
 pub bounded : (processes handles : ℕ) (tables : List (List (Option Entry))) → IsBounded processes handles tables
     → are_bounded (length tables) handles tables ≡ true

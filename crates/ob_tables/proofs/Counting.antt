@@ -1,4 +1,5 @@
 -- How the number of entries, and of those that name an object, changes with each change of the tables.
+use Rattle.std.proofs.lemmas.Bool.Decides.{nat_tests}
 use Rattle.ob_codec.proofs.AtPlace.{at_place}
 use Rattle.std.proofs.lemmas.Grind.{common_steps}
 use Rattle.std.proofs.Common.{◌≡◌, ℕ, zero, suc, ◌+◌, ◌<◌, ◌≤◌, List, [], ◌∷◌, length, Option, Some, None, refl, arith, get_or, set, map, Bool, true, false, cond, ltb}
@@ -24,9 +25,7 @@ one_id a b h = search arith
 
 -- what is not None stands within the list
 pub some_within : {A : Type 0} (t : List (Option A)) (k : ℕ) (e : A) → get_or t k None ≡ Some e → k < length t
-some_within [] k e h = absurd (none-some e h)
-some_within (x ∷ t) zero e h = omega arith
-some_within (x ∷ t) (suc k) e h = omega (arith, some_within t k e h)
+some_within t k e h = grind (arith, nat_tests, at_place)
 
 -- 1 for a place that passes a test, and else 0
 abbrev pub weight : (Option Entry → Bool) → Option Entry → ℕ

@@ -1,4 +1,6 @@
 -- When a table is full, and that no table outgrows its limit.
+use Rattle.ob_codec.proofs.AtPlace.{at_place}
+use Rattle.std.proofs.lemmas.Bool.Decides.{nat_tests}
 use Rattle.std.proofs.Common.{◌≡◌, ℕ, zero, suc, ◌<◌, ◌≤◌, List, [], ◌∷◌, ◌++◌, length, Option, Some, None, refl, arith, get_or, set, true, leb, ◌↔◌}
 use Rattle.std.specs.Prelude.{is_some}
 use Rattle.std.proofs.lemmas.List.{get_or_read, length-append, length-set}
@@ -30,8 +32,7 @@ short_entries (Some x ∷ t) h = omega (arith, entries_in-some x t, short_entrie
 
 pub free_place-le : (t : List (Option Entry)) → free_place t ≤ length t
 free_place-le [] = omega arith
-free_place-le (None ∷ t) = omega arith
-free_place-le (Some x ∷ t) = omega (arith, free_place-le t)
+free_place-le (x ∷ t) = grind (arith, free_place-le t)
 
 -- each table of the list is within the limit
 pub record AreShort (ts : List (List (Option Entry))) (m : ℕ) : Type 0 where
@@ -73,15 +74,8 @@ length-with_entry t e m short below = search (arith, free_place-le, length-appen
 -- a table comes, or changes
 pub short_pushed : (ts : List (List (Option Entry))) (t : List (Option Entry)) (m : ℕ)
     → ((p : ℕ) → length (table_of ts p) ≤ m) → length t ≤ m → (p : ℕ) → length (table_of (ts ++ t ∷ []) p) ≤ m
-short_pushed [] t m each short zero = short
-short_pushed [] t m each short (suc p) = omega arith
-short_pushed (x ∷ ts) t m each short zero = each zero
-short_pushed (x ∷ ts) t m each short (suc p) = short_pushed ts t m (λ q. each (suc q)) short p
+short_pushed ts t m each short p = grind (arith, nat_tests, at_place)
 
 pub short_set : (ts : List (List (Option Entry))) (k : ℕ) (t : List (Option Entry)) (m : ℕ)
     → ((p : ℕ) → length (table_of ts p) ≤ m) → length t ≤ m → (p : ℕ) → length (table_of (set ts k t) p) ≤ m
-short_set [] k t m each short p = each p
-short_set (x ∷ ts) zero t m each short zero = short
-short_set (x ∷ ts) zero t m each short (suc p) = each (suc p)
-short_set (x ∷ ts) (suc k) t m each short zero = each zero
-short_set (x ∷ ts) (suc k) t m each short (suc p) = short_set ts k t m (λ q. each (suc q)) short p
+short_set ts k t m each short p = grind (arith, nat_tests, at_place)

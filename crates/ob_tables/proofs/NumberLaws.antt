@@ -29,8 +29,7 @@ least_is taken numbers some same = grind (arith, same_least)
 -- a number that is taken stands in the set
 pub stands_taken : (taken : List Bool) (k : ℕ) → is_taken taken k ≡ true → slice_get taken k ≡ Some true
 stands_taken [] k is = absurd (cc is)
-stands_taken (x ∷ taken) zero is = ap Some is
-stands_taken (x ∷ taken) (suc k) is = stands_taken taken k is
+stands_taken (x ∷ taken) k is = grind (arith, nat_tests, stands_taken taken)
 
 pub live_taken : (m : Numbers) → AreNumbers m → (n : ℕ) → is_some (get_or m.places.items n None) ≡ true
     → slice_get m.taken (n - 1) ≡ Some true

@@ -1,4 +1,5 @@
 -- Laws of one table: its least free place, what an entry there does, and the places that are taken.
+use Rattle.std.proofs.lemmas.Bool.Decides.{nat_tests}
 use Rattle.std.proofs.lemmas.Grind.{common_steps, elements}
 use Rattle.std.proofs.Common.{◌≡◌, ℕ, zero, suc, ◌+◌, ◌-◌, ◌<◌, ◌≤◌, List, [], ◌∷◌, ◌++◌, length, map, replicate, Option, Some, None, refl, ap, ◌∙◌, arith, get_or, set, Bool, true, false}
 use Rattle.std.specs.Prelude.{is_some, IsSome, slice_get}
@@ -76,10 +77,7 @@ stays_taken taken k is = grind (arith, elements, set-get_or)
 
 -- places that come one by one, while the numbers of all that are still to come are taken
 first_past : (xs : List Bool) (i : ℕ) (y : Bool) (ys : List Bool) → length xs ≡ i → slice_get (xs ++ y ∷ ys) i ≡ Some y
-first_past [] zero y ys long = refl
-first_past [] (suc i) y ys long = cc
-first_past (x ∷ xs) zero y ys long = cc
-first_past (x ∷ xs) (suc i) y ys long = first_past xs i y ys (omega arith)
+first_past xs i y ys long = grind (arith, nat_tests, common_steps, elements)
 
 numbers_left : (i len : ℕ) → i < len → replicate (len - i) true ≡ true ∷ replicate (len - (i + 1)) true
 numbers_left i len lt = search arith

@@ -83,4 +83,4 @@ pub slot_handles-one : (id : Id) (ts : List (List (Option Entry))) → AreOne id
     → slot_handles id.slot ts ≡ handles_among id ts
 slot_handles-one id [] one = refl
 slot_handles-one id (t ∷ ts) one =
-    omega (arith, sum_by-cons (slot_handles_in id.slot) t ts, sum_by-cons (handles_in id) t ts, slot_handles_in-one id t (one zero), slot_handles-one id ts (λ p. one (suc p)))
+    omega (arith, sum_by-cons, slot_handles_in-one id t (one zero), slot_handles-one id ts (λ p. one (suc p)))

@@ -8,8 +8,7 @@ loop-place-init c = rw c.in_ok-taken.ensures (read_first c.in_ok-places.places.i
     (grind (arith, nat_tests, c.len.ensures, c.is_empty.ensures, c.if-is_empty.false)))
 
 pub free_at-requires-clause-taken : goal.free_at-requires-clause-taken
-free_at-requires-clause-taken c = stands_taken c.loop-place.taken (c.loop-place.place - 1)
-    (c.loop-place.invariant.behind (c.loop-place.place - 1) (omega arith) (omega arith))
+free_at-requires-clause-taken c = search (arith, stands_taken)
 
 pub loop-place-preserved : goal.loop-place-preserved
 loop-place-preserved c = read_next c.in_ok-places.places.items c.loop-place.taken c.free_at.new.taken

@@ -7,15 +7,7 @@ use Rattle.ob_tables.proofs.LimitLaws.{full_at, room_at, length-with_entry}
 use Rattle.ob_tables.proofs.tables.Tables.place.Goals as goal
 
 pub invariant_of-self : goal.invariant_of-self
-invariant_of-self c =
-    let i = c.self.inside in
-    let t = c.index_mut.result.now in
-    let here : t ≡ table_of i.tables.items c.args.process =
-    search (arith, get_or_read) in
-    let short : length c.place.new.self ≤ i.handles =
-    search (arith, length-with_entry)
-    in
-    grind (arith, at_place)
+invariant_of-self c = grind (arith, at_place, length-with_entry, get_or_read)
 
 pub returns-in-Ok-clause-room : goal.returns-in-Ok-clause-room
 returns-in-Ok-clause-room c =
