@@ -1,7 +1,7 @@
 -- When a table is full, and that no table outgrows its limit.
 use Rattle.ob_codec.proofs.AtPlace.{at_place}
 use Rattle.std.proofs.lemmas.Bool.Decides.{nat_tests}
-use Rattle.std.proofs.Common.{◌≡◌, ℕ, zero, suc, ◌<◌, ◌≤◌, List, [], ◌∷◌, ◌++◌, length, Option, Some, None, refl, arith, get_or, set, true, leb, ◌↔◌}
+use Rattle.std.proofs.Common.{◌≡◌, ℕ, suc, ◌<◌, ◌≤◌, List, [], ◌∷◌, ◌++◌, length, Option, Some, None, refl, arith, get_or, set, true, leb, ◌↔◌}
 use Rattle.std.specs.Prelude.{is_some}
 use Rattle.std.proofs.lemmas.List.{get_or_read, length-append, length-set}
 use Rattle.std.proofs.lemmas.List.Sums.{count_by-le-length, sum_by-cons}

@@ -1,7 +1,7 @@
 -- Laws of one table: its least free place, what an entry there does, and the places that are taken.
 use Rattle.std.proofs.lemmas.Bool.Decides.{nat_tests}
 use Rattle.std.proofs.lemmas.Grind.{common_steps, elements}
-use Rattle.std.proofs.Common.{◌≡◌, ℕ, zero, suc, ◌+◌, ◌-◌, ◌<◌, ◌≤◌, List, [], ◌∷◌, ◌++◌, length, map, replicate, Option, Some, None, refl, ap, ◌∙◌, arith, get_or, set, Bool, true, false}
+use Rattle.std.proofs.Common.{◌≡◌, ℕ, ◌+◌, ◌-◌, ◌<◌, ◌≤◌, List, [], ◌∷◌, ◌++◌, length, map, replicate, Option, Some, None, refl, ◌∙◌, arith, get_or, set, Bool, true, false}
 use Rattle.std.specs.Prelude.{is_some, IsSome, slice_get}
 use Rattle.std.proofs.lemmas.List.{map-set, length-map, length-set, set-get_or, set_at}
 use Rattle.std.proofs.Math.Seq.{map-set_same}

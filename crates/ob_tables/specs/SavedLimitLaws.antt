@@ -1,16 +1,16 @@
 -- Limits are read as they were written, and nothing else is.
-use Rattle.std.proofs.Common.{◌≡◌, ℕ, ◌+◌, ◌<◌, ◌≤◌, ◌^◌, ◌&&◌, leb, Bool, true, false, Some, None, refl, sym, ap, ◌∙◌, subst, arith}
+use Rattle.std.proofs.Common.{◌≡◌, ℕ, ◌+◌, ◌<◌, ◌≤◌, ◌^◌, Bool, true, false, Some, None, refl, ap, arith}
 use Rattle.std.proofs.lemmas.Bool.Decides.{nat_tests}
 use Rattle.ob_tables.specs.Limits.{AreInRange, flagged}
 use Rattle.std.specs.Int.{w32, to_le_bytes}
 use Rattle.std.proofs.Math.Bridge.{le_prop}
-use Rattle.std.proofs.lemmas.Bool.{and_from, le-leb}
+use Rattle.std.proofs.lemmas.Bool.{le-leb}
 use Rattle.std.proofs.lemmas.Option.{same_Some}
 use Rattle.ob_codec.specs.Codecs.{both_codec, some_codec, u32_codec}
 use Rattle.ob_codec.specs.Laws.{IsCodec}
 use Rattle.ob_codec.specs.Spelling.{Any, BothFit, both}
 use Rattle.ob_tables.specs.declared.limits.Limits.{Limits}
-use Rattle.ob_tables.specs.SavedLimits.{InRange, LimitNumbers, are_in_range, in_range, is_up_to, limits_at, limits_of, limits_text, limits_where, limits_with, flag_in, number_in, numbers_at, numbers_of}
+use Rattle.ob_tables.specs.SavedLimits.{InRange, LimitNumbers, are_in_range, in_range, limits_at, limits_of, limits_text, limits_where, flag_in, number_in, numbers_at, numbers_of}
 
 range_in : (n : LimitNumbers) → InRange n → are_in_range n ≡ true
 range_in n r = grind (

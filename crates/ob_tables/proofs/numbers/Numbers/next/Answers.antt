@@ -16,9 +16,7 @@ pub returns-then-reuse-clause-above : goal.returns-then-reuse-clause-above
 returns-then-reuse-clause-above c = search (arith, returns-then-reuse-clause-value, next_is_free)
 
 pub returns-then-reuse-clause-within : goal.returns-then-reuse-clause-within
-returns-then-reuse-clause-within c = let m = c.args.self.now in
-    rw (returns-then-reuse-clause-value c) (next_is_free c.args.reuse m.places.items c.requires.from_one).within
+returns-then-reuse-clause-within c = rw (returns-then-reuse-clause-value c) (search (arith, next_is_free))
 
 pub returns-then-reuse-clause-gone : goal.returns-then-reuse-clause-gone
-returns-then-reuse-clause-gone c = let m = c.args.self.now in
-    rw (returns-then-reuse-clause-value c) (next_is_free c.args.reuse m.places.items c.requires.from_one).none
+returns-then-reuse-clause-gone c = rw (returns-then-reuse-clause-value c) (search (arith, next_is_free))

@@ -11,6 +11,4 @@ pub free_at-requires-clause-taken : goal.free_at-requires-clause-taken
 free_at-requires-clause-taken c = search (arith, stands_taken)
 
 pub loop-place-preserved : goal.loop-place-preserved
-loop-place-preserved c = read_next c.in_ok-places.places.items c.loop-place.taken c.free_at.new.taken
-    c.loop-place.place (omega arith) (omega arith) (let s = c.as_slice.ensures in let f = c.free_at.ensures in search arith)
-    c.loop-place.invariant
+loop-place-preserved c = read_next _ _ _ _ (omega arith) (omega arith) (search arith) c.loop-place.invariant

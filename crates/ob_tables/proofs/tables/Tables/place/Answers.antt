@@ -1,5 +1,5 @@
 use Rattle.ob_codec.proofs.AtPlace.{at_place}
-use Rattle.std.proofs.Common.{arith, ◌≡◌, ◌≤◌, ◌<◌, ap, subst, length, Err, inl, inr}
+use Rattle.std.proofs.Common.{arith, ◌≡◌, ◌<◌, ap, subst, length, Err, inl, inr}
 use Rattle.std.proofs.lemmas.List.{get_or_read}
 use Rattle.ob_tables.specs.Counts.{entries_in}
 use Rattle.ob_tables.specs.Tables.{table_of, HandleTables}
