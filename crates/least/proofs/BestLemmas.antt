@@ -1,4 +1,6 @@
 -- What the tree of least moments says of all places, and how it changes.
+use Rattle.std.proofs.lemmas.Grind.{elements}
+use Rattle.std.proofs.lemmas.Bool.Decides.{nat_tests}
 use Rattle.std.proofs.Common.{◌≡◌, ◌≢◌, ◌∙◌, sym, ap, refl, subst, ℕ, zero, suc, ◌+◌, ◌*◌, ◌-◌, ◌/◌, ◌<◌, ◌≤◌, List, ◌++◌, length, arith, set, Option, Some, None, inl, inr, false}
 use Rattle.std.specs.Prelude.{◌⊎◌, IfSome, IsSome}
 use Rattle.std.proofs.lemmas.Bool.{cases_eq, cases_lt}
@@ -13,19 +15,13 @@ abbrev IsOfSomePlace : List (Option ℕ) → Option ℕ → Type 0
 IsOfSomePlace dues x = IfSome x (λ moment. (place : ℕ) × (due_at dues place ≡ Some moment))
 
 sooner_first : (x y : Option ℕ) (m : ℕ) → NotAfter x m → NotAfter (sooner x y) m
-sooner_first None y m h = absurd h
-sooner_first (Some x) None m h = h
-sooner_first (Some x) (Some y) m h = omega arith
+sooner_first x y m h = grind (arith, nat_tests)
 
 sooner_second : (x y : Option ℕ) (m : ℕ) → NotAfter y m → NotAfter (sooner x y) m
-sooner_second None y m h = h
-sooner_second (Some x) None m h = absurd h
-sooner_second (Some x) (Some y) m h = omega arith
+sooner_second x y m h = grind (arith, nat_tests)
 
 sooner_either : (x y : Option ℕ) → (sooner x y ≡ x) ⊎ (sooner x y ≡ y)
-sooner_either None y = inr refl
-sooner_either (Some x) None = inl refl
-sooner_either (Some x) (Some y) = search arith
+sooner_either x y = search arith
 
 at_root : (dues best : List (Option ℕ)) (m fuel k : ℕ) → k ≤ fuel → IsBest dues best → NotAfter (due_at best k) m
     → NotAfter (due_at best 0) m
@@ -43,9 +39,8 @@ from_place dues best m (suc fuel) n le all is = elim (sooner_either (due_at dues
     (sooner (due_at best (2 * n + 1)) (due_at best (2 * n + 2)))) [
       | inl own ↦ (n, sym own ∙ sym (all n) ∙ is)
       | inr below ↦ elim (sooner_either (due_at best (2 * n + 1)) (due_at best (2 * n + 2))) [
-        | inl left ↦ from_place dues best m fuel (2 * n + 1) (omega arith) all (sym left ∙ sym below ∙ sym (all n) ∙ is)
-        | inr right ↦ from_place dues best m fuel (2 * n + 2) (omega arith) all (sym right ∙ sym below ∙ sym (all n)
-            ∙ is)
+        | inl left ↦ search (arith, from_place dues best m fuel (2 * n + 1))
+        | inr right ↦ search (arith, from_place dues best m fuel (2 * n + 2))
       ]
     ]
 
@@ -98,16 +93,7 @@ padded_best len dues best all k = search (arith, padded_at None len dues k, all 
 -- both are written up to a place
 pub whole_padded : (len : ℕ) (dues best : List (Option ℕ)) → len ≤ 4294967296 → IsWhole dues best
     → IsWhole (padded None len dues) (padded None len best)
-whole_padded len dues best few whole = record {
-  room = omega (arith, padded_length None len dues, padded_length None len best, whole.room);
-  at_most = omega (arith, padded_length None len best, whole.at_most);
-  each = λ k. rw (
-    padded_at None len dues k,
-    padded_at None len best k,
-    padded_at None len best (2 * k + 1),
-    padded_at None len best (2 * k + 2),
-  ) (whole.each k);
-}
+whole_padded len dues best few whole = search (arith, padded_length, padded_at)
 
 -- the least of two lists
 pub least_joined : (xs ys : List (Option ℕ)) (x y : Option ℕ) → IsLeast xs x → IsLeast ys y

@@ -1,4 +1,5 @@
 -- How many numbers are taken, and what a change of one does to that.
+use Rattle.std.proofs.lemmas.Bool.Decides.{nat_tests}
 use Rattle.std.proofs.Common.{◌≡◌, ◌≢◌, ℕ, zero, suc, ◌+◌, ◌-◌, ◌<◌, ◌≤◌, List, [], ◌∷◌, length, map, replicate, set, Bool, true, false, cond, Some, refl, ap, sym, ◌∙◌, arith}
 use Rattle.std.specs.Prelude.{count_by, fold, slice_get}
 use Rattle.std.proofs.lemmas.List.Sums.{sum_by-cons, sum_by_push, count_by-le-length}
@@ -56,22 +57,21 @@ few_in ws n = omega (arith, count_by-le-length (λ b. b) (taken_in ws n), length
 
 pub taken_within : (ws : List ℕ) (n k : ℕ) (is_one : Bool) (taken : List Bool) → taken_in ws n ≡ taken
     → slice_get taken k ≡ Some is_one → k < n
-taken_within ws n k is_one taken shown is =
-    omega (arith, slice_get_within taken k is_one is, ap length shown, length_taken_in ws n)
+taken_within ws n k is_one taken shown is = search (arith, slice_get_within, length_taken_in)
 
 pub some_in : (ws : List ℕ) (n k : ℕ) (taken : List Bool) → taken_in ws n ≡ taken → slice_get taken k ≡ Some true
     → 1 ≤ taken_count (taken_in ws n)
 some_in ws n k taken shown is = omega (arith, one_fewer (taken_in ws n) k (ap (λ t. slice_get t k) shown ∙ is))
 
 pub all_in : (ws : List ℕ) (n : ℕ) → ((k : ℕ) → bit ws k ≡ 0) → n ≡ taken_count (taken_in ws n)
-all_in ws n none = sym (ap taken_count (all_taken ws n none) ∙ all_counted n)
+all_in ws n none = search (arith, all_taken, all_counted)
 
 pub none_counted : (n : ℕ) → taken_count (replicate n false) ≡ 0
 none_counted zero = refl
 none_counted (suc n) = omega (arith, none_first (replicate n false), none_counted n)
 
 pub none_in : (ws : List ℕ) (n : ℕ) → ((k : ℕ) → k < n → bit ws k ≡ 1) → 0 ≡ taken_count (taken_in ws n)
-none_in ws n set_below = sym (ap taken_count (all_free ws n set_below) ∙ none_counted n)
+none_in ws n set_below = search (arith, all_free, none_counted)
 
 pub counted_cleared : (ws ws' : List ℕ) (n k count : ℕ) (taken : List Bool) → taken_in ws n ≡ taken
     → slice_get taken k ≡ Some false → bit ws' k ≡ 0 → ((j : ℕ) → j ≢ k → bit ws' j ≡ bit ws j)

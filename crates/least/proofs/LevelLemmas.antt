@@ -1,4 +1,5 @@
 -- What a change of one word does to the level above, where no bit is set, and which set of numbers the leaves show.
+use Rattle.std.proofs.lemmas.Bool.Decides.{nat_tests}
 use Rattle.std.proofs.lemmas.Grind.{elements}
 use Rattle.std.proofs.Common.{◌≡◌, ◌≢◌, ℕ, zero, suc, ◌+◌, ◌*◌, ◌/◌, ◌<◌, ◌≤◌, List, [], ◌∷◌, ◌++◌, replicate, length, min, slice_index, arith, sym, refl, ◌∙◌, ap, get_or, set, Bool, true, false}
 use Rattle.std.specs.Prelude.{not, ◌==◌, slice_get, Some}

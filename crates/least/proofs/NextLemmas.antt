@@ -1,4 +1,5 @@
 -- The next number that passes a test: in a word, in a level below another, and in a set with a spare.
+use Rattle.std.proofs.lemmas.Bool.Decides.{nat_tests}
 use Rattle.std.proofs.Common.{◌≡◌, ℕ, ◌+◌, ◌-◌, ◌*◌, ◌/◌, ◌^◌, ◌<◌, ◌≤◌, List, arith, Bool, true, false, Option, Some, None, ltb}
 use Rattle.std.specs.Prelude.{IfSome, ◌==◌, ◌&&◌}
 use Rattle.std.specs.Int.{bit_at, bit_not}
@@ -60,17 +61,10 @@ free_test ws n k none_past = search (arith, get_or-taken_in, get_or_past, length
 module _ (word k : ℕ) (r : Option ℕ) (fits : word < 2 ^ 64)
     (is : IsLeastFrom k (λ i. bit_at (bit_not w64 word) i == 1) r) where
   pub clear_found : IfSome r (λ i. i < 64) → IfSome r (λ i. bit_at word i ≡ 0)
-  clear_found within = by r within is.passes
-    where
-      by : (r : Option ℕ) → IfSome r (λ i. i < 64) → IfSome r (λ i. (bit_at (bit_not w64 word) i == 1) ≡ true)
-          → IfSome r (λ i. bit_at word i ≡ 0)
-      by None within passes = tt
-      by (Some i) within passes = let e = bit_at_not w64 word i fits within in
-          let f = eqb-true (bit_at (bit_not w64 word) i) 1 passes in omega arith
+  clear_found within = grind (arith, nat_tests, bit_at_not w64 word, fits)
 
   pub clear_least : (i : ℕ) → k ≤ i → i < 64 → bit_at word i ≡ 0 → IsAtMost r i
-  clear_least i above within clear = is.least i above (eq-eqb (bit_at (bit_not w64 word) i) 1 (let e =
-      bit_at_not w64 word i fits within in omega arith))
+  clear_least i above within clear = grind (arith, nat_tests, bit_at_not w64 word, fits, is.least i)
 
 -- the numbers that are taken are those below the length whose bit is clear
 pub taken_test : (ws : List ℕ) (n k : ℕ) → ltb k n && (bit ws k == 0) ≡ is_taken (taken_in ws n) k

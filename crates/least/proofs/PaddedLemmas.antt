@@ -1,4 +1,6 @@
 -- What stands in a list of which only the beginning is written.
+use Rattle.std.proofs.lemmas.Grind.{elements}
+use Rattle.std.proofs.lemmas.Bool.Decides.{nat_tests}
 use Rattle.std.proofs.Common.{◌≡◌, ◌∙◌, sym, ap, arith, inl, inr, ℕ, suc, ◌+◌, ◌-◌, ◌<◌, ◌≤◌, List, [], ◌∷◌, ◌++◌, length, get_or, set, replicate}
 use Rattle.std.proofs.lemmas.List.{append-nil, append_assoc, get_or-replicate, get_or_past, length-append, length-replicate, length-set, replicate-append-replicate, set-append_left, set-get_or}
 use Rattle.std.proofs.Math.ListN.{get_or-append}
@@ -16,12 +18,7 @@ module _ {A : Type 0} (none : A) (len : ℕ) (xs : List A) where
 
   -- a part of it is written
   pub padded_twice : (m : ℕ) → m ≤ len → padded none len (padded none m xs) ≡ padded none len xs
-  padded_twice m le = append_assoc xs (replicate (m - length xs) none) _
-      ∙ ap (λ ys. xs ++ ys) (replicate-append-replicate (m - length xs) _ none ∙ ap (λ k. replicate k none) rest)
-    where
-      rest : (m - length xs) + (len - length (padded none m xs)) ≡ len - length xs
-      rest = (let long : length (padded none m xs) ≡ length xs + (m - length xs)
-          = search (arith, length-append, length-replicate) in omega (arith, long, le))
+  padded_twice m le = search (arith, append_assoc, replicate-append-replicate, length-append, length-replicate)
 
   -- so is one place more
   pub padded_push : length xs < len → padded none len (xs ++ none ∷ []) ≡ padded none len xs
@@ -47,8 +44,7 @@ module _ {A : Type 0} (none : A) (len : ℕ) (xs : List A) where
 
   -- a place that is written changes
   pub padded_set : (k : ℕ) (x : A) → k < length xs → padded none len (set xs k x) ≡ set (padded none len xs) k x
-  padded_set k x lt = ap (λ n. set xs k x ++ replicate (len - n) none) (length-set xs k x)
-      ∙ sym (set-append_left xs (replicate (len - length xs) none) k x lt)
+  padded_set k x lt = search (arith, length-set, set-append_left)
 
   -- nothing comes to a place that isn't written
   pub padded_past : (k : ℕ) → length xs ≤ k → set (padded none len xs) k none ≡ padded none len xs

@@ -1,4 +1,5 @@
 -- What the spare does to the set that the levels show.
+use Rattle.std.proofs.lemmas.Bool.Decides.{nat_tests}
 use Rattle.std.proofs.lemmas.Grind.{elements}
 use Rattle.std.proofs.Common.{◌≡◌, ◌≢◌, ap, refl, ℕ, zero, suc, ◌<◌, List, [], ◌∷◌, ◌++◌, length, min, Bool, true, false, eqb, Option, Some, set, arith}
 use Rattle.std.specs.Prelude.{slice_get}
@@ -11,21 +12,13 @@ use Rattle.least.specs.Spare.{with_spare, IsSpare}
 -- one more free number
 least_set : (taken : List Bool) (n : ℕ) → n < length taken → least_free (set taken n false) ≡ min n (least_free taken)
 least_set [] n lt = absurd (omega arith)
-least_set (x ∷ taken) zero lt = search (arith)
-least_set (true ∷ taken) (suc n) lt = search (arith, least_set taken n (omega arith))
-least_set (false ∷ taken) (suc n) lt = search (arith)
+least_set (x ∷ taken) n lt = grind (arith, nat_tests, least_set taken)
 
 pub get-set_other : (taken : List Bool) (n k : ℕ) (b : Bool) → n ≢ k → slice_get (set taken n b) k ≡ slice_get taken k
-get-set_other [] n k b ne = refl
-get-set_other (x ∷ taken) zero zero b ne = absurd (ne refl)
-get-set_other (x ∷ taken) zero (suc k) b ne = refl
-get-set_other (x ∷ taken) (suc n) zero b ne = refl
-get-set_other (x ∷ taken) (suc n) (suc k) b ne = get-set_other taken n k b (λ e. ne (ap suc e))
+get-set_other taken n k b ne = grind (arith, nat_tests, elements)
 
 pub get-set_same : (taken : List Bool) (n : ℕ) (b : Bool) → n < length taken → slice_get (set taken n b) n ≡ Some b
-get-set_same [] n b lt = absurd (omega arith)
-get-set_same (x ∷ taken) zero b lt = refl
-get-set_same (x ∷ taken) (suc n) b lt = get-set_same taken n b (omega arith)
+get-set_same taken n b lt = grind (arith, nat_tests, elements)
 
 -- the least free number is the spare or that of the levels
 pub least-with_spare : (taken : List Bool) (spare : Option ℕ) (s : ℕ) → IsSpare taken spare → spare ≡ Some s

@@ -1,3 +1,4 @@
+use Rattle.std.proofs.lemmas.Bool.Decides.{nat_tests}
 use Rattle.std.proofs.Common.{rules, arith, ◌≡◌, ◌∙◌, ap, ◌-◌, ◌+◌, ◌<◌, ◌≤◌, ℕ, Bool, ⊎_elim}
 use Rattle.std.specs.Prelude.{◌==◌}
 use Rattle.std.specs.Int.{bit_at}
@@ -7,9 +8,7 @@ use Rattle.least.proofs.NextLemmas.{bit_at_from, bit_at_shifted, first_found, no
 use Rattle.least.proofs.words.lowest_from.Goals as goal
 
 pub returns-then-k-ge64-clause-least : goal.returns-then-k-ge64-clause-least
-returns-then-k-ge64-clause-least c = none_found (λ i. bit_at c.args.word i == 1) c.args.k
-    (λ i le. let past : 64 ≤ i = omega arith in
-    ap {B = Bool} (λ (x : ℕ). x == 1) (bit_at_above c.args.word 64 i (search rules) past))
+returns-then-k-ge64-clause-least c = grind (arith, nat_tests, none_found, bit_at_above c.args.word 64)
 
 pub returns-then-rest-eq0-clause-least : goal.returns-then-rest-eq0-clause-least
 returns-then-rest-eq0-clause-least c = none_found (λ i. bit_at c.args.word i == 1) c.args.k
@@ -27,10 +26,4 @@ returns-clause-least c =
     ∙ c.lowest.ensures.least (i - k) (omega arith)))
 
 pub returns-clause-within : goal.returns-clause-within
-returns-clause-within c =
-    let k = c.args.k in
-    let r = c.lowest.result in
-    let here : bit_at c.args.word (k + r) ≡ 1 = let e = bit_at_shifted c.args.word k r in
-    let f = c.lowest.ensures.set in omega arith in
-    ⊎_elim (λ (lt : k + r < 64). lt) (λ (le : 64 ≤ k + r). let e = bit_at_above c.args.word 64 (k + r) (search rules) le
-    in absurd (omega arith)) (cases_lt (k + r) 64)
+returns-clause-within c = grind (arith, nat_tests, bit_at_shifted, bit_at_above c.args.word 64)

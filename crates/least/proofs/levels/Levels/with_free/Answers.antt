@@ -1,3 +1,4 @@
+use Rattle.std.proofs.Common.{arith}
 use Rattle.std.proofs.Common.{rules}
 use Rattle.std.specs.Int.{bit_at}
 use Rattle.least.specs.Bits.{bit}
