@@ -1,5 +1,4 @@
 -- What the tree of least moments says of all places, and how it changes.
-use Rattle.std.proofs.lemmas.Grind.{elements}
 use Rattle.std.proofs.lemmas.Bool.Decides.{nat_tests}
 use Rattle.std.proofs.Common.{◌≡◌, ◌≢◌, ◌∙◌, sym, ap, refl, subst, ℕ, zero, suc, ◌+◌, ◌*◌, ◌-◌, ◌/◌, ◌<◌, ◌≤◌, List, ◌++◌, length, arith, set, Option, Some, None, inl, inr, false}
 use Rattle.std.specs.Prelude.{◌⊎◌, IfSome, IsSome}

@@ -1,6 +1,5 @@
 -- How many numbers are taken, and what a change of one does to that.
-use Rattle.std.proofs.lemmas.Bool.Decides.{nat_tests}
-use Rattle.std.proofs.Common.{◌≡◌, ◌≢◌, ℕ, zero, suc, ◌+◌, ◌-◌, ◌<◌, ◌≤◌, List, [], ◌∷◌, length, map, replicate, set, Bool, true, false, cond, Some, refl, ap, sym, ◌∙◌, arith}
+use Rattle.std.proofs.Common.{◌≡◌, ◌≢◌, ℕ, zero, suc, ◌+◌, ◌-◌, ◌<◌, ◌≤◌, List, [], ◌∷◌, map, replicate, set, Bool, true, false, cond, Some, refl, ap, ◌∙◌, arith}
 use Rattle.std.specs.Prelude.{count_by, fold, slice_get}
 use Rattle.std.proofs.lemmas.List.Sums.{sum_by-cons, sum_by_push, count_by-le-length}
 use Rattle.std.proofs.lemmas.Option.{slice_get_within}
@@ -89,24 +88,9 @@ pub counted_freed : (ws ws' : List ℕ) (n k count : ℕ) (taken : List Bool) �
     → slice_get taken k ≡ Some true → bit ws' k ≡ 1 → ((j : ℕ) → j ≢ k → bit ws' j ≡ bit ws j)
     → count ≡ taken_count (taken_in ws n) → count - 1 ≡ taken_count (taken_in ws' n)
 counted_freed ws ws' n k count taken shown is here others counted =
-    let at : slice_get (taken_in ws n) k ≡ Some true = ap (λ t. slice_get t k) shown ∙ is in
-    let lt : k < n = taken_within ws n k true taken shown is in
-    omega (
-      arith,
-      counted,
-      ap taken_count (taken_freed ws ws' n k lt here others),
-      one_fewer (taken_in ws n) k at,
-    )
+    let lt = taken_within ws n k true taken shown is in
+    search (arith, taken_freed, one_fewer (taken_in ws n) k)
 
 pub counted_more : (ws ws' : List ℕ) (n count : ℕ) → ((k : ℕ) → bit ws' k ≡ bit ws k) → bit ws n ≡ 0
     → count ≡ taken_count (taken_in ws n) → count + 1 ≡ taken_count (taken_in ws' (n + 1))
-counted_more ws ws' n count same none counted =
-    let more = taken_more ws' n (same n ∙ none) in
-    let before = taken_same ws ws' n (λ k lt. same k) in
-    omega (
-      arith,
-      counted,
-      ap taken_count more,
-      sum_by_push (λ b. cond b 1 0) (taken_in ws' n) true,
-      ap taken_count before,
-    )
+counted_more ws ws' n count same none counted = search (arith, taken_more, taken_same ws ws', sum_by_push)

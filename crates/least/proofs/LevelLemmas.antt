@@ -1,7 +1,6 @@
 -- What a change of one word does to the level above, where no bit is set, and which set of numbers the leaves show.
-use Rattle.std.proofs.lemmas.Bool.Decides.{nat_tests}
 use Rattle.std.proofs.lemmas.Grind.{elements}
-use Rattle.std.proofs.Common.{◌≡◌, ◌≢◌, ℕ, zero, suc, ◌+◌, ◌*◌, ◌/◌, ◌<◌, ◌≤◌, List, [], ◌∷◌, ◌++◌, replicate, length, min, slice_index, arith, sym, refl, ◌∙◌, ap, get_or, set, Bool, true, false}
+use Rattle.std.proofs.Common.{◌≡◌, ◌≢◌, ℕ, zero, suc, ◌+◌, ◌*◌, ◌/◌, ◌<◌, ◌≤◌, List, [], ◌∷◌, ◌++◌, replicate, length, min, slice_index, arith, sym, refl, ◌∙◌, get_or, set, Bool, true, false}
 use Rattle.std.specs.Prelude.{not, ◌==◌, slice_get, Some}
 use Rattle.std.proofs.lemmas.List.{get_or_past, length-set, length-replicate, get_or-replicate, ext_get_or, get_or-set_same, get_or-set_other}
 use Rattle.std.proofs.lemmas.List.FromFn.{get_or-map-range_with_len, length-map-range_with_len, map-range_with_len_more}
@@ -69,8 +68,7 @@ taken_freed ws ws' n k lt here others = search (arith, taken_set)
 
 -- the next number is taken where its bit is clear
 pub taken_more : (ws : List ℕ) (n : ℕ) → bit ws n ≡ 0 → taken_in ws (n + 1) ≡ taken_in ws n ++ true ∷ []
-taken_more ws n none = map-range_with_len_more (λ k. bit ws k == 0) 0 n n (omega arith)
-    ∙ ap (λ b. taken_in ws n ++ b ∷ []) (ap {B = Bool} (λ (x : ℕ). x == 0) none)
+taken_more ws n none = rw (map-range_with_len_more (λ k. bit ws k == 0) 0 n n (omega arith), none) refl
 
 -- a free number has a bit
 pub free_bit : (ws : List ℕ) (n k : ℕ) (taken : List Bool) → taken_in ws n ≡ taken → slice_get taken k ≡ Some false

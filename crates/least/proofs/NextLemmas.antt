@@ -7,7 +7,6 @@ use mir.Syntax.{w64}
 use Rattle.std.proofs.Math.Nat.{div-div-eq-div-mul}
 use Rattle.std.proofs.lemmas.Nat.{pow-add}
 use Rattle.std.proofs.lemmas.Nat.Bits.{bit_at_not}
-use Rattle.std.proofs.lemmas.Bool.{eq-eqb, eqb-true}
 use Rattle.std.proofs.lemmas.List.{get_or_past}
 use Rattle.least.specs.Bits.{bit}
 use Rattle.least.specs.From.{IsAtMost, IsLeastFrom}

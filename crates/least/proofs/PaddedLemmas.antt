@@ -1,7 +1,5 @@
 -- What stands in a list of which only the beginning is written.
-use Rattle.std.proofs.lemmas.Grind.{elements}
-use Rattle.std.proofs.lemmas.Bool.Decides.{nat_tests}
-use Rattle.std.proofs.Common.{◌≡◌, ◌∙◌, sym, ap, arith, inl, inr, ℕ, suc, ◌+◌, ◌-◌, ◌<◌, ◌≤◌, List, [], ◌∷◌, ◌++◌, length, get_or, set, replicate}
+use Rattle.std.proofs.Common.{◌≡◌, arith, inl, inr, ℕ, suc, ◌+◌, ◌-◌, ◌<◌, ◌≤◌, List, [], ◌∷◌, ◌++◌, length, get_or, set, replicate}
 use Rattle.std.proofs.lemmas.List.{append-nil, append_assoc, get_or-replicate, get_or_past, length-append, length-replicate, length-set, replicate-append-replicate, set-append_left, set-get_or}
 use Rattle.std.proofs.Math.ListN.{get_or-append}
 use Rattle.std.proofs.Math.Seq.{get_or-append_right}
@@ -22,18 +20,15 @@ module _ {A : Type 0} (none : A) (len : ℕ) (xs : List A) where
 
   -- so is one place more
   pub padded_push : length xs < len → padded none len (xs ++ none ∷ []) ≡ padded none len xs
-  padded_push lt = append_assoc xs (none ∷ []) (replicate (len - length (xs ++ none ∷ [])) none)
-      ∙ ap (λ ys. xs ++ ys) (ap (λ k. replicate k none) rest)
-    where
-      rest : suc (len - length (xs ++ none ∷ [])) ≡ len - length xs
-      rest = (let long = length-append xs (none ∷ []) in omega (arith, long, lt))
+  padded_push lt =
+      let rest : suc (len - length (xs ++ none ∷ [])) ≡ len - length xs = search (arith, length-append) in
+      search (arith, append_assoc, rest)
 
   -- what stands at a place
   pub padded_at : (k : ℕ) → get_or (padded none len xs) k none ≡ get_or xs k none
   padded_at k = elim (cases_lt k (length xs)) [
     | inl lt ↦ get_or-append xs (replicate (len - length xs) none) none k lt
-    | inr le ↦ get_or-append_right xs (replicate (len - length xs) none) k none le
-        ∙ by (len - length xs) (k - length xs) ∙ sym (get_or_past xs k none le)
+    | inr le ↦ search (arith, get_or-append_right, get_or_past, by (len - length xs) (k - length xs))
   ]
     where
       by : (n i : ℕ) → get_or (replicate n none) i none ≡ none
@@ -48,7 +43,6 @@ module _ {A : Type 0} (none : A) (len : ℕ) (xs : List A) where
 
   -- nothing comes to a place that isn't written
   pub padded_past : (k : ℕ) → length xs ≤ k → set (padded none len xs) k none ≡ padded none len xs
-  padded_past k le = ap (λ x. set (padded none len xs) k x) (sym (padded_at k ∙ get_or_past xs k none le))
-      ∙ set-get_or (padded none len xs) k none
+  padded_past k le = search (arith, padded_at k, get_or_past, set-get_or (padded none len xs) k none)
 
 pub ruleset padded_laws = (padded_long, padded_length, padded_push)

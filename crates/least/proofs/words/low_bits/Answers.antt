@@ -1,4 +1,4 @@
-use Rattle.std.proofs.Common.{arith, ◌+◌, ◌-◌}
+use Rattle.std.proofs.Common.{arith}
 use Rattle.least.proofs.LevelLemmas.{full_word, full_word_past}
 use Rattle.least.proofs.NextLemmas.{bit_at_shifted}
 use Rattle.least.proofs.words.low_bits.Goals as goal

@@ -1,8 +1,8 @@
 use Rattle.std.proofs.lemmas.Bool.Decides.{nat_tests}
-use Rattle.std.proofs.Common.{rules, arith, ◌≡◌, ◌∙◌, ap, ◌-◌, ◌+◌, ◌<◌, ◌≤◌, ℕ, Bool, ⊎_elim}
+use Rattle.std.proofs.Common.{arith, ◌∙◌, ap, ◌-◌, ◌+◌, ℕ, Bool}
 use Rattle.std.specs.Prelude.{◌==◌}
 use Rattle.std.specs.Int.{bit_at}
-use Rattle.std.proofs.lemmas.Bool.{cases_lt, eq-eqb}
+use Rattle.std.proofs.lemmas.Bool.{eq-eqb}
 use Rattle.std.proofs.lemmas.Nat.Bits.{bit_at_above, bit_at-zero}
 use Rattle.least.proofs.NextLemmas.{bit_at_from, bit_at_shifted, first_found, none_found}
 use Rattle.least.proofs.words.lowest_from.Goals as goal

@@ -10,8 +10,8 @@ returns-in_err-due-clause-none c =
 
 pub returns-then-due-now-clause-none : goal.returns-then-due-now-clause-none
 returns-then-due-now-clause-none c =
-    rw (← c.self.view_is) (none_by c.args.now _ _
-    (least_at_root _ _ (padded_best c.self.inside.len _ _ c.self.invariant.0.each)) (search arith))
+    let all = least_at_root _ _ (padded_best c.self.inside.len _ _ c.self.invariant.0.each) in
+    rw (← c.self.view_is) (search (arith, none_by))
 
 pub returns-clause-least : goal.returns-clause-least
 returns-clause-least c = rw (

@@ -1,5 +1,4 @@
-use Rattle.std.proofs.Common.{rules, arith, refl, false, true, ◌<◌, ◌∙◌, ◌/◌, ap, set, List}
-use Rattle.std.specs.Prelude.{Bool}
+use Rattle.std.proofs.Common.{rules, arith, refl, true, ◌<◌, ◌∙◌, ◌/◌}
 use Rattle.least.specs.Bits.{bit}
 use Rattle.least.proofs.CountLemmas.{counted_freed, taken_within}
 use Rattle.least.proofs.LevelLemmas.{sums_changed, taken_freed}
@@ -50,6 +49,5 @@ invariant_of-self-2 c =
 pub returns : goal.returns
 returns c =
     let i = c.self.inside in
-    let n = c.args.n in
-    taken_freed _ _ i.len n (taken_within _ i.len n true _ c.self.view_is c.requires) c.set.ensures.bit_is
-    c.set.ensures.others ∙ ap (λ (taken : List Bool). set taken n false) c.self.view_is
+    let lt = taken_within _ i.len c.args.n true _ c.self.view_is c.requires in
+    rw (← c.self.view_is) (search (arith, taken_freed))

@@ -1,4 +1,3 @@
-use Rattle.std.proofs.Common.{arith}
 use Rattle.std.proofs.Common.{rules}
 use Rattle.std.specs.Int.{bit_at}
 use Rattle.least.specs.Bits.{bit}
