@@ -89,15 +89,8 @@ flag_again false rest fits = refl
 flag_takes : TakesSpelled flag flag_at Any
 unfolding flag_at
 flag_takes [] x rest fits e = absurd cc
-flag_takes (zero ∷ bytes) x rest fits e =
-    subst (λ (y : Bool × List ℕ). Takes (0 ∷ bytes) (flag y.0) y.1
-    × Unit {0}) (ok_is (false, bytes) (x, rest) e) (
-      record { parts = refl; rest_fits = bytes-rest 0 bytes fits },
-      tt,
-    )
-flag_takes (suc zero ∷ bytes) x rest fits e =
-    subst (λ (y : Bool × List ℕ). Takes (1 ∷ bytes) (flag y.0) y.1
-    × Unit {0}) (ok_is (true, bytes) (x, rest) e) (record { parts = refl; rest_fits = bytes-rest 1 bytes fits }, tt)
+flag_takes (zero ∷ bytes) x rest fits e = search (arith, ok_is, bytes-rest 0 bytes fits)
+flag_takes (suc zero ∷ bytes) x rest fits e = search (arith, ok_is, bytes-rest 1 bytes fits)
 flag_takes (suc (suc b) ∷ bytes) x rest fits e = absurd cc
 
 pub flag_codec : IsCodec flag flag_at Any
@@ -108,16 +101,7 @@ flag_codec = record { again = flag_again; takes = flag_takes }
 string_again : ReadsAgain string string_at StringFits
 unfolding string_at
 string_again text rest fits =
-    let regrouped : string text ++ rest ≡ to_le_bytes w32 (length text) ++ (text ++ rest) =
-    append_assoc (to_le_bytes w32 (length text)) text rest in
-    let long : ltb (length (text ++ rest)) (length text) ≡ false = le-ltb _ _ (omega (arith, length-append text rest))
-    in
-    ap string_at regrouped ∙ rw (
-      u32_codec.again (length text) (text ++ rest) fits,
-      long,
-      take_at text rest (length text) refl,
-      drop_at text rest (length text) refl,
-    ) refl
+    search (arith, append_assoc, le-ltb, length-append, take_at text rest (length text) refl, drop_at text rest (length text) refl, u32_codec.again)
 
 string_takes : TakesSpelled string string_at StringFits
 unfolding string_at
@@ -156,21 +140,11 @@ module _ {A : Type 0} {spell : A → List ℕ} {read : List ℕ → Read A} {Fit
   option_takes : TakesSpelled (option spell) (option_at read) (OptionFits Fits)
   unfolding option_at
   option_takes [] x rest fits e = absurd cc
-  option_takes (zero ∷ bytes) x rest fits e =
-      subst (λ (y : Option A × List ℕ). Takes (0 ∷ bytes) (option spell y.0) y.1
-      × OptionFits Fits y.0) (ok_is (None, bytes) (x, rest) e) (
-        record {
-          parts = refl;
-          rest_fits = bytes-rest 0 bytes fits;
-        },
-        tt,
-      )
+  option_takes (zero ∷ bytes) x rest fits e = search (arith, ok_is, bytes-rest 0 bytes fits)
   option_takes (suc zero ∷ bytes) x rest fits e =
       let b = bind_ok (read bytes) (λ (y : A × List ℕ). Ok (Some y.0, y.1)) (x, rest) e in
       let t = is.takes bytes b.0.0 b.0.1 (bytes-rest 1 bytes fits) b.1 in
-      subst (λ (y : Option A × List ℕ). Takes (1 ∷ bytes) (option spell y.0) y.1
-      × OptionFits Fits y.0) (ok_is (Some b.0.0, b.0.1) (x, rest) b.2)
-      (record { parts = ap (λ (w : List ℕ). 1 ∷ w) t.0.parts; rest_fits = t.0.rest_fits }, t.1)
+      search (arith, ok_is)
   option_takes (suc (suc b) ∷ bytes) x rest fits e = absurd cc
 
   pub option_codec : IsCodec (option spell) (option_at read) (OptionFits Fits)
@@ -180,50 +154,25 @@ module _ {A : Type 0} {spell : A → List ℕ} {read : List ℕ → Read A} {Fit
       → items_at read (length xs) (flat_map spell xs ++ rest) ≡ Ok (xs, rest)
   unfolding items_at
   items_again [] rest fits = refl
-  items_again (x ∷ xs) rest fits =
-      let regrouped : flat_map spell (x ∷ xs) ++ rest ≡ spell x ++ (flat_map spell xs ++ rest) =
-      ap (λ (t : List ℕ). t ++ rest) (flat_map-cons spell x xs) ∙ append_assoc (spell x) (flat_map spell xs) rest in
-      ap (items_at read (suc (length xs))) regrouped
-      ∙ rw (is.again x (flat_map spell xs ++ rest) fits.0, items_again xs rest fits.1) refl
+  items_again (x ∷ xs) rest fits = search (arith, flat_map-cons, append_assoc, is.again, items_again xs)
 
   pub items_take : (n : ℕ) (bytes : List ℕ) (xs : List A) (rest : List ℕ) → AreBytes bytes
       → items_at read n bytes ≡ Ok (xs, rest)
       → Takes bytes (flat_map spell xs) rest × (length xs ≡ n) × AllByRecursion Fits xs
   unfolding items_at
-  items_take zero bytes xs rest fits e =
-      subst (λ (y : List A × List ℕ). Takes bytes (flat_map spell y.0) y.1 × (length y.0 ≡ 0)
-      × AllByRecursion Fits y.0) (ok_is ([], bytes) (xs, rest) e) (
-        record { parts = refl; rest_fits = fits },
-        refl,
-        tt,
-      )
+  items_take zero bytes xs rest fits e = search (arith, ok_is)
   items_take (suc n) bytes xs rest fits e =
       let a = bind_ok (read bytes) (λ (first : A × List ℕ). items_at read n first.1 >>= λ (others : List A
       × List ℕ). Ok (first.0 ∷ others.0, others.1)) (xs, rest) e in
-      let b = bind_ok (items_at read n a.0.1) (λ (others : List A × List ℕ). Ok (a.0.0 ∷ others.0, others.1)) (
-        xs,
-        rest,
-      ) a.2 in
+      let b = bind_ok (items_at read n a.0.1) (λ (others : List A × List ℕ). Ok (a.0.0 ∷ others.0, others.1)) (xs, rest) a.2 in
       let first = is.takes bytes a.0.0 a.0.1 fits a.1 in
       let second = items_take n a.0.1 b.0.0 b.0.1 first.0.rest_fits b.1 in
       let joined = takes-then bytes (spell a.0.0) a.0.1 (flat_map spell b.0.0) b.0.1 first.0 second.0 in
-      let made : List A × List ℕ = (a.0.0 ∷ b.0.0, b.0.1) in
-      subst (λ (y : List A × List ℕ). Takes bytes (flat_map spell y.0) y.1 × (length y.0 ≡ suc n)
-      × AllByRecursion Fits y.0) (ok_is made (xs, rest) b.2) (
-        rw flat_map-cons joined,
-        ap suc second.1,
-        (first.1, second.2),
-      )
+      search (arith, ok_is, flat_map-cons, joined)
 
   list_again : (most : ℕ) → ReadsAgain (list spell) (list_at most read) (FewFit most Fits)
   unfolding list_at
-  list_again most xs rest fits =
-      let regrouped : list spell xs ++ rest ≡ to_le_bytes w32 (length xs) ++ (flat_map spell xs ++ rest) =
-      append_assoc (to_le_bytes w32 (length xs)) (flat_map spell xs) rest in
-      ap (list_at most read) regrouped ∙ rw (
-        u32_codec.again (length xs) (flat_map spell xs ++ rest) fits.0.0,
-        fits.1,
-      ) (items_again xs rest fits.0.1)
+  list_again most xs rest fits = search (arith, append_assoc, u32_codec.again, items_again)
 
   list_takes : (most : ℕ) → TakesSpelled (list spell) (list_at most read) (FewFit most Fits)
   unfolding list_at
@@ -260,7 +209,7 @@ module _ {A : Type 0} {spell : A → List ℕ} {read : List ℕ → Read A} {Fit
 
   -- a value that is a whole text
   pub whole_again : (x : A) → Fits x → whole_at read (spell x) ≡ Ok x
-  whole_again x fits = ap (whole_at read) (sym (append-nil (spell x))) ∙ rw (is.again x [] fits) refl
+  whole_again x fits = search (arith, append-nil, is.again x [])
 
   pub whole_takes : (bytes : List ℕ) (x : A) → AreBytes bytes → whole_at read bytes ≡ Ok x → (bytes ≡ spell x) × Fits x
   whole_takes bytes x fits e =
@@ -270,9 +219,7 @@ module _ {A : Type 0} {spell : A → List ℕ} {read : List ℕ → Read A} {Fit
 
 given-ok : {B : Type 0} (o : Option B) (rest : List ℕ) (x : B × List ℕ) → given_at o rest ≡ Ok x
     → (o ≡ Some x.0) × (rest ≡ x.1)
-given-ok None rest x e = absurd cc
-given-ok {B = B} (Some b) rest x e = let is : (b, rest) ≡ x = ok_is (b, rest) x e in
-    (ap (λ (z : B × List ℕ). Some z.0) is, ap (λ (z : B × List ℕ). z.1) is)
+given-ok o rest x e = search (arith, ok_is)
 
 module _ {A B : Type 0} {spell : A → List ℕ} {read : List ℕ → Read A} {Fits : A → Type 0} where
   -- some values stand for one of another type

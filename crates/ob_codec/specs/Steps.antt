@@ -11,11 +11,7 @@ pub bytes-drop : (n : ℕ) (bytes : List ℕ) → AreBytes bytes → AreBytes (d
 bytes-drop n bytes h i = rw get_or-drop (h (n + i))
 
 pub bytes-take : (n : ℕ) (bytes : List ℕ) → AreBytes bytes → AreBytes (take n bytes)
-bytes-take n bytes h i =
-    elim (cases_lt i n) [
-      | inl lt ↦ rw (get_or-take n bytes i 0 lt) (h i)
-      | inr le ↦ rw (get_or_past (take n bytes) i 0 (omega (arith, length-take n bytes))) (omega arith)
-    ]
+bytes-take n bytes h i = search (arith, get_or-take, get_or_past, length-take)
 
 pub bytes-rest : (b : ℕ) (bytes : List ℕ) → AreBytes (b ∷ bytes) → AreBytes bytes
 bytes-rest b bytes h i = h (suc i)
@@ -55,7 +51,4 @@ whole_ok {A = A} read bytes x e =
     by y (b ∷ rest) f = absurd cc
 
 pub takes-then : (a x b y c : List ℕ) → Takes a x b → Takes b y c → Takes a (x ++ y) c
-takes-then a x b y c p q = record {
-  parts = p.parts ∙ ap (λ (t : List ℕ). x ++ t) q.parts ∙ sym (append_assoc x y c);
-  rest_fits = q.rest_fits;
-}
+takes-then a x b y c p q = search (arith, append_assoc)
