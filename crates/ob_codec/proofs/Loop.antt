@@ -33,15 +33,10 @@ unfolding items_at
 ends at Memory front count i bytes total lt h so_far = tt
 ends at (Text f) front count i bytes total lt h so_far =
     let k : count - i ≡ suc (count - (i + 1)) = omega arith in
-    let one : with_front front (items_at at (count - i) bytes) ≡ Err f = rw (k, h) refl in
-    sym so_far ∙ one
+    search arith
 
 pub is_done : {A : Type 0} (at : List ℕ → Read A) (front : List A) (count i : ℕ) (bytes : List ℕ)
     (total : Read (List A)) → count ≤ i → with_front front (items_at at (count - i) bytes) ≡ total
     → total ≡ Ok (front, bytes)
 unfolding items_at
-is_done {A = A} at front count i bytes total le so_far =
-    let k : count - i ≡ 0 = omega arith in
-    let one : with_front front (items_at at (count - i) bytes) ≡ Ok (front, bytes) =
-    rw k (ap (λ (xs : List A). Ok (xs, bytes)) (append-nil front)) in
-    sym so_far ∙ one
+is_done {A = A} at front count i bytes total le so_far = let k : count - i ≡ 0 = omega arith in search (arith, append-nil)

@@ -1,5 +1,5 @@
 -- What is sealed is unsealed again, and what is unsealed was sealed; so a sealed value loads.
-use Rattle.std.proofs.Common.{◌≡◌, ℕ, ◌-◌, ◌+◌, Bool, true, false, cond, ltb, List, ◌++◌, length, take, drop, Ok, Err, ap, sym, ◌∙◌, refl, subst, arith}
+use Rattle.std.proofs.Common.{◌≡◌, ℕ, ◌-◌, ◌+◌, Bool, true, false, cond, ltb, List, length, take, drop, Ok, Err, ap, ◌∙◌, refl, arith}
 use Rattle.std.specs.Str.{bytes_eq}
 use Rattle.std.proofs.lemmas.Bool.{le-ltb}
 use Rattle.std.proofs.lemmas.List.{take_at, drop_at, take-append-drop, length-append}
@@ -39,14 +39,11 @@ unsealed_takes bytes text e = by (ltb (length bytes) 32) e
     by true f = absurd cc
     by false f =
         let g = guard_passed (bytes_eq (sha256 front) back) Digest front text f in
-        sym (take-append-drop (length bytes - 32) bytes)
-        ∙ (ap (λ (d : List ℕ). front ++ d) (sym ((bytes_eq-Decides (sha256 front) back).0 g.0)) ∙ ap sealed g.1)
+        search (arith, take-append-drop, bytes_eq-Decides)
 
 -- what stands before a text's digest is bytes
 pub front-fits : (bytes text : List ℕ) → AreBytes bytes → bytes ≡ sealed text → AreBytes text
-front-fits bytes text fits is =
-    subst AreBytes (ap (take (length text)) is ∙ take_at text (sha256 text) (length text) refl)
-    (bytes-take (length text) bytes fits)
+front-fits bytes text fits is = search (arith, take_at, bytes-take (length text) bytes fits)
 
 module _ {A : Type 0} {spell : A → List ℕ} {read : List ℕ → Read A} {Fits : A
     → Type 0} (is : IsCodec spell read Fits) where

@@ -1,5 +1,5 @@
 -- Each spelling with its reading is a codec.
-use Rattle.std.proofs.Common.{◌≡◌, ℕ, zero, suc, ◌^◌, ◌<◌, ◌≤◌, Bool, true, false, cond, leb, ltb, List, [], ◌∷◌, ◌++◌, length, take, drop, Option, Some, None, Ok, Err, refl, sym, ap, subst, ◌∙◌, append_assoc, arith}
+use Rattle.std.proofs.Common.{◌≡◌, ℕ, zero, suc, ◌^◌, ◌<◌, ◌≤◌, Bool, true, false, cond, leb, ltb, List, [], ◌∷◌, ◌++◌, length, take, drop, Option, Some, None, Ok, Err, refl, ap, ◌∙◌, append_assoc, arith}
 use Rattle.std.specs.List.{flat_map, AllByRecursion}
 use Rattle.std.specs.Int.{Width, w32, w64, byte_len, from_le_bytes, to_le_bytes}
 use Rattle.std.proofs.lemmas.Bool.{ltb-false, le-ltb}
@@ -44,19 +44,10 @@ module _ (w : Width) (limit : ℕ) (wide : IsWide w limit) where
         from_le_bytes w (take (byte_len w) bytes),
         drop (byte_len w) bytes,
       ) (n, rest) e in
-      let long : byte_len w ≤ length bytes = ltb-false _ _ g.0 in
+      let long = ltb-false _ _ g.0 in
       let front-fits = bytes-take (byte_len w) bytes fits in
-      let n-is : from_le_bytes w (take (byte_len w) bytes) ≡ n = ap (λ (p : ℕ × List ℕ). p.0) g.1 in
-      let rest-is : drop (byte_len w) bytes ≡ rest = ap (λ (p : ℕ × List ℕ). p.1) g.1 in
-      let front : to_le_bytes w n ≡ take (byte_len w) bytes =
-      rw (← n-is) (wide.back (take (byte_len w) bytes) (omega (arith, length-take (byte_len w) bytes)) front-fits)
-      in (
-        record {
-          parts = rw (front, ← rest-is) (sym (take-append-drop (byte_len w) bytes));
-          rest_fits = rw (← rest-is) (bytes-drop (byte_len w) bytes fits);
-        },
-        rw (← n-is) (wide.below (take (byte_len w) bytes) front-fits),
-      )
+      let front = wide.back (take (byte_len w) bytes) in
+      search (arith, g.1, take-append-drop, bytes-drop (byte_len w) bytes fits, wide.below, length-take)
 
   number_again : ReadsAgain (to_le_bytes w) (number_at w) (λ n. n < limit)
   number_again n rest lt =
@@ -112,12 +103,7 @@ string_takes bytes text rest fits e =
     let g = guard_ok (ltb (length n.1) n.0) Short (take n.0 n.1, drop n.0 n.1) (text, rest) b.2 in
     let long : n.0 ≤ length n.1 = ltb-false _ _ g.0 in
     let len : length (take n.0 n.1) ≡ n.0 = omega (arith, length-take n.0 n.1) in
-    let second : Takes n.1 (take n.0 n.1) (drop n.0 n.1) =
-    record { parts = sym (take-append-drop n.0 n.1); rest_fits = bytes-drop n.0 n.1 t.0.rest_fits } in
-    let joined = takes-then bytes (to_le_bytes w32 n.0) n.1 (take n.0 n.1) (drop n.0 n.1) t.0 second in
-    let whole : Takes bytes (string (take n.0 n.1)) (drop n.0 n.1) =
-    subst (λ (k : ℕ). Takes bytes (to_le_bytes w32 k ++ take n.0 n.1) (drop n.0 n.1)) (sym len) joined in
-    subst (λ (p : List ℕ × List ℕ). Takes bytes (string p.0) p.1 × StringFits p.0) g.1 (whole, omega (arith, t.1))
+    search (arith, takes-then, take-append-drop, bytes-drop n.0 n.1 t.0.rest_fits)
 
 pub string_codec : IsCodec string string_at StringFits
 string_codec = record { again = string_again; takes = string_takes }
@@ -182,13 +168,7 @@ module _ {A : Type 0} {spell : A → List ℕ} {read : List ℕ → Read A} {Fit
       let g = few_ok (leb a.0.0 most) (items_at read a.0.0 a.0.1) (xs, rest) a.2 in
       let first = u32_codec.takes bytes a.0.0 a.0.1 fits a.1 in
       let second = items_take a.0.0 a.0.1 xs rest first.0.rest_fits g.1 in
-      let joined = takes-then bytes (to_le_bytes w32 a.0.0) a.0.1 (flat_map spell xs) rest first.0 second.0 in (
-        subst (λ (k : ℕ). Takes bytes (to_le_bytes w32 k ++ flat_map spell xs) rest) (sym second.1) joined,
-        (
-          (omega (arith, first.1, second.1), second.2),
-          ap (λ (k : ℕ). leb k most) second.1 ∙ g.0,
-        ),
-      )
+      grind (arith, takes-then bytes (to_le_bytes w32 a.0.0) a.0.1 (flat_map spell xs) rest first.0 second.0)
 
   pub list_codec : (most : ℕ) → IsCodec (list spell) (list_at most read) (FewFit most Fits)
   list_codec most = record { again = list_again most; takes = list_takes most }
@@ -197,8 +177,7 @@ module _ {A : Type 0} {spell : A → List ℕ} {read : List ℕ → Read A} {Fit
   where_takes test bytes x rest fits e =
       let a = bind_ok (read bytes) (λ (a : A × List ℕ). cond (test a.0) (Ok a) (Err Value)) (x, rest) e in
       let g = guard_passed (test a.0.0) Value a.0 (x, rest) a.2 in
-      let t = is.takes bytes a.0.0 a.0.1 fits a.1 in
-      subst (λ (z : A × List ℕ). Takes bytes (spell z.0) z.1 × (Fits z.0 × (test z.0 ≡ true))) g.1 (t.0, (t.1, g.0))
+      search (arith, is.takes bytes a.0.0 a.0.1 fits a.1)
 
   -- values that pass a test
   pub where_codec : (test : A → Bool) → IsCodec spell (where_at test read) (λ x. Fits x × (test x ≡ true))
@@ -239,7 +218,7 @@ module _ {A B : Type 0} {spell : A → List ℕ} {read : List ℕ → Read A} {F
           let g = given-ok (to x.0.0) x.0.1 (b, rest) x.2 in
           let t = is.takes bytes x.0.0 x.0.1 fits x.1 in
           let here = back x.0.0 b t.1 g.0 in
-          (subst (λ (z : A × List ℕ). Takes bytes (spell z.0) z.1) (λ i. (sym here.0 i, g.1 i)) t.0, here.1)
+          search arith
 
   -- each value stands for one of another type
   pub as_codec : (to : A → B) (from : B → A) → ((b : B) → to (from b) ≡ b) → ((a : A) → from (to a) ≡ a)
@@ -254,10 +233,7 @@ module _ {A B : Type 0} {spell : A → List ℕ} {read : List ℕ → Read A} {F
       takes bytes b rest fits e =
           let x = bind_ok (read bytes) (λ (x : A × List ℕ). Ok (to x.0, x.1)) (b, rest) e in
           let t = is.takes bytes x.0.0 x.0.1 fits x.1 in
-          let here : Takes bytes (spell (from (to x.0.0))) x.0.1 × Fits (from (to x.0.0)) =
-          subst (λ (z : A). Takes bytes (spell z) x.0.1 × Fits z) (sym (back x.0.0)) t in
-          subst (λ (z : B × List ℕ). Takes bytes (spell (from z.0)) z.1
-          × Fits (from z.0)) (ok_is (to x.0.0, x.0.1) (b, rest) x.2) here
+          search (arith, ok_is, back x.0.0)
 
 -- ---- one value behind another
 
@@ -279,10 +255,7 @@ module _ {A B : Type 0} {sa : A → List ℕ} {ra : List ℕ → Read A} {FA : A
           let y = bind_ok (rb x.0.1) (λ (y : B × List ℕ). Ok ((x.0.0, y.0), y.1)) (p, rest) x.2 in
           let first = a.takes bytes x.0.0 x.0.1 fits x.1 in
           let second = b.takes x.0.1 y.0.0 y.0.1 first.0.rest_fits y.1 in
-          let made : (A × B) × List ℕ = ((x.0.0, y.0.0), y.0.1) in
-          subst (λ (z : (A × B) × List ℕ). Takes bytes (both sa sb z.0) z.1
-          × BothFit FA FB z.0) (ok_is made (p, rest) y.2)
-          (takes-then bytes (sa x.0.0) x.0.1 (sb y.0.0) y.0.1 first.0 second.0, (first.1, second.1))
+          search (arith, ok_is, takes-then bytes (sa x.0.0) x.0.1 (sb y.0.0) y.0.1 first.0 second.0)
 
 -- ---- a value behind the byte that says which form it has
 
@@ -295,22 +268,15 @@ pub form_takes : {A B : Type 0} {spell : A → List ℕ} {read : List ℕ → Re
 form_takes {A = A} {B = B} {read = read} tag body FitsB is t to text can tagged bytes x rest fits e =
     let b = bind_ok (read bytes) (λ (y : A × List ℕ). Ok (to y.0, y.1)) (x, rest) e in
     let k = is.takes bytes b.0.0 b.0.1 fits b.1 in
-    subst (λ (z : B × List ℕ). Takes bytes (body z.0) z.1 × FitsB z.0 × (tag z.0 ≡ t))
-    (ok_is (to b.0.0, b.0.1) (x, rest) b.2)
-    (subst (λ (w : List ℕ). Takes bytes w b.0.1) (sym (text b.0.0)) k.0, can b.0.0 k.1, tagged b.0.0)
+    search (arith, ok_is)
 
 module _ {A : Type 0} (tag : A → ℕ) (body : A → List ℕ) (pick : ℕ → List ℕ → Read A) (Fits : A → Type 0) (each : (t : ℕ)
     → IsVariant t tag body (pick t) Fits) where
   tagged_takes : TakesSpelled (λ (x : A). tag x ∷ body x) (tagged_at pick) Fits
   tagged_takes [] x rest fits e = absurd cc
   tagged_takes (t ∷ bytes) x rest fits e =
-      let v = (each t).takes bytes x rest (bytes-rest t bytes fits) e in (
-        record {
-          parts = ap (λ (w : List ℕ). t ∷ w) v.0.parts ∙ ap (λ (n : ℕ). n ∷ (body x ++ rest)) (sym v.2);
-          rest_fits = v.0.rest_fits;
-        },
-        v.1,
-      )
+      let v = (each t).takes bytes x rest (bytes-rest t bytes fits) e in
+      search arith
 
   pub tagged_codec : IsCodec (λ (x : A). tag x ∷ body x) (tagged_at pick) Fits
   tagged_codec = record { again = λ x rest fits. (each (tag x)).again x rest refl fits; takes = tagged_takes }

@@ -1,6 +1,5 @@
 -- Steps of reading that met no fault.
-use Rattle.std.proofs.Common.{◌≡◌, ℕ, suc, ◌+◌, Bool, true, false, cond, List, [], ◌∷◌, ◌++◌, take, drop, Result, Ok, Err, refl, sym, ap, ◌∙◌, append_assoc, arith, inl, inr}
-use Rattle.std.proofs.lemmas.Bool.{cases_lt}
+use Rattle.std.proofs.Common.{◌≡◌, ℕ, suc, ◌+◌, Bool, true, false, cond, List, [], ◌∷◌, ◌++◌, take, drop, Result, Ok, Err, refl, append_assoc, arith}
 use Rattle.std.proofs.lemmas.List.{length-take, get_or-drop, get_or-take, get_or_past}
 use Rattle.ob_codec.specs.declared.fault.TextFault.{TextFault}
 use Rattle.ob_codec.specs.Reading.{◌>>=◌, Read, end_of, whole_at}
@@ -43,12 +42,7 @@ pub whole_ok : {A : Type 0} (read : List ℕ → Read A) (bytes : List ℕ) (x :
     → read bytes ≡ Ok (x, [])
 whole_ok {A = A} read bytes x e =
     let a = bind_ok (read bytes) (λ (a : A × List ℕ). end_of a.1 >>= λ (nothing : Unit {0}). Ok a.0) x e in
-    a.1 ∙ by a.0.0 a.0.1 a.2
-  where
-    by : (y : A) (rest : List ℕ) → (end_of rest >>= λ (nothing : Unit {0}). Ok y) ≡ Ok x
-        → ◌≡◌ {A = Read A} (Ok (y, rest)) (Ok (x, []))
-    by y [] f = ap (λ (z : A). Ok (z, [])) (ok_is y x f)
-    by y (b ∷ rest) f = absurd cc
+    grind (arith, a)
 
 pub takes-then : (a x b y c : List ℕ) → Takes a x b → Takes b y c → Takes a (x ++ y) c
 takes-then a x b y c p q = search (arith, append_assoc)
