@@ -1,7 +1,8 @@
 -- Bodies are read as they were spelled.
-use Rattle.std.proofs.Common.{◌≡◌, ℕ, zero, suc, ◌<◌, ◌^◌, ◌&&◌, not, Bool, true, false, cond, leb, ltb, List, ◌++◌, Option, Some, None, Ok, refl, sym, ap, subst, ◌∙◌, eqb, arith, eq-eqb}
+use Rattle.std.proofs.lemmas.Bool.Decides.{nat_tests}
+use Rattle.std.proofs.Common.{◌≡◌, ℕ, zero, suc, ◌<◌, ◌^◌, Bool, true, false, cond, ltb, List, ◌++◌, Option, Some, None, Ok, refl, eqb, arith, eq-eqb}
 use Rattle.std.specs.Int.{w64, to_le_bytes}
-use Rattle.std.proofs.lemmas.Bool.{and_from, and_parts, eqb-true, le-leb, leb-true, lt-ltb, ltb-true, not-true}
+use Rattle.std.proofs.lemmas.Bool.{eqb-true, ltb-true}
 use Rattle.std.proofs.lemmas.Option.{cond_some}
 use Rattle.ob_codec.specs.Codecs.{as_codec, both_codec, flag_codec, form_takes, option_codec, some_codec, tagged_codec, u32_codec, u64_codec}
 use Rattle.ob_codec.specs.Laws.{IsCodec, Takes}
@@ -23,15 +24,14 @@ event_codec = as_codec event_of event_parts (λ _. refl) (λ _. refl) (both_code
 
 host-there : (h : HostObject) → HostFits h
     → (host_of (host_parts h) ≡ Some h) × BothFit is_four EventFits (host_parts h)
-host-there h fits = let below = fits.0 in
-    (ap (λ (b : Bool). cond b (Some h) None) (lt-ltb _ _ below), (omega arith, fits.1))
+host-there h fits = grind (arith, nat_tests, fits)
 
 host-back : (p : ℕ × states.Event) (h : HostObject) → BothFit is_four EventFits p → host_of p ≡ Some h
     → (host_parts h ≡ p) × HostFits h
 host-back p h fits e =
     let made : HostObject = record { object_type = p.0; event = p.1 } in
     let g = cond_some (ltb p.0 256) made h e in
-    subst (λ (z : HostObject). (host_parts z ≡ p) × HostFits z) g.1 (refl, (ltb-true _ _ g.0, fits.1))
+    search (arith, ltb-true)
 
 pub host_codec : IsCodec host_text host_at HostFits
 host_codec = some_codec host_of host_parts HostFits host-there host-back (both_codec u32_codec event_codec)
@@ -44,22 +44,21 @@ timer-back : (p : Bool × (Bool × Option ℕ)) (period : ℕ) (t : TimerState) 
 timer-back p period t fits small e =
     let made : TimerState = record { manual = p.0; signaled = p.1.0; due = p.1.1; period = period } in
     let g = cond_some (is_possible p.1.0 p.1.1 period) made t e in
-    subst (λ (z : TimerState). (timer_parts z ≡ p) × TimerFits z × (z.period ≡ period)) g.1
-    (refl, (fits, small, g.0), refl)
+    search arith
 
 timer-there : (t : TimerState) → TimerFits t → timer_of t.period (timer_parts t) ≡ Some t
-timer-there t fits = ap (λ (b : Bool). cond b (Some t) None) fits.2
+timer-there t fits = search arith
 
 -- a timer without a period
 abbrev OnceFits : TimerState → Type 0
 OnceFits t = TimerFits t × (t.period ≡ 0)
 
 once-there : (t : TimerState) → OnceFits t → (timer_of 0 (timer_parts t) ≡ Some t) × PartsFit (timer_parts t)
-once-there t fits = (ap (λ (n : ℕ). timer_of n (timer_parts t)) (sym fits.1) ∙ timer-there t fits.0, fits.0.0)
+once-there t fits = search (arith, timer-there)
 
 once-back : (p : Bool × (Bool × Option ℕ)) (t : TimerState) → PartsFit p → timer_of 0 p ≡ Some t
     → (timer_parts t ≡ p) × OnceFits t
-once-back p t fits e = let b = timer-back p 0 t fits (omega arith) e in (b.0, (b.1, b.2))
+once-back p t fits e = search (arith, timer-back)
 
 once_codec : IsCodec timer_text timer_at OnceFits
 once_codec = some_codec (timer_of 0) timer_parts OnceFits once-there once-back parts_codec
@@ -70,10 +69,7 @@ AgainFits t = TimerFits t × (eqb t.period 0 ≡ false)
 
 again-there : (t : TimerState) → AgainFits t
     → (periodic_of (periodic_parts t) ≡ Some t) × BothFit PartsFit is_four (periodic_parts t)
-again-there t fits = (
-  ap (λ (b : Bool). cond b None (timer_of t.period (timer_parts t))) fits.1 ∙ timer-there t fits.0,
-  (fits.0.0, fits.0.1),
-)
+again-there t fits = search (arith, timer-there)
 
 some_else : {A : Type 0} (b : Bool) (x : Option A) (y : A) → cond b None x ≡ Some y → (b ≡ false) × (x ≡ Some y)
 some_else true x y e = absurd cc
@@ -83,38 +79,21 @@ again-back : (p : (Bool × (Bool × Option ℕ)) × ℕ) (t : TimerState) → Bo
     → periodic_of p ≡ Some t → (periodic_parts t ≡ p) × AgainFits t
 again-back p t fits e =
     let g = some_else (eqb p.1 0) (timer_of p.1 p.0) t e in
-    let b = timer-back p.0 p.1 t fits.0 fits.1 g.1 in
-    (λ i. (b.0 i, b.2 i), (b.1, ap (λ (n : ℕ). eqb n 0) b.2 ∙ g.0))
+    search (arith, timer-back p.0 p.1 t fits.0 fits.1 g.1)
 
 again_codec : IsCodec periodic_text periodic_at AgainFits
 again_codec = some_codec periodic_of periodic_parts AgainFits again-there again-back (both_codec parts_codec u32_codec)
 
 semaphore-there : (s : SemaphoreState) → SemaphoreFits s
     → (semaphore_of (semaphore_parts s) ≡ Some s) × BothFit is_four is_four (semaphore_parts s)
-semaphore-there s fits =
-    let can : may_count s.count s.maximum ≡ true =
-    and_from (ltb 0 s.maximum) (leb s.count s.maximum && leb s.maximum 2147483647) (lt-ltb _ _ fits.above_zero)
-    (and_from (leb s.count s.maximum) (leb s.maximum 2147483647) (le-leb _ _ fits.within)
-    (le-leb _ _ fits.countable)) in
-    let below = fits.countable in let within = fits.within in
-    (ap (λ (b : Bool). cond b (Some s) None) can, (omega arith, omega arith))
+semaphore-there s fits = grind (arith, nat_tests, fits.above_zero, fits.within, fits.countable)
 
 semaphore-back : (p : ℕ × ℕ) (s : SemaphoreState) → BothFit is_four is_four p → semaphore_of p ≡ Some s
     → (semaphore_parts s ≡ p) × SemaphoreFits s
 semaphore-back p s fits e =
     let made : SemaphoreState = record { count = p.0; maximum = p.1 } in
     let g = cond_some (may_count p.0 p.1) made s e in
-    let a = and_parts (ltb 0 p.1) (leb p.0 p.1 && leb p.1 2147483647) g.0 in
-    let b = and_parts (leb p.0 p.1) (leb p.1 2147483647) a.1 in
-    subst (λ (z : SemaphoreState). (semaphore_parts z ≡ p)
-    × SemaphoreFits z) g.1 (
-      refl,
-      record {
-        above_zero = ltb-true _ _ a.0;
-        within = leb-true _ _ b.0;
-        countable = leb-true _ _ b.1;
-      },
-    )
+    grind (arith, nat_tests, g)
 
 pub semaphore_codec : IsCodec semaphore_text semaphore_at SemaphoreFits
 semaphore_codec = some_codec semaphore_of semaphore_parts SemaphoreFits semaphore-there semaphore-back
@@ -122,39 +101,28 @@ semaphore_codec = some_codec semaphore_of semaphore_parts SemaphoreFits semaphor
 
 own-true : (owner : Option ℕ) (recursion : ℕ) (abandoned : Bool) → mutex.IsPossible owner recursion abandoned
     → may_own owner recursion abandoned ≡ true
-own-true None recursion abandoned can = eq-eqb recursion 0 can
-own-true (Some owner) recursion abandoned can =
-    and_from (ltb 0 recursion) (leb recursion 2147483647 && not abandoned) (lt-ltb _ _ can.0)
-    (and_from (leb recursion 2147483647) (not abandoned) (le-leb _ _ can.1) (ap not can.2))
+own-true owner recursion abandoned can = grind (arith, nat_tests)
 
 own-possible : (owner : Option ℕ) (recursion : ℕ) (abandoned : Bool) → may_own owner recursion abandoned ≡ true
     → mutex.IsPossible owner recursion abandoned
-own-possible None recursion abandoned e = eqb-true recursion 0 e
-own-possible (Some owner) recursion abandoned e =
-    let a = and_parts (ltb 0 recursion) (leb recursion 2147483647 && not abandoned) e in
-    let b = and_parts (leb recursion 2147483647) (not abandoned) a.1 in
-    (ltb-true _ _ a.0, leb-true _ _ b.0, not-true abandoned b.1)
+own-possible owner recursion abandoned e = grind (arith, nat_tests)
 
 own-small : (owner : Option ℕ) (recursion : ℕ) (abandoned : Bool) → mutex.IsPossible owner recursion abandoned
     → recursion < 2 ^ 32
-own-small None recursion abandoned can = omega arith
-own-small (Some owner) recursion abandoned can = let most = can.1 in omega arith
+own-small owner recursion abandoned can = grind (arith, nat_tests)
 
 abbrev OwnerFits : Option ℕ × (ℕ × Bool) → Type 0
 OwnerFits = BothFit (OptionFits is_four) (BothFit is_four Any)
 
 mutex-there : (m : MutexState) → MutexFits m → (mutex_of (mutex_parts m) ≡ Some m) × OwnerFits (mutex_parts m)
-mutex-there m fits = (
-  ap (λ (b : Bool). cond b (Some m) None) (own-true m.owner m.recursion m.abandoned fits.1),
-  (fits.0, (own-small m.owner m.recursion m.abandoned fits.1, tt)),
-)
+mutex-there m fits = search (arith, own-true, own-small)
 
 mutex-back : (p : Option ℕ × (ℕ × Bool)) (m : MutexState) → OwnerFits p → mutex_of p ≡ Some m
     → (mutex_parts m ≡ p) × MutexFits m
 mutex-back p m fits e =
     let made : MutexState = record { owner = p.0; recursion = p.1.0; abandoned = p.1.1 } in
     let g = cond_some (may_own p.0 p.1.0 p.1.1) made m e in
-    subst (λ (z : MutexState). (mutex_parts z ≡ p) × MutexFits z) g.1 (refl, (fits.0, own-possible p.0 p.1.0 p.1.1 g.0))
+    search (arith, own-possible)
 
 pub mutex_codec : IsCodec mutex_text mutex_at MutexFits
 mutex_codec = some_codec mutex_of mutex_parts MutexFits mutex-there mutex-back
@@ -168,8 +136,8 @@ timer-again d rest fits = by (eqb d.period 0) refl
   where
     by : (b : Bool) → eqb d.period 0 ≡ b
         → body_in (cond b 3 5) (cond b (timer_text d) (periodic_text d) ++ rest) ≡ Ok (Timer d, rest)
-    by true none = rw (once_codec.again d rest (fits, eqb-true d.period 0 none)) refl
-    by false some = rw (again_codec.again d rest (fits, some)) refl
+    by true none = search (arith, nat_tests, once_codec.again d rest, eqb-true)
+    by false some = search (arith, again_codec.again d rest)
 
 timer-takes : {spell : TimerState → List ℕ} {read : List ℕ → Read TimerState} {Fits : TimerState → Type 0}
     → IsCodec spell read Fits → (t : ℕ)
@@ -179,34 +147,24 @@ timer-takes : {spell : TimerState → List ℕ} {read : List ℕ → Read TimerS
 timer-takes {read = read} is t of bytes x rest fits e =
     let b = bind_ok (read bytes) (λ (y : TimerState × List ℕ). Ok (Timer y.0, y.1)) (x, rest) e in
     let k = is.takes bytes b.0.0 b.0.1 fits b.1 in
-    let o = of b.0.0 k.1 in
-    subst (λ (z : Body × List ℕ). Takes bytes (parts_text z.0) z.1 × BodyFits z.0 × (tag_of z.0 ≡ t))
-    (ok_is (Timer b.0.0, b.0.1) (x, rest) b.2)
-    (subst (λ (w : List ℕ). Takes bytes w b.0.1) (sym o.1) k.0, o.0, o.2)
+    search (arith, ok_is, of b.0.0 k.1)
 
 once-tagged : (d : TimerState) → OnceFits d
     → TimerFits d × (parts_text (Timer d) ≡ timer_text d) × (tag_of (Timer d) ≡ 3)
-once-tagged d fits = let none = eq-eqb d.period 0 fits.1 in
-    (fits.0, ap (λ (b : Bool). cond b (timer_text d) (periodic_text d)) none, ap (λ (b : Bool). cond b 3 5) none)
+once-tagged d fits = search (arith, eq-eqb)
 
 again-tagged : (d : TimerState) → AgainFits d
     → TimerFits d × (parts_text (Timer d) ≡ periodic_text d) × (tag_of (Timer d) ≡ 5)
-again-tagged d fits =
-    (fits.0, ap (λ (b : Bool). cond b (timer_text d) (periodic_text d)) fits.1, ap (λ (b : Bool). cond b 3 5) fits.1)
+again-tagged d fits = search arith
 
 one-again : (t : ℕ) (x : Body) (rest : List ℕ) → tag_of x ≡ t → BodyFits x
     → body_in t (parts_text x ++ rest) ≡ Ok (x, rest)
 unfolding body_in
-one-again t (Event e) rest is fits = subst (λ (n : ℕ). body_in n (event_text e ++ rest) ≡ Ok (Event e, rest)) is
-    (rw (event_codec.again e rest fits) refl)
-one-again t (Mutex m) rest is fits = subst (λ (n : ℕ). body_in n (mutex_text m ++ rest) ≡ Ok (Mutex m, rest)) is
-    (rw (mutex_codec.again m rest fits) refl)
-one-again t (Semaphore s) rest is fits = subst (λ (n : ℕ). body_in n (semaphore_text s ++ rest)
-    ≡ Ok (Semaphore s, rest)) is (rw (semaphore_codec.again s rest fits) refl)
-one-again t (Timer d) rest is fits = subst (λ (n : ℕ). body_in n (parts_text (Timer d) ++ rest) ≡ Ok (Timer d, rest))
-    is (timer-again d rest fits)
-one-again t (Host h) rest is fits = subst (λ (n : ℕ). body_in n (host_text h ++ rest) ≡ Ok (Host h, rest)) is
-    (rw (host_codec.again h rest fits) refl)
+one-again t (Event e) rest is fits = search (arith, event_codec.again)
+one-again t (Mutex m) rest is fits = search (arith, mutex_codec.again)
+one-again t (Semaphore s) rest is fits = search (arith, semaphore_codec.again)
+one-again t (Timer d) rest is fits = search (arith, timer-again)
+one-again t (Host h) rest is fits = search (arith, host_codec.again)
 
 one-takes : (t : ℕ) (bytes : List ℕ) (x : Body) (rest : List ℕ) → AreBytes bytes → body_in t bytes ≡ Ok (x, rest)
     → Takes bytes (parts_text x) rest × BodyFits x × (tag_of x ≡ t)
