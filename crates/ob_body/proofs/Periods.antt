@@ -1,5 +1,5 @@
 -- A timer that fires is due again after now, if at all, and no later than a period after now.
-use Rattle.std.proofs.Common.{◌≡◌, ℕ, ◌+◌, ◌-◌, ◌<◌, ◌≤◌, Option, Some, None, refl, arith, true, false}
+use Rattle.std.proofs.Common.{◌≡◌, ℕ, ◌+◌, ◌-◌, ◌<◌, ◌≤◌, Option, arith, true, false}
 use Rattle.std.proofs.lemmas.Bool.Decides.{nat_tests}
 use Rattle.std.proofs.Math.Nat.{div-mul-le_self, lt-div-mul-add}
 use Rattle.ob_body.specs.TimerState.{TimerState}
@@ -13,8 +13,7 @@ next_within now due units past = omega (arith, div-mul-le_self (now - due) units
 
 pub again_undue : (now : ℕ) (due : Option ℕ) (period : ℕ) → is_due now due ≡ true
     → is_due now (due_again now due period) ≡ false
-again_undue now None period is = refl
-again_undue now (Some due) period is = grind (arith, nat_tests, next_later)
+again_undue now due period is = grind (arith, nat_tests, next_later)
 
 -- what fired isn't due at that moment
 pub fired_undue : (now : ℕ) (t : TimerState) → is_due now (after_fire now t).due ≡ false
