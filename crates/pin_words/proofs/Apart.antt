@@ -1,5 +1,5 @@
 -- The words of different slots lie apart, and all are within the table.
-use Rattle.pin_words.proofs.Cited.{nat_tests, at_place, cond, eqb, ◌≡◌, ◌≢◌, ℕ, ◌+◌, ◌<◌, ◌≤◌, List, length, get_or, set, length-set, get_or-set_other, sym, ◌∙◌, subst, arith, Slot, slot_of, descr_place, pin_word, AreLaid}
+use Rattle.pin_words.proofs.Cited.{at_place, cond, eqb, ◌≡◌, ◌≢◌, ℕ, ◌+◌, ◌<◌, ◌≤◌, List, length, get_or, set, length-set, get_or-set_other, arith, Slot, slot_of, descr_place, pin_word, AreLaid}
 use Rattle.pin_words.specs.Places.{words_of, place_of, descr_word}
 
 pub few : (s slots : ℕ) → slots ≤ 65536 → s < slots → s < 65536
@@ -27,24 +27,14 @@ unlike s t same = omega arith
 module _ (slots : ℕ) (ws : List ℕ) (i n : ℕ) (most : slots ≤ 65536) (wide : length ws ≡ words_of slots)
     (inside : i < slots) (j : ℕ) (below : j < slots) where
   pub pin-set : get_or (set ws (place_of i) n) (place_of j) 0 ≡ cond (eqb j i) n (get_or ws (place_of j) 0)
-  pin-set = let both = within i slots most inside in let told = apart j i in grind (arith, nat_tests, at_place)
+  pin-set = search (arith, within, apart, at_place)
 
   pub descr-set : get_or (set ws (descr_place i) n) (descr_place j) 0 ≡ cond (eqb j i) n (get_or ws (descr_place j) 0)
-  descr-set = let both = within i slots most inside in let told = apart j i in grind (arith, nat_tests, at_place)
+  descr-set = search (arith, within, apart, at_place)
 
 -- one slot more is laid
 pub laid_more : (slots : List Slot) (i p q m n : ℕ) (ws : List ℕ) → AreLaid slots i ws → length slots ≤ 65536
     → i < length slots → p ≡ place_of i → q ≡ descr_place i → m ≡ pin_word (slot_of slots i)
     → n ≡ descr_word (slot_of slots i) → AreLaid slots (i + 1) (set (set ws p m) q n)
 laid_more slots i p q m n ws are most inside p-is q-is m-is n-is =
-    let pinned : List ℕ = set ws (place_of i) m in
-    let wide : length pinned ≡ words_of (length slots) = length-set ws (place_of i) m ∙ are.wide in
-    subst (λ (z : ℕ × ℕ). AreLaid slots (i + 1) (set (set ws z.0 m) z.1 n)) (λ c. (sym p-is c, sym q-is c)) record {
-      wide = length-set pinned (descr_place i) n ∙ wide;
-      words = λ j h. let was = are.words j in let other = unlike j i in
-          let new = pin-set (length slots) ws i m most are.wide inside j (omega arith) in
-          grind (arith, nat_tests, get_or-set_other);
-      descrs = λ j h. let was = are.descrs j in let other = unlike i j in
-          let new = descr-set (length slots) pinned i n most wide inside j (omega arith) in
-          grind (arith, nat_tests, get_or-set_other);
-    }
+    search (arith, set, length, length-set, descr_place, unlike, pin-set, get_or-set_other, descr-set)

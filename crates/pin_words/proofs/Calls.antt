@@ -1,5 +1,5 @@
 -- What the calls of readers and of the keeper need of the steps.
-use Rattle.pin_words.proofs.Cited.{nat_tests, at_place, ◌≡◌, ◌≢◌, ⊎_elim, ℕ, ◌<◌, List, [], ◌∷◌, ◌++◌, length, get_or, set, Some, None, sym, refl, ap, ◌∙◌, arith, append_assoc, get_or_read, none, step, Allows, Word, Id, Descr, Free, Live, Shape, Slot, decoded, tally, drop_last, same_id, slot_of, reclaimed, count-snoc, count-drop_last-le, Look, KeeperView, ReaderView, IsPlace, place_of, descr_place, M, view, look, id_in, reader_with, reader_got, reader_released, keeper_with, keeper_stored, reader_of, keeper_of, IsReaders, IsKeepers, Shown, Behind, TellsReader, got_view, released, noted, stored, Stale, Go, verdict_of, Err, option_map, StaleStays, HasOnlyLooked, WasStale, Tries}
+use Rattle.pin_words.proofs.Cited.{nat_tests, at_place, ◌≡◌, ◌≢◌, ⊎_elim, ℕ, ◌<◌, List, [], ◌∷◌, ◌++◌, length, get_or, set, Some, sym, refl, ap, ◌∙◌, arith, append_assoc, get_or_read, none, step, Allows, Word, Id, Descr, Free, Live, Shape, Slot, decoded, tally, drop_last, same_id, slot_of, reclaimed, count-snoc, count-drop_last-le, Look, KeeperView, ReaderView, IsPlace, place_of, descr_place, M, view, look, id_in, reader_with, reader_got, reader_released, keeper_with, keeper_stored, reader_of, keeper_of, IsReaders, IsKeepers, Shown, Behind, got_view, released, noted, stored, Stale, Go, verdict_of, Err, option_map, StaleStays, HasOnlyLooked, WasStale, Tries}
 use Rattle.pin_core.specs.Descrs as descr_code
 use Rattle.pin_words.specs.declared.fault.PinFault.TheVariants as fault
 use Rattle.pin_words.proofs.ReaderSteps.{notes-step}
@@ -29,11 +29,7 @@ reclaimed-kept max was kept same = search arith
 pub released-one : (n p : ℕ) (m m' : M) (id : Id) → IsPlace place_of p id.slot → IsReaders m
     → released (step 0 p 1 0 none) m n m' → 0 < tally (same_id id) (reader_of m.0).held
     → IsReaders m' × (reader_of m'.0 ≡ reader_released (reader_of m.0) id)
-released-one n p m m' id at reads does have =
-    let did = does id.slot at in let r = reader_of m.0 in
-    let tells : TellsReader r id.slot n = rw reads at did.1 in
-    let now : m' ≡ (view None (Some (reader_released r (id_in id.slot n))), []) = did.0 ∙ rw reads refl in
-    let gen = (tells.held id have refl).0 in rw now (rw gen (refl, refl))
+released-one n p m m' id at reads does have = search (arith, reader_of, view, reader_released, id_in)
 
 -- what an exchange that won leaves to its caller
 pub got-one : (n : ℕ) (m m' : M) (id : Id) → IsReaders m → m' ≡ (got_view m.0 id.slot n, m.1)

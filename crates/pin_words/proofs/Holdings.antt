@@ -34,7 +34,7 @@ holds-same-less w q r id safe have n x = let c = release-count w r id safe have 
 count-in : (p q : Id → Bool) (xs : List Id) → ((x : Id) → 0 < tally (same_id x) xs → p x ≡ true → q x ≡ true)
     → tally p xs ≤ tally q xs
 count-in p q [] h = omega arith
-count-in p q (y ∷ ys) h = search (arith, count-in p q ys (λ x have. h x (omega arith)))
+count-in p q (y ∷ ys) h = search (arith, count-in p q ys)
 
 -- a reader has no more copies at a slot than the slot has pins
 pub held-le-pins : (w : WorldState) (r s : ℕ) (held : List Id) → IsSafe w → HoldsJust w r held

@@ -15,7 +15,7 @@ module _ (k : Shape) (s : Table) (W : WorldState) (sh : IsShown k s W) (id i : �
 
   pub found : (p : Phase) → (slot_of kv.slots i).phase ≡ p
       → ((at W i).phase ≡ p) × (word s i ≡ packed (at W i).generation (code_of p) (pins W i))
-  found p phase = let there : (at W i).phase ≡ p = rw (← mine.slots) phase in (there, search arith)
+  found p phase = search (arith, mine)
 
   -- a step to x and to the list ps; what is left is that the words are those of the new world
   keeper-goes : (wi n : ℕ) (e : Event) (x : Slot) (ps : List (Id × Descr)) (ls : List Look)
@@ -102,10 +102,7 @@ module _ (k : Shape) (s : Table) (W : WorldState) (sh : IsShown k s W) (id i : �
   -- an exchange that failed found pins
   pub pinned-still : (slot_of kv.slots i).phase ≡ Closing → word s i ≢ closing_word (slot_of kv.slots i)
       → 0 < (decoded (word s i)).pins
-  pinned-still closing miss =
-      let there = found Closing closing in
-      let some-pin : pins W i ≢ 0 = λ e. miss (rw (mine.slots, there.1, e) refl) in
-      let count = ap (λ (y : Word). y.pins) (found-is k s W sh i inside) in omega arith
+  pinned-still closing miss = search (arith, found, pins, mine, found-is)
 
   pub keeper-reclaims : (slot_of kv.slots i).phase ≡ Closing → word s i ≡ closing_word (slot_of kv.slots i)
       → IsShown k (after_step s (place_of i) (next_word k.max_gen (slot_of kv.slots i)) id

@@ -17,17 +17,15 @@ wide_at is wide = search arith
 -- the words of a slot are among them, and there is one
 pub pin_at : {a b : Words} (k : Shape) (p s : ℕ) → a ≡ b → b.shared.table_id.words ≡ words_of k.slots
     → IsWithinLimits k → IsPlace place_of p s → s < k.slots → p < a.shared.table_id.words
-pin_at k p s is wide fits at inside = let there = wide_at is wide in let place = at.is in
-    omega (arith, within s k.slots fits.1 inside)
+pin_at k p s is wide fits at inside = search (arith, wide_at, within)
 
 pub descr_at : {a b : Words} (k : Shape) (p s : ℕ) → a ≡ b → b.shared.table_id.words ≡ words_of k.slots
     → IsWithinLimits k → IsPlace descr_place p s → s < k.slots → p < a.shared.table_id.words
-descr_at k p s is wide fits at inside = let there = wide_at is wide in let place = at.is in
-    omega (arith, within s k.slots fits.1 inside)
+descr_at k p s is wide fits at inside = search (arith, wide_at, within)
 
 pub some_at : {a b : Words} (k : Shape) → a ≡ b → b.shared.table_id.words ≡ words_of k.slots → IsWithinLimits k
     → 0 < a.shared.table_id.words
-some_at k is wide fits = let there = wide_at is wide in omega (arith, some_words k.slots fits.0)
+some_at k is wide fits = search (arith, wide_at, some_words)
 
 pub id_at : {a b : Words} → a ≡ b → a.shared.table_id ≡ b.shared.table_id
 id_at is = search arith

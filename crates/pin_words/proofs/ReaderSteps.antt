@@ -1,5 +1,5 @@
 -- The steps of a reader keep the rule of the table.
-use Rattle.pin_words.proofs.Cited.{nat_tests, IfSome, ◌≡◌, ◌≢◌, inl, inr, ℕ, ◌+◌, ◌-◌, ◌%◌, ◌^◌, ◌<◌, ◌==◌, eqb, true, List, [], ◌∷◌, ◌++◌, get_or-set_other, Some, sym, refl, ap, ◌∙◌, subst, arith, IfSome_then, same_Some, none, some, ℕ_discrete, dite, get_elem?, step, Act, keeps, stepped, carried_after, Valid, Allows, set_here, exchanged, Word, Id, Descr, Live, Shape, Hold, Pin, Release, encoded, decoded, tally, weight, is_at_slot, is_copy, is_hold, with_hold, drop_first, drop_last, same_id, WorldState, at, id_at, pins, copies, last_copy, next_copy, word_at, given, given_as, after, with_holders, IsSafe, may_be_held, safe_kept, may_release, copies-le-pins, count-with_hold, Look, Note, ReaderView, View, IsPlace, place_of, descr_place, M, view, look, id_in, notes_of, reader_with, reader_got, reader_released, reader_noted, after_step, descr_word, word, Stands, Table, NotAhead, AreNoted, HoldsJust, OfReader, IsShown, Shown, TellsReader, looked_view, got_view, released_view, looked, pinned, released, noted}
+use Rattle.pin_words.proofs.Cited.{nat_tests, IfSome, ◌≡◌, ◌≢◌, inl, inr, ℕ, ◌+◌, ◌-◌, ◌%◌, ◌^◌, ◌<◌, ◌==◌, eqb, true, List, [], ◌∷◌, ◌++◌, get_or-set_other, Some, sym, refl, ap, ◌∙◌, subst, arith, IfSome_then, same_Some, none, some, ℕ_discrete, dite, get_elem?, step, Act, keeps, stepped, carried_after, Valid, Allows, set_here, exchanged, Word, Id, Descr, Live, Shape, Hold, Pin, Release, encoded, decoded, tally, weight, is_at_slot, is_copy, is_hold, with_hold, drop_first, drop_last, same_id, WorldState, at, id_at, pins, copies, last_copy, next_copy, word_at, given_as, after, with_holders, IsSafe, may_be_held, safe_kept, may_release, copies-le-pins, count-with_hold, Look, Note, ReaderView, View, IsPlace, place_of, descr_place, M, view, look, id_in, notes_of, reader_with, reader_got, reader_released, reader_noted, after_step, descr_word, word, Stands, Table, NotAhead, AreNoted, HoldsJust, OfReader, IsShown, Shown, TellsReader, looked_view, got_view, released_view, looked, pinned, released, noted}
 use prog.Atomic.{either}
 use Rattle.pin_core.proofs.Holding.{release-count}
 use Rattle.pin_words.proofs.Bits.{sub_one}
@@ -82,9 +82,7 @@ module _ (k : Shape) (s : Table) (W : WorldState) (sh : IsShown k s W) (id : ℕ
 
   -- a held slot has a pin
   pub has-pin : 0 < word s x.slot
-  has-pin =
-      let own = owned in let le = copies-le-pins W r.number x in
-      let old : word s x.slot ≡ encoded (word_at W x.slot) = sh.words x.slot inside in omega arith
+  has-pin = search (arith, owned, copies-le-pins, word, encoded, word_at)
 
   pub reader-releases : IsShown k (after_step s (place_of x.slot) (word s x.slot - 1) id
       (view v.keeper (Some (reader_released r x)))) (after W (Release r.number x))

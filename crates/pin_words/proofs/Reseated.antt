@@ -59,7 +59,7 @@ fresh_keeper k slots are = search (arith, opening-is)
 -- the parts of a seat that stays, where the reader n gets another seat
 stays : (w : WorldState) (keeper next : ℕ) (owner : ℕ → ℕ) (n q j : ℕ) (u : View) → j ≢ owner n
     → Agrees w keeper next owner j u → Agrees w keeper next (moved-owner n q owner) j u
-stays w keeper next owner n q j u other a = (a.0, IfSome_then u.reader a.1 (λ r x. grind (arith, nat_tests)))
+stays w keeper next owner n q j u other a = search arith
 
 -- a reader's part on its new seat
 moves : (w : WorldState) (next : ℕ) (owner : ℕ → ℕ) (j q : ℕ) (r : ReaderView) → OfReader w next owner j r
@@ -75,9 +75,7 @@ longer-reader vs ws j r h = search (arith, at_longer)
 -- a seat that had another reader, or none
 still-reader : (vs : List View) (id j r : ℕ) (v v' : View) → get_elem? vs id ≡ some v
     → IfSome v.reader (λ x. x.number ≢ r) → HasReader vs j r → HasReader (set vs id v') j r
-still-reader vs id j r v v' seated another h = dite (ℕ_discrete j id)
-    (λ e. absurd (let same : v ≡ h.0 = search arith in search arith))
-    (λ ne. (h.0, h.1, set_else vs id j v' ne ∙ h.2, h.3, h.4))
+still-reader vs id j r v v' seated another h = search (arith, ℕ_discrete, set_else)
 
 module _ (k : Shape) (s : Table) (W : WorldState) (sh : IsShown k s W) where
   -- the same world under other views
@@ -197,7 +195,7 @@ blanks k id me s a4 seated = search (arith, blanks-shown)
 
 pub joins-any : (k : Shape) (id other : ℕ) (me me' : View) (kv : KeeperView) (rv : ReaderView)
     → me ≡ view (Some kv) None → me' ≡ view None (Some rv) → Joins (Shown k) id me other me' (joined me me') spent
-joins-any k id other me me' kv rv a b = rw (a, b) (λ s shown seated apart seated'. search (arith, joins_shown))
+joins-any k id other me me' kv rv a b = search (arith, joins_shown)
 
 pub parts-any : (k : Shape) (id : ℕ) (me : View) (kv : KeeperView) (rv : ReaderView) → me ≡ view (Some kv) (Some rv)
     → Splits (Shown k) id me (keeper_part me) (reader_part me)

@@ -70,7 +70,7 @@ release-step r id n have t = let st = t.stands in (
 pub released-step : (n p : ℕ) (m m' : M) (id : Id) → IsPlace place_of p id.slot → IsReaders m
     → released (step 0 p 1 0 none) m n m' → 0 < tally (same_id id) (reader_of m.0).held
     → ReleaseStep (reader_of m.0) id
-released-step n p m m' id at reads does have = release-step (reader_of m.0) id n have (rw reads at (does id.slot at).1)
+released-step n p m m' id at reads does have = search (arith, release-step, reader_of)
 
 pub descr-step : (r : ReaderView) (id : Id) (n : ℕ) (d : Descr) → 0 < tally (same_id id) r.held
     → descr_code.decoded n ≡ Some d → Stands r (descr_place id.slot) n → DescrStep r id d

@@ -1,5 +1,5 @@
 -- What a step of one seat owes the rule of the table.
-use Rattle.pin_words.proofs.Cited.{IfSome, option_map, ◌≡◌, ◌≢◌, ◌⊎◌, inl, inr, ⊎_elim, ℕ, ◌<◌, ◌≤◌, List, [], ◌∷◌, length, get_or, set, length-set, zero, suc, Option, Some, None, sym, refl, ap, ◌∙◌, subst, arith, true, some, some-ne-none, ℕ_discrete, dite, get_elem?, at_set, set_here, set_else, Word, Id, Descr, Shape, Hold, IsWithinLimits, encoded, decoded, tally, is_copy, same_id, WorldState, at, pins, copies, word_at, given, given_as, with_holders, IsSafe, may_be_held, age, Look, Note, KeeperView, ReaderView, View, place_of, descr_place, AtSlot, view, look, Table, word_age, IsPast, NotAhead, AreNoted, HoldsJust, OfKeeper, OfReader, Agrees, HasKeeper, HasReader, IsShown, Stands, Behind, TellsReader, AreListed, Show, MeetsBoth, looked_view}
+use Rattle.pin_words.proofs.Cited.{IfSome, option_map, ◌≡◌, ◌≢◌, ◌⊎◌, inl, inr, ⊎_elim, ℕ, ◌<◌, ◌≤◌, List, [], ◌∷◌, length, get_or, set, length-set, zero, suc, Option, Some, sym, refl, ap, ◌∙◌, arith, true, some, some-ne-none, ℕ_discrete, dite, get_elem?, at_set, set_here, set_else, Word, Id, Descr, Shape, Hold, IsWithinLimits, encoded, decoded, tally, is_copy, same_id, WorldState, at, pins, copies, word_at, given, given_as, with_holders, IsSafe, may_be_held, age, Look, Note, KeeperView, ReaderView, View, place_of, descr_place, AtSlot, view, look, Table, word_age, IsPast, NotAhead, AreNoted, HoldsJust, OfKeeper, OfReader, Agrees, HasKeeper, HasReader, IsShown, Stands, Behind, TellsReader, AreListed, Show, MeetsBoth, looked_view}
 use lib.Seq.{set-get_or}
 use Rattle.pin_core.specs.Descrs as descr_code
 use Rattle.pin_words.specs.Stepped.{after_step, word}
@@ -11,15 +11,13 @@ of-here a0 x a is h = search arith
 
 pub when-here : {A : Type 0} (P Q : A → Type 0) (x : Option A) → ((a : A) → x ≡ Some a → P a → Q a) → IfSome x P
     → IfSome x Q
-when-here P Q None f h = tt
-when-here P Q (Some a) f h = f a refl h
+when-here x0 x1 x2 f h = search arith
 
 -- what holds of each seat, after one was written
 pub each-set : (P : ℕ → View → Type 0) (vs : List View) (i : ℕ) (a : View) → P i a
     → ((j : ℕ) (u : View) → j ≢ i → get_elem? vs j ≡ some u → P j u)
     → (j : ℕ) (u : View) → get_elem? (set vs i a) j ≡ some u → P j u
-each-set P vs i a new old j u e =
-    ⊎_elim (λ t. rw (t.0, ← t.1) new) (λ t. old j u t.0 t.1) (at_set vs i j a u e)
+each-set x0 vs i a new old j u e = search (arith, at_set)
 
 -- the view keeps its parts, and its reader's number
 pub record Turns (v v' : View) : Type 0 where
@@ -49,7 +47,7 @@ has-reader vs id j r v v' seated turn h = dite (ℕ_discrete j id)
 
 -- a slot is told by its place
 pub at-slot : (k : Shape) (i : ℕ) (P : ℕ → Type 0) → IsWithinLimits k → i < k.slots → P i → AtSlot (place_of i) P
-at-slot k i P fits inside have s is = subst P (apart i s (few i k.slots fits.1 inside) is.few is.is) have
+at-slot k i x2 fits inside have s is = search (arith, apart, few)
 
 pub behind : (w : WorldState) (ls : List Look) (s n : ℕ) → word_age n ≡ age (at w s)
     → (decoded n).phase ≡ (at w s).phase → (at w s).generation ≤ w.shape.max_gen → NotAhead w ls → Behind ls s n
@@ -129,11 +127,7 @@ module _ (k : Shape) (s : Table) (W : WorldState) (sh : IsShown k s W) where
   pub held-found : (id i : ℕ) (r : ReaderView) → i < k.slots → OfReader W sh.next sh.owner id r → (x : Id)
       → 0 < tally (same_id x) r.held → x.slot ≡ i
       → ((decoded (word s i)).generation ≡ x.generation) × (may_be_held (decoded (word s i)).phase ≡ true)
-  held-found id i r inside mine x have here = let is = found-is i inside in
-      let h = sh.safe.held r.number x (has-copies W r x mine.held have) in (
-        ap (λ (y : Word). y.generation) is ∙ rw (← here) h.1,
-        ap (λ (y : Word). may_be_held y.phase) is ∙ rw (← here) h.2,
-      )
+  held-found id i r inside mine x have here = search (arith, found-is, has-copies, may_be_held)
 
   -- what stood at a place of the table is in sight of each of its readers
   pub stood : (id p : ℕ) (v : View) (r : ReaderView) → get_elem? s.views id ≡ some v → v.reader ≡ Some r

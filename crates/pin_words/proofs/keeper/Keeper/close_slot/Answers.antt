@@ -1,3 +1,4 @@
+use Rattle.std.proofs.Common.{arith}
 use Rattle.pin_words.proofs.Cited.{rules, ap, ◌<◌, in_phase, keeper_of, keeper_closed, Closing}
 use Rattle.pin_words.proofs.KeeperSteps.{closes-step}
 use Rattle.pin_words.proofs.Calls.{kept-one, slot-changed}
@@ -21,4 +22,4 @@ invariant_of-self-inside c = let played = c.fetch_or.ensures.2 c.args.slot c.pla
     c.index_mut.ensures.value in search rules
 
 pub returns-clause-view : goal.returns-clause-view
-returns-clause-view c = let played = c.fetch_or.ensures.2 c.args.slot c.place_of.ensures in search rules
+returns-clause-view c = search arith

@@ -1,3 +1,4 @@
+use Rattle.std.proofs.Common.{arith}
 use Rattle.pin_words.proofs.Cited.{rules, sym, ap, ◌<◌, ◌∙◌, Some, None, ◌≡◌, keeper_of, reader_of, reader_looked, view, looked_view, joined}
 use Rattle.pin_words.proofs.ReaderSteps.{loads}
 use Rattle.pin_words.proofs.Reseated.{joins-any, parts-any}
@@ -41,10 +42,10 @@ split_seat-parted-requires c = let kv = keeper_of c.self.inside.seat.me.0 in
     )
 
 pub invariant_of-self-inside : goal.invariant_of-self-inside
-invariant_of-self-inside c = let played = c.load.ensures.2 c.args.slot c.place_of.ensures in search rules
+invariant_of-self-inside c = search arith
 
 pub invariant_of-reader-inside : goal.invariant_of-reader-inside
-invariant_of-reader-inside c = let played = c.load.ensures.2 c.args.slot c.place_of.ensures in search rules
+invariant_of-reader-inside c = search arith
 
 pub returns : goal.returns
-returns c = let played = c.load.ensures.2 c.args.slot c.place_of.ensures in search rules
+returns c = search arith

@@ -20,12 +20,10 @@ compare_exchange-found-requires c = let lt : c.args.slot < c.self.inside.shape.s
     )
 
 pub invariant_of-self-inside : goal.invariant_of-self-inside
-invariant_of-self-inside c = let played = c.compare_exchange-found.ensures.2 c.args.slot c.place_of.ensures in
-    search rules
+invariant_of-self-inside c = search arith
 
 pub returns-then-pins-gt0-clause-reclaims : goal.returns-then-pins-gt0-clause-reclaims
-returns-then-pins-gt0-clause-reclaims c = let played = c.compare_exchange-found.ensures.2 c.args.slot c.place_of.ensures
-    in search rules
+returns-then-pins-gt0-clause-reclaims c = search arith
 
 pub invariant_of-self-inside-2 : goal.invariant_of-self-inside-2
 invariant_of-self-inside-2 c = let played = c.compare_exchange-found.ensures.2 c.args.slot c.place_of.ensures in
@@ -56,5 +54,4 @@ invariant_of-self-inside-2 c = let played = c.compare_exchange-found.ensures.2 c
     let kept = rw (← written) at changed in search rules
 
 pub returns-clause-reclaims : goal.returns-clause-reclaims
-returns-clause-reclaims c = let played = c.compare_exchange-found.ensures.2 c.args.slot c.place_of.ensures in
-    search rules
+returns-clause-reclaims c = search arith

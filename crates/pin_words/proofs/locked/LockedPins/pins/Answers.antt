@@ -1,4 +1,4 @@
-use Rattle.pin_words.proofs.Cited.{◌≡◌, ◌∙◌, ap, arith, tally, tally-count, is_of_slot}
+use Rattle.pin_words.proofs.Cited.{◌≡◌, arith, tally, tally-count, is_of_slot}
 use Rattle.pin_words.proofs.locked.LockedPins.pins.Goals as goal
 
 pub prove-unreachable-requires : goal.prove-unreachable-requires
@@ -7,5 +7,4 @@ prove-unreachable-requires c = let e : c.pins_at-pins.result ≡ tally (is_of_sl
     let room = c.self.inside.room c.args.slot in let over = c.if-prove.true in omega arith
 
 pub returns-clause-count : goal.returns-clause-count
-returns-clause-count c = c.pins_at-pins.ensures ∙ (tally-count (is_of_slot c.args.slot) _
-    ∙ ap (tally (is_of_slot c.args.slot)) (c.as_slice.ensures.value ∙ ap (λ w. w.held) c.self.view_is))
+returns-clause-count c = search (arith, tally-count, is_of_slot, tally)

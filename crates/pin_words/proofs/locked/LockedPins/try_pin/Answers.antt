@@ -1,5 +1,6 @@
+use Rattle.std.proofs.Common.{arith}
 use Rattle.pin_words.proofs.Holdings.{got-held}
 use Rattle.pin_words.proofs.locked.LockedPins.try_pin.Goals as goal
 
 pub returns-in-Go-clause-held : goal.returns-in-Go-clause-held
-returns-in-Go-clause-held c = rw c.take.ensures (got-held c.args.id c.args.self.now.held)
+returns-in-Go-clause-held c = search (arith, got-held)

@@ -1,3 +1,4 @@
+use Rattle.std.proofs.Common.{arith}
 use Rattle.pin_words.proofs.Cited.{rules, ◌<◌}
 use Rattle.pin_words.proofs.ReaderSteps.{loads}
 use Rattle.pin_words.proofs.Owned.{key_at, pin_at}
@@ -11,10 +12,10 @@ load-requires c = let lt : c.args.slot < c.self.inside.shape.slots = search rule
 )
 
 pub invariant_of-self-inside : goal.invariant_of-self-inside
-invariant_of-self-inside c = let played = c.load.ensures.2 c.args.slot c.place_of.ensures in search rules
+invariant_of-self-inside c = search arith
 
 pub returns-clause-view : goal.returns-clause-view
-returns-clause-view c = let played = c.load.ensures.2 c.args.slot c.place_of.ensures in search rules
+returns-clause-view c = search arith
 
 pub returns-clause-tells : goal.returns-clause-tells
-returns-clause-tells c = let played = c.load.ensures.2 c.args.slot c.place_of.ensures in search rules
+returns-clause-tells c = search arith

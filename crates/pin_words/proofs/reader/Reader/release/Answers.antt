@@ -1,3 +1,4 @@
+use Rattle.std.proofs.Common.{arith}
 use Rattle.pin_words.proofs.Cited.{rules, ap, ◌<◌, tally, same_id, reader_of}
 use Rattle.pin_words.proofs.ReaderSteps.{releases-step}
 use Rattle.pin_words.proofs.Calls.{inside-less, released-one}
@@ -23,9 +24,7 @@ invariant_of-self-inside c = let one = released-one c.fetch_sub.result c.place_o
     search rules
 
 pub returns-clause-view : goal.returns-clause-view
-returns-clause-view c = let one = released-one c.fetch_sub.result c.place_of.result c.self.inside.seat.me
-    c.fetch_sub.new.seat.me c.args.id c.place_of.ensures c.self.inside.reads c.fetch_sub.ensures.2 (search rules) in
-    search rules
+returns-clause-view c = search (arith, released-one)
 
 pub returns-clause-steps : goal.returns-clause-steps
 returns-clause-steps c = rw (← c.self.view_is) (released-step c.fetch_sub.result c.place_of.result

@@ -35,9 +35,7 @@ invariant_of-self-inside c = let played = c.compare_exchange-seen.ensures.2 c.ar
     let popped : c.pop.new.self.items ≡ c.self.inside.held.items = search (arith, take-append_seam) in search rules
 
 pub returns-then-seen-found : goal.returns-then-seen-found
-returns-then-seen-found c = let played = c.compare_exchange-seen.ensures.2 c.args.id.slot c.place_of.ensures in
-    search rules
+returns-then-seen-found c = search arith
 
 pub returns-else-seen-found : goal.returns-else-seen-found
-returns-else-seen-found c = let played = c.compare_exchange-seen.ensures.2 c.args.id.slot c.place_of.ensures in
-    search rules
+returns-else-seen-found c = search arith

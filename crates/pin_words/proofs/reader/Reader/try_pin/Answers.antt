@@ -1,3 +1,4 @@
+use Rattle.std.proofs.Common.{arith}
 use Rattle.pin_words.proofs.Cited.{rules, ◌≡◌, ◌<◌, ℕ, Id, decoded, ReaderView, verdict_of, reader_looked, TellsReader}
 use Rattle.pin_words.specs.declared.fault.Verdict.TheVariants as verdict
 use Rattle.pin_words.proofs.Holdings.{got-held}
@@ -5,7 +6,7 @@ use Rattle.pin_words.proofs.Stepping.{load-step, pin-step, hold-after}
 use Rattle.pin_words.proofs.reader.Reader.try_pin.Goals as goal
 
 pub returns-then-seen-found-clause-held : goal.returns-then-seen-found-clause-held
-returns-then-seen-found-clause-held c = rw (c.take-seen.ensures.won c.if-seen-found.true) (got-held c.args.id _)
+returns-then-seen-found-clause-held c = search (arith, got-held)
 
 pub returns-then-seen-found-clause-pinned : goal.returns-then-seen-found-clause-pinned
 returns-then-seen-found-clause-pinned c =
