@@ -12,13 +12,6 @@ any_at p d (x ∷ xs) h = elim (cases_Bool (p x)) [
   | inr is ↦ let r = any_at p d xs (grind arith) in (suc r.0, (let lt = r.1 in omega arith), r.2)
 ]
 
-module _ (ws : List (Option Wait)) (w : Wait) where
-  -- each number's wait is what it was, or the new one, or none
-  pub by_number : (P : ℕ → Option Wait → Type 0) → ((n : ℕ) → n < length ws → P n (get_or ws n None))
-      → P (length ws) (Some w) → ((n : ℕ) → length ws < n → P n None) → (n : ℕ)
-      → P n (get_or (ws ++ Some w ∷ []) n None)
-  by_number P old new past n = search (arith, get_or_append_left, get_or_past, get_or_push, length_push)
-
 -- The theorem: a wait of a thread that had none is tracked, where the lists have its number as they must.
 pub tracked_came : (limit : ℕ) (ws : List (Option Wait)) (r r' : PendingIndex) (w : Wait) → 0 < length ws
     → length ws ≤ limit

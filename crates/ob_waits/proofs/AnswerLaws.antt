@@ -45,9 +45,6 @@ told_fresh ws n u u' queue out_of_order rising told = record {
 
 -- a wait goes
 module _ (ws : List (Option Wait)) (n t : ℕ) (own : thread_of (get_or ws n None) ≡ Some t) where
-  was : (m s : ℕ) → thread_of (get_or (set ws n None) m None) ≡ Some s → thread_of (get_or ws m None) ≡ Some s
-  was m s h = search (arith, get_or-set_same, get_or_past, get_or-set_other)
-
   pub told_gone : (u : AnsweredNumbers) → get_or u.out_of_order t None ≢ Some n → AreTold ws u
       → AreTold (set ws n None) u
   told_gone u free told = record {

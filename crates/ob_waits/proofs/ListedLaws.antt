@@ -1,7 +1,5 @@
 -- What a list that a function gives has at each number, and how it changes with the function.
-use Rattle.ob_codec.proofs.AtPlace.{at_place}
-use Rattle.std.proofs.lemmas.Bool.Decides.{nat_tests}
-use Rattle.ob_waits.proofs.Cited.{◌≡◌, ℕ, zero, suc, ◌<◌, [], ◌∷◌, ◌++◌, length, Option, None, refl, arith, get_or, set, cond, eqb, length-set, length_push, set_past, get_or_past, get_or-set_same, get_or-set_other, ext_get_or, cond-false, cond-true, eq-eqb, ne_eqb, IsSparse}
+use Rattle.ob_waits.proofs.Cited.{at_place, nat_tests, ◌≡◌, ℕ, zero, suc, ◌<◌, [], ◌∷◌, ◌++◌, length, Option, None, refl, arith, get_or, set, cond, eqb, length-set, length_push, set_past, get_or_past, get_or-set_same, get_or-set_other, ext_get_or, cond-false, cond-true, eq-eqb, ne_eqb, IsSparse}
 use Rattle.ob_waits.specs.Listed.{listed}
 
 module _ {A : Type 0} where
@@ -25,24 +23,11 @@ module _ {A : Type 0} where
   pub value_at : (n : ℕ) (f : ℕ → Option A) (k : ℕ) → IsSparse n f → get_or (listed (suc n) f) k None ≡ f k
   value_at n f k s = search (arith, length_listed, get_or-listed, get_or_past)
 
-  -- one number's value changed
-  pub listed_changed : (n : ℕ) (f g : ℕ → Option A) (k : ℕ) (x : Option A) → k < suc n → g k ≡ x
-      → ((i : ℕ) → (i ≡ k → ⊥) → g i ≡ f i) → listed (suc n) g ≡ set (listed (suc n) f) k x
-  listed_changed n f g k x lt here others = ext_get_or None _ _ (search (arith, length_listed, length-set))
-      (search (arith, length_listed, get_or-listed, get_or-set_other, get_or-set_same))
-
-  -- one more number
-  pub listed_more : (n : ℕ) (f g : ℕ → Option A) (x : Option A) → g (suc n) ≡ x
-      → ((i : ℕ) → (i ≡ suc n → ⊥) → g i ≡ f i) → listed (suc (suc n)) g ≡ listed (suc n) f ++ x ∷ []
-  unfolding listed
-  listed_more n f g x here others = search (arith, listed_by)
-
-  here : (f g : ℕ → Option A) (k : ℕ) (x : Option A) → ((q : ℕ) → g q ≡ cond (eqb k q) x (f q)) → g k ≡ x
-  here f g k x changed = search (arith, cond-true, eq-eqb)
-
+  -- one number's value changed, or one more number
   pub listed_updated : (n : ℕ) (f g : ℕ → Option A) (k : ℕ) (x : Option A) → k < suc n
       → ((q : ℕ) → g q ≡ cond (eqb k q) x (f q)) → listed (suc n) g ≡ set (listed (suc n) f) k x
-  listed_updated n f g k x lt changed = search (arith, listed_changed, cond-false, ne_eqb, cond-true, eq-eqb)
+  listed_updated n f g k x lt changed = ext_get_or None _ _ (search (arith, length_listed, length-set))
+      (search (arith, length_listed, get_or-listed, get_or-set_other, get_or-set_same, cond-false, ne_eqb, cond-true, eq-eqb))
 
   pub listed_removed : (n : ℕ) (f g : ℕ → Option A) (k : ℕ) → ((q : ℕ) → g q ≡ cond (eqb k q) None (f q))
       → listed (suc n) g ≡ set (listed (suc n) f) k None
@@ -50,4 +35,5 @@ module _ {A : Type 0} where
 
   pub listed_inserted : (n k : ℕ) (f g : ℕ → Option A) (x : Option A) → k ≡ suc n
       → ((q : ℕ) → g q ≡ cond (eqb k q) x (f q)) → listed (suc k) g ≡ listed (suc n) f ++ x ∷ []
-  listed_inserted n k f g x is changed = search (arith, listed_more, cond-true, eq-eqb)
+  unfolding listed
+  listed_inserted n k f g x is changed = search (arith, listed_by, cond-true, eq-eqb, cond-false, ne_eqb)

@@ -16,7 +16,7 @@ within_either n m [] i = search arith
 within_either n m (x ∷ ns) i = search (arith, within_either n m ns)
 
 pub rising_push : (m : ℕ) (ns : List ℕ) → ((k : ℕ) → Within k ns → k < m) → IsRising ns → IsRising (ns ++ m ∷ [])
-rising_push m [] below r = ((λ k later. absurd later), tt)
+rising_push m [] below r = search arith
 rising_push m (x ∷ ns) below r = (
   (λ k later. grind (arith, within_either k m ns, r.0 k, below x)),
   rising_push m ns
@@ -78,8 +78,7 @@ replaced {l = l} {m = m} {start = start} {end = end} items sizes in_order unequa
     record {
       front = drop start (take (length items - 1) items);
       was = ap (drop start) (split_last items (omega arith)) ∙ search (arith, drop-append-le);
-      is = ap (λ i. drop start (set items i m)) at ∙ ap (drop start) (split_set m items (omega arith)) ∙
-          drop-append-le start _ _ within;
+      is = rw (at, split_set m items (omega arith)) (drop-append-le start _ _ within);
     }
 
 module _ {l m : ℕ} {old new : List ℕ} (r : IsReplaced l m old new) where
@@ -97,36 +96,6 @@ module _ {l m : ℕ} {old new : List ℕ} (r : IsReplaced l m old new) where
   pub below_pending : (waits : List (Option Wait)) → is_pending (get_or waits l None) ≡ true
       → is_pending (get_or waits m None) ≡ false → IsOrdered m old → (k : ℕ) → Within k old → k < m
   below_pending waits pending fresh o k i = search (arith, within_last, within_either, below_last, r.was)
-
--- the numbers that pass, of the first ones, so many, and all others
-module _ (p : ℕ → Bool) where
-  abbrev sifted : ℕ → List ℕ → List ℕ
-  sifted zero ns = ns
-  sifted (suc i) [] = []
-  sifted (suc i) (x ∷ ns) = cond (p x) (x ∷ sifted i ns) (sifted i ns)
-
-  sifted_is : (i : ℕ) (ns : List ℕ) → filter p (take i ns) ++ drop i ns ≡ sifted i ns
-  sifted_is zero ns = refl
-  sifted_is (suc i) [] = refl
-  sifted_is (suc i) (x ∷ ns) = search (arith, sifted_is i ns)
-
-  sifted_within : (k i : ℕ) (ns : List ℕ) → Within k (sifted i ns) → Within k ns
-  sifted_within k zero ns w = w
-  sifted_within k (suc i) [] w = w
-  sifted_within k (suc i) (x ∷ ns) w = search (arith, sifted_within k i ns)
-
-  within_sifted : (k i : ℕ) (ns : List ℕ) → p k ≡ true → Within k ns → Within k (sifted i ns)
-  within_sifted k zero ns passes w = w
-  within_sifted k (suc i) [] passes w = w
-  within_sifted k (suc i) (x ∷ ns) passes w = search (arith, within_sifted k i ns passes)
-
-  sifted_rising : (i : ℕ) (ns : List ℕ) → IsRising ns → IsRising (sifted i ns)
-  sifted_rising zero ns r = r
-  sifted_rising (suc i) [] r = r
-  sifted_rising (suc i) (x ∷ ns) r = elim (cases_Bool (p x)) [
-    | inl is ↦ rw is ((λ k later. r.0 k (sifted_within k i ns later)), sifted_rising i ns r.1)
-    | inr is ↦ rw is (sifted_rising i ns r.1)
-  ]
 
 -- from the end of a part backwards: what passes, of the numbers from a place on, stands before the rest
 pub record IsSifted (p : ℕ → Bool) (xs : List ℕ) (end at to : ℕ) (ys : List ℕ) : Type 0 where
@@ -155,9 +124,25 @@ module _ (p : ℕ → Bool) (xs : List ℕ) (end : ℕ) where
 pub thins_none : (waits : List (Option Wait)) (numbers : List ℕ) → Thins waits numbers numbers
 thins_none waits numbers = search arith
 
+-- of the first numbers, so many, those stay that pass
+thins_more : (waits : List (Option Wait)) (x : ℕ) (ns front back : List ℕ) (b : Bool) → b ≡ has_pending waits x
+    → Thins waits ns (front ++ back) → Thins waits (x ∷ ns) (cond b (x ∷ front) front ++ back)
+thins_more waits x ns front back true is t = record {
+  rising = λ r. ((λ k w. r.0 k (t.only k w)), t.rising r.1);
+  only = λ k. grind (arith, t.only k);
+  keeps = λ k. grind (arith, t.keeps k);
+}
+thins_more waits x ns front back false is t = record {
+  rising = λ r. t.rising r.1;
+  only = λ k w. inr (t.only k w);
+  keeps = λ k. grind (arith, t.keeps k);
+}
+
 pub thins_front : (waits : List (Option Wait)) (count : ℕ) (numbers new : List ℕ)
     → new ≡ filter (has_pending waits) (take count numbers) ++ drop count numbers → Thins waits numbers new
-thins_front waits count numbers new is = search (arith, sifted_is, sifted_within, within_sifted, sifted_rising)
+thins_front waits zero ns new is = search arith
+thins_front waits (suc n) [] new is = search arith
+thins_front waits (suc n) (x ∷ ns) new is = rw is (thins_more waits x ns _ (drop n ns) _ refl (thins_front waits n ns _ refl))
 
 -- a first number whose wait is not pending leaves
 pub thins_first : (waits : List (Option Wait)) (ns : List ℕ) (i : ℕ) → i < length ns

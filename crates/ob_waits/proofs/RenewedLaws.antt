@@ -1,6 +1,7 @@
 -- What renewing waits keeps: their order, each count over them, the rules of waits, and each thread's wait; and how
 -- waits are copied one after another.
-use Rattle.ob_waits.proofs.Cited.{at_place, ◌≡◌, ℕ, zero, suc, ◌+◌, ◌-◌, ◌<◌, ◌≤◌, true, false, List, [], ◌∷◌, ◌++◌, length, take, Option, Some, None, refl, ap, arith, get_or, eqb, list_any, is_some, sum_by, append-nil, get_or-take, length-take, take_all, count_by-le-length, length-filter, sum_by-cons, Id, Body, Wait, IsSettled, WaitHasRoom, WaitWaitable, WaitsHaveRoom, WaitsInvariant, thread_of, blocks_among, blocks_in, is_ready, number_of, renewed, slot_blocks, standing}
+use Rattle.ob_waits.proofs.Cited.{at_place, nat_tests, take_more, get_or_past, ◌≡◌, ℕ, zero, suc, ◌+◌, ◌-◌, ◌<◌, ◌≤◌, true, false, List, [], ◌∷◌, ◌++◌, length, take, Option, Some, None, refl, ap, arith, get_or, eqb, list_any, is_some, sum_by, append-nil, get_or-take, length-take, take_all, count_by-le-length, length-filter, sum_by-cons, Id, Body, Wait, IsSettled, WaitHasRoom, WaitWaitable, WaitsHaveRoom, WaitsInvariant, thread_of, blocks_among, blocks_in, is_ready, number_of, renewed, slot_blocks, standing}
+use Rattle.std.proofs.lemmas.List.Elements.{filter-append}
 use Rattle.std.proofs.lemmas.Map.Steps.{length-le_from_distinct_below}
 use Rattle.ob_waits.specs.SpellingLaws.{distinct, threads_of}
 use Rattle.ob_waits.proofs.StandingLaws.{ones}
@@ -21,8 +22,7 @@ blocks_renewed id ws = sum_renewed (blocks_in id) ws refl
 each_standing : (P : Option Wait → Type 0) (ws : List (Option Wait)) → P None → ((n : ℕ) → P (get_or ws n None))
     → (n : ℕ) → P (get_or (standing ws) n None)
 each_standing P [] none each n = none
-each_standing P (None ∷ ws) none each n = each_standing P ws none (λ k. each (suc k)) n
-each_standing P (Some w ∷ ws) none each n = search (arith, each 0, each_standing P ws none (λ k. each (suc k)))
+each_standing P (w ∷ ws) none each n = search (arith, each 0, each_standing P ws none (λ k. each (suc k)))
 
 pub each_renewed : (P : Option Wait → Type 0) (ws : List (Option Wait)) → P None → ((n : ℕ) → P (get_or ws n None))
     → (n : ℕ) → P (get_or (renewed ws) n None)
@@ -38,36 +38,9 @@ pub settled_renewed : (bodies : List (Option Body)) (ws : List (Option Wait)) �
 settled_renewed bodies ws settled = record { each = each_renewed (λ w. is_ready bodies w ≡ false) ws refl settled.each }
 
 -- a thread without a wait has none then
-none_standing : (t : ℕ) (ws : List (Option Wait)) → ((n : ℕ) → thread_of (get_or ws n None) ≡ Some t → ⊥) → (n : ℕ)
-    → thread_of (get_or (standing ws) n None) ≡ Some t → ⊥
-none_standing t ws = each_standing (λ w. thread_of w ≡ Some t → ⊥) ws (λ own. absurd (cc own))
-
 pub alone_renewed : (t : ℕ) (ws : List (Option Wait)) → number_of t ws ≡ None → number_of t (renewed ws) ≡ None
 alone_renewed t ws none = number_none (renewed ws) t (each_renewed (λ w. thread_of w ≡ Some t → ⊥) ws
     (λ own. absurd (cc own)) (λ n. no_number t ws n none))
-
--- and no thread has two
-one_standing : (ws : List (Option Wait))
-    → ((n m t : ℕ) → thread_of (get_or ws n None) ≡ Some t → thread_of (get_or ws m None) ≡ Some t → n ≡ m)
-    → (n m t : ℕ) → thread_of (get_or (standing ws) n None) ≡ Some t
-    → thread_of (get_or (standing ws) m None) ≡ Some t → n ≡ m
-one_standing [] one n m t p q = absurd (cc p)
-one_standing (None ∷ ws) one n m t p q = one_standing ws (λ i j u a b. omega (arith, one (suc i) (suc j) u a b)) n m t
-    p q
-one_standing (Some w ∷ ws) one zero zero t p q = refl
-one_standing (Some w ∷ ws) one zero (suc m) t p q = absurd (none_standing t ws
-    (λ k a. omega (arith, one zero (suc k) t p a)) m q)
-one_standing (Some w ∷ ws) one (suc n) zero t p q = absurd (none_standing t ws
-    (λ k a. omega (arith, one zero (suc k) t q a)) n p)
-one_standing (Some w ∷ ws) one (suc n) (suc m) t p q = ap suc
-    (one_standing ws (λ i j u a b. omega (arith, one (suc i) (suc j) u a b)) n m t p q)
-
-pub kept_renewed : (ws : List (Option Wait)) → WaitsInvariant ws → WaitsInvariant (renewed ws)
-kept_renewed ws kept = record {
-  each = each_renewed WaitWaitable ws tt kept.each;
-  one_each = search
-      (arith, one_standing ws kept.one_each);
-}
 
 -- no more waits stand than there are threads
 standing_long : (ws : List (Option Wait)) → length (standing ws) ≡ length (threads_of ws)
@@ -78,9 +51,7 @@ threads_below : (threads : ℕ) (ws : List (Option Wait))
     → ((n t : ℕ) → thread_of (get_or ws n None) ≡ Some t → t < threads) → (t : ℕ)
     → list_any (eqb t) (threads_of ws) ≡ true → t < threads
 threads_below threads [] each t has = absurd cc
-threads_below threads (None ∷ ws) each t has = threads_below threads ws (λ n. each (suc n)) t has
-threads_below threads (Some w ∷ ws) each t has =
-    grind (arith, each zero w.thread refl, threads_below threads ws (λ n. each (suc n)) t)
+threads_below threads (w ∷ ws) each t has = grind (arith, nat_tests, each zero t, threads_below threads ws (λ n. each (suc n)) t)
 
 pub few_renewed : (threads : ℕ) (ws : List (Option Wait)) → WaitsInvariant ws
     → ((n t : ℕ) → thread_of (get_or ws n None) ≡ Some t → t < threads) → length (renewed ws) ≤ threads + 1
@@ -92,10 +63,7 @@ few_renewed threads ws kept each =
 -- what stands below a number, and what stands there
 one_more : (k : ℕ) (ws : List (Option Wait))
     → standing (take (suc k) ws) ≡ standing (take k ws) ++ standing (get_or ws k None ∷ [])
-one_more zero [] = refl
-one_more (suc k) [] = refl
-one_more zero (w ∷ ws) = refl
-one_more (suc k) (w ∷ ws) = search (arith, one_more k ws)
+one_more k ws = grind (arith, take_more ws k None, filter-append {X = Option Wait} is_some, take_all, get_or_past, append-nil)
 
 none_more : (d k : ℕ) (ws : List (Option Wait)) → ((i : ℕ) → k ≤ i → i < k + d → is_some (get_or ws i None) ≡ true → ⊥)
     → standing (take (k + d) ws) ≡ standing (take k ws)
@@ -121,10 +89,9 @@ copied_all ws last none =
 pub alone_before : (ws : List (Option Wait)) (last n : ℕ) (w : Wait) → WaitsInvariant ws → last < n
     → get_or ws n None ≡ Some w → number_of w.thread (renewed (take (suc last) ws)) ≡ None
 alone_before ws last n w kept above is =
-    alone_renewed w.thread (take (suc last) ws) (number_none (take (suc last) ws) w.thread (λ m own.
-    let lt = has_wait (take (suc last) ws) m w.thread own in
-    let long = length-take (suc last) ws in
-    grind (arith, lt, long, get_or-take (suc last) ws m None, kept.one_each m n w.thread)))
+    alone_renewed w.thread (take (suc last) ws) (number_none (take (suc last) ws) w.thread
+    (λ m own. grind (arith, has_wait (take (suc last) ws) m w.thread, length-take (suc last) ws,
+    get_or-take (suc last) ws m None, kept.one_each m n w.thread)))
 
 -- and a number is left for it
 pub room_before : (ws : List (Option Wait)) (last n limit : ℕ) (w : Wait) → get_or ws 0 None ≡ None

@@ -1,5 +1,5 @@
 -- Waits are written as their rows stand, by rising number.
-use Rattle.ob_waits.proofs.Cited.{◌≡◌, ℕ, zero, suc, ◌+◌, ◌-◌, ◌<◌, ◌≤◌, ◌^◌, true, List, [], ◌∷◌, ◌++◌, length, drop, Option, None, refl, arith, append_assoc, get_or, AllByRecursion, flat_map, is_some, drop_all, length-append, SparseFits, entries_from, row_of, RowFits, WaitFits, row_text, Wait}
+use Rattle.ob_waits.proofs.Cited.{◌≡◌, ℕ, zero, suc, ◌+◌, ◌-◌, ◌<◌, ◌≤◌, ◌^◌, true, List, [], ◌∷◌, ◌++◌, length, drop, Option, None, refl, arith, append_assoc, get_or, AllByRecursion, flat_map, is_some, drop_all, get_or_past, length-append, SparseFits, entries_from, row_of, RowFits, WaitFits, row_text, Wait}
 use Rattle.std.proofs.lemmas.Grind.{flat_map-append}
 
 -- the rows behind a number
@@ -8,8 +8,7 @@ rows_behind last ws = entries_from (suc last) (drop (suc last) ws)
 
 one_row : (j k : ℕ) (ws : List (Option Wait))
     → entries_from j (drop k ws) ≡ row_of j (get_or ws k None) ++ entries_from (suc j) (drop (suc k) ws)
-one_row j zero [] = refl
-one_row j (suc k) [] = refl
+one_row j k [] = search (arith, drop_all, get_or_past)
 one_row j zero (w ∷ ws) = search arith
 one_row j (suc k) (x ∷ ws) = one_row j k ws
 
@@ -19,16 +18,12 @@ no_rows zero k ws none = search arith
 no_rows (suc d) k ws none =
     search (arith, one_row, no_rows d (suc k) ws (λ i le lt. none i (omega arith) (omega arith)))
 
-without : (w : Option Wait) → (is_some w ≡ true → ⊥) → w ≡ None
-without = search arith
-
 -- the next number has the next row, if it has one
 pub row_next : (last n : ℕ) (ws : List (Option Wait)) → last < n
     → ((k : ℕ) → is_some (get_or ws k None) ≡ true → last < k → n ≤ k)
     → rows_behind last ws ≡ row_of n (get_or ws n None) ++ rows_behind n ws
 row_next last n ws above least =
-    let none = no_rows (n - suc last) (suc last) ws (λ i le lt. without (get_or ws i None)
-    (λ has. omega (arith, least i has (omega arith)))) in
+    let none = no_rows (n - suc last) (suc last) ws (λ i le lt. grind (arith, least i)) in
     search (arith, one_row n n ws, none)
 
 pub row_none : (last : ℕ) (ws : List (Option Wait)) → ((k : ℕ) → is_some (get_or ws k None) ≡ true → last < k → ⊥)

@@ -6,8 +6,7 @@ use Rattle.ob_waits.proofs.number_map.NumberMap.put.Goals as goal
 pub returns-in_err-put_at-clause-number_map : goal.returns-in_err-put_at-clause-number_map
 returns-in_err-put_at-clause-number_map c =
     let f = c.make_way.new.self in
-    let m = f.mask in
-    let same = unput m f.places.items c.make_places.new.places.items c.args.entry c.index_mut.result.now
+    let same = unput f.mask f.places.items c.make_places.new.places.items c.args.entry c.index_mut.result.now
     c.put_at.new.place c.in_ok-make_places.ensures.made c.in_ok-make_places.ensures.same c.index_mut.ensures.value
     c.in_err-put_at.ensures.kept in
     search arith
@@ -16,9 +15,7 @@ pub returns-in_err-put_at-clause-err : goal.returns-in_err-put_at-clause-err
 returns-in_err-put_at-clause-err c = grind (arith, unput)
 
 pub returns-clause-number_map : goal.returns-clause-number_map
-returns-clause-number_map c =
-    let f = c.make_way.new.self in
-    search (arith, put_placed)
+returns-clause-number_map c = search (arith, put_placed, c.in_ok-make_way.ensures.number_map)
 
 pub returns-clause-ok : goal.returns-clause-ok
 returns-clause-ok c n =
