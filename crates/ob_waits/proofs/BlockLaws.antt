@@ -30,8 +30,7 @@ ordered_below : (low m : ℕ) (ns : List ℕ) → IsRising ns → ((k : ℕ) →
     → ((k : ℕ) → Within k ns → k ≤ m) → length ns ≤ suc m - low
 ordered_below low m [] r above below = omega arith
 ordered_below low m (x ∷ ns) r above below =
-    let rest = ordered_below (suc x) m ns r.1 (λ k i. r.0 k i) (λ k i. below k (inr i)) in
-    omega (arith, rest, above x (inl refl), below x (inl refl))
+    grind (arith, ordered_below (suc x) m ns r.1 r.0 (λ k i. below k (inr i)), above x, below x)
 
 -- a list has no more numbers than there are
 pub length-ordered : (m : ℕ) (ns : List ℕ) → IsOrdered m ns → length ns ≤ suc m

@@ -1,14 +1,10 @@
 -- How the numbers of blocks change with the waits, by slot and by Id.
-use Rattle.ob_codec.proofs.AtPlace.{at_place}
-use Rattle.std.proofs.lemmas.Bool.Decides.{nat_tests}
-use Rattle.ob_waits.proofs.Cited.{◌≡◌, ℕ, ◌+◌, ◌*◌, ◌<◌, ◌≤◌, List, [], ◌∷◌, ◌++◌, length, Option, Some, None, refl, ap, ◌∙◌, arith, get_or, set, map, true, cond, count_by, sum_by, ◌==◌, list_any, length-set, length-map, get_or_past, ext_get_or, sum_by-cons, sum_by-append, sum_by-le, get_or-le-sum_by, count_by-le-length, Id, Mode, Wait, WaitsInvariant, nowhere, new_wait, answered, ids_of, names_slot, slot_places, slot_blocks, blocks_in, blocks_among, Scene, is_ready, effect, settled, number_of, numbered_ids, thread_ids, is_waits_of, unless_of}
-use Rattle.std.proofs.lemmas.List.{get_or-map}
+use Rattle.ob_waits.proofs.Cited.{at_place, nat_tests, get_or-map, ◌≡◌, ℕ, ◌+◌, ◌*◌, ◌<◌, ◌≤◌, List, [], ◌∷◌, ◌++◌, length, Option, Some, None, refl, ap, ◌∙◌, arith, get_or, set, map, true, cond, count_by, sum_by, ◌==◌, list_any, length-set, length-map, get_or_past, ext_get_or, sum_by-cons, sum_by-append, sum_by-le, get_or-le-sum_by, count_by-le-length, Id, Mode, Wait, WaitsInvariant, nowhere, new_wait, answered, ids_of, names_slot, slot_places, slot_blocks, blocks_in, blocks_among, Scene, is_ready, effect, settled, number_of, numbered_ids, thread_ids, is_waits_of, unless_of}
 use Rattle.std.proofs.lemmas.List.Elements.{All-from_get_or}
-use Rattle.std.proofs.lemmas.List.Quantifiers.{position-Some}
 use Rattle.pin_core.specs.Holds.{same_id}
 use Rattle.ob_waits.proofs.BlockLaws.{sum_cleared}
 use Rattle.ob_waits.proofs.Settling.{settled_by_effects}
-use Rattle.ob_waits.proofs.TrackedLaws.{waits_thread, no_number}
+use Rattle.ob_waits.proofs.TrackedLaws.{no_number, number_own}
 
 -- a wait becomes pending
 pub slot_added : (k : ℕ) (ws : List (Option Wait)) (t : ℕ) (mode : Mode) (ids : List Id) (d : Option ℕ)
@@ -41,14 +37,12 @@ blocks_removed id ws n = search (arith, sum_cleared)
 pub dropped_found : (ws : List (Option Wait)) (t n : ℕ) → WaitsInvariant ws → number_of t ws ≡ Some n
     → map (unless_of t) ws ≡ set ws n None
 dropped_found ws t n kept found =
-    let at = position-Some (is_waits_of t) ws n None found in
-    ext_get_or None _ _ (search (arith, length-map, length-set))
-    (λ i lt. let own = waits_thread t (get_or ws n None) at.1 in let long = length-map ws (unless_of t) in
-    grind (arith, nat_tests, at_place, get_or-map (unless_of t) ws i None None, own, kept.one_each i n t, long))
+    ext_get_or None _ _ (search (arith, length-map, length-set)) (λ i lt. grind (arith, nat_tests, at_place,
+    get_or-map (unless_of t) ws i None, number_own ws t n, kept.one_each i n t, length-map ws (unless_of t)))
 
 pub dropped_missing : (ws : List (Option Wait)) (t : ℕ) → number_of t ws ≡ None → map (unless_of t) ws ≡ ws
 dropped_missing ws t none = ext_get_or None _ _ (length-map ws (unless_of t))
-    (λ i lt. grind (arith, get_or-map (unless_of t) ws i None None, no_number t ws i none, length-map ws (unless_of t)))
+    (λ i lt. grind (arith, get_or-map (unless_of t) ws i None, no_number t ws i none, length-map ws (unless_of t)))
 
 sum_dropped : (f : Option Wait → ℕ) (g : List Id → ℕ) → ((w : Option Wait) → f w ≡ g (ids_of w)) → g [] ≡ 0
     → (t : ℕ) (ws : List (Option Wait)) → WaitsInvariant ws →
@@ -79,8 +73,7 @@ places_named k (x ∷ xs) h =
 -- each place of a list counts in its slot
 pub places_at : (ids : List Id) (i : ℕ) → i < length ids → 0 < slot_places (get_or ids i nowhere).slot ids
 places_at ids i lt =
-    let le = get_or-le-sum_by (λ (x : Id). cond (x.slot == (get_or ids i nowhere).slot) 1 0) ids i nowhere lt in
-    grind (arith, nat_tests, le)
+    grind (arith, nat_tests, get_or-le-sum_by (λ (x : Id). cond (x.slot == (get_or ids i nowhere).slot) 1 0) ids i nowhere)
 
 pub wait_counts : (k n : ℕ) (ws : List (Option Wait)) → slot_places k (ids_of (get_or ws n None)) ≤ slot_blocks k ws
 wait_counts k n ws = search (arith, get_or-le-sum_by, get_or_past)

@@ -17,7 +17,7 @@ ends_left id objects has = grind (arith, nat_tests, at_place, has.each)
 
 pub ends_all : (ids : List Id) (objects : CountedBodies) → HasBodies objects → HasBodies (without_blocks objects ids)
 ends_all [] objects has = has
-ends_all (id ∷ ids) objects has = ends_all ids (without_block objects id) (ends_left id objects has)
+ends_all (id ∷ ids) objects has = search (arith, ends_all ids, ends_left)
 
 ends_at : (scene : Scene) (n : ℕ) (w : Option Wait) → HasBodies scene.objects → HasBodies (effect_at scene n w).objects
 ends_at = search (arith, ends_taken, ends_all)

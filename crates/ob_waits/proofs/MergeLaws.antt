@@ -10,18 +10,14 @@ use Rattle.ob_waits.proofs.NumberLaws.{within_at}
 -- the first of some numbers that is above the last
 rising_at : (ns : List ℕ) → IsRising ns → (i j d : ℕ) → i ≤ j → j < length ns → get_or ns i d ≤ get_or ns j d
 rising_at [] r i j d le lt = absurd (omega arith)
-rising_at (x ∷ ns) r zero zero d le lt = omega arith
-rising_at (x ∷ ns) r zero (suc j) d le lt =
-    grind (arith, r.0 (get_or ns j 0) (within_at ns j (omega arith)), get_or_default ns j d 0)
-rising_at (x ∷ ns) r (suc i) zero d le lt = absurd (omega arith)
+rising_at (x ∷ ns) r i zero d le lt = search arith
+rising_at (x ∷ ns) r zero (suc j) d le lt = grind (arith, r.0 (get_or ns j 0), within_at ns j, get_or_default ns j d 0)
 rising_at (x ∷ ns) r (suc i) (suc j) d le lt = rising_at ns r.1 i j d (omega arith) (omega arith)
 
 within_index : (k : ℕ) (ns : List ℕ) → Within k ns → (i : ℕ) × (i < length ns) × (get_or ns i 0 ≡ k)
 within_index k [] w = absurd w
-within_index k (x ∷ ns) w = elim w [
-  | inl same ↦ (zero, omega arith, sym same)
-  | inr later ↦ let at = within_index k ns later in (suc at.0, (let lt = at.1 in omega arith), at.2)
-]
+within_index k (x ∷ ns) (inl same) = (zero, omega arith, sym same)
+within_index k (x ∷ ns) (inr later) = let at = within_index k ns later in (suc at.0, (let lt = at.1 in omega arith), at.2)
 
 pub parted : (ns : List ℕ) (last : ℕ) → IsRising ns → IsPartitionedBy (λ n. leb n last) ns
 parted ns last r = search (arith, rising_at)

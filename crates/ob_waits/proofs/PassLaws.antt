@@ -1,7 +1,8 @@
 -- Numbers take effect one after another where they are ready: that is settling, as long as none that is ready is below
 -- the next.
-use Rattle.ob_waits.proofs.Cited.{at_place, ◌≡◌, ℕ, zero, suc, ◌+◌, ◌<◌, ◌≤◌, List, [], ◌∷◌, length, Option, Some, None, refl, subst, arith, drop, eqb, get_or, set, Bool, true, false, list_any, ◌&&◌, not, IfSome, drop_all, drop_more, list_any_at, count_by-le-length, fails_before_first, passes_at_first, true_from_ne_false, Id, Body, Mode, Pending, Wait, numbers_of, Thins, CountedBodies, slot_signaled, AreIndexed, Covers, IsOnlyIn, IsReadyAt, IsReadyBy, IsRising, IsSettled, IsSpent, thread_of, nowhere, Scene, answered, is_ready, is_pending, ids_of, first_ready, first_signaled, effect, passed, settled, settled_within}
+use Rattle.ob_waits.proofs.Cited.{inl, inr, at_place, ◌≡◌, ℕ, zero, suc, ◌+◌, ◌<◌, ◌≤◌, List, [], ◌∷◌, length, Option, Some, None, refl, subst, arith, drop, eqb, get_or, set, Bool, true, false, list_any, ◌&&◌, not, IfSome, drop_all, drop_more, list_any_at, count_by-le-length, fails_before_first, passes_at_first, true_from_ne_false, Id, Body, Mode, Pending, Wait, numbers_of, Thins, CountedBodies, slot_signaled, AreIndexed, Covers, IsOnlyIn, IsReadyAt, IsReadyBy, IsRising, IsSettled, IsSpent, thread_of, nowhere, Scene, answered, is_ready, is_pending, ids_of, first_ready, first_signaled, effect, passed, settled, settled_within}
 use Rattle.std.specs.Bool.{if◌then◌else◌}
+use Rattle.std.proofs.lemmas.Bool.{cases_Bool}
 use Rattle.ob_waits.specs.declared.wait.Mode.TheVariants.{Any}
 use Rattle.ob_waits.proofs.Keeping.{Fade}
 use Rattle.ob_waits.proofs.NumberLaws.{thins_both, thins_first}
@@ -38,8 +39,7 @@ steps m s least = search (arith, settled_next, was_ready)
 -- the numbers of a list from an index on
 rising_drop : (i : ℕ) (ns : List ℕ) → IsRising ns → IsRising (drop i ns)
 rising_drop zero ns r = r
-rising_drop (suc i) [] r = r
-rising_drop (suc i) (x ∷ ns) r = rising_drop i ns r.1
+rising_drop (suc i) ns r = grind (arith, rising_drop i)
 
 pub record StepsOn (ns : List ℕ) (i : ℕ) (s after : Scene) : Type 0 where
   pub same : settled after ≡ settled s
@@ -92,16 +92,14 @@ covers_slot objects slot ws order index at a = record {
 -- an effect signals nothing, and what it answers isn't ready
 pub by_passed : (changed : ℕ → Bool) (m : ℕ) (s : Scene) → IsReadyBy changed s.objects.bodies s.waits
     → IsReadyBy changed (passed (m ∷ []) s).objects.bodies (passed (m ∷ []) s).waits
-by_passed changed m s r = by (is_ready s.objects.bodies (get_or s.waits m None)) refl
-  where
-    by : (b : Bool) → is_ready s.objects.bodies (get_or s.waits m None) ≡ b
-        → IsReadyBy changed (passed (m ∷ []) s).objects.bodies (passed (m ∷ []) s).waits
-    by false none = rw none r
-    by true ready = let a = answers s m ready in rw ready (record {
+by_passed changed m s r = elim (cases_Bool (is_ready s.objects.bodies (get_or s.waits m None))) [
+  | inl ready ↦ let a = answers s m ready in rw ready (record {
       before = r.before;
       settled = search (arith, settled_replaced);
       less = λ t k out signaled. r.less t k out (a.less.each t (record { slot = k; generation = 0 }) signaled);
     })
+  | inr none ↦ rw none r
+]
 
 -- a wait that was answered is not pending
 pub answered_not_pending : (ws : List (Option Wait)) (n code : ℕ)

@@ -17,21 +17,13 @@ pub record Counts (scene after : Scene) : Type 0 where
       → get_or after.objects.blocks k 0 + slot_blocks k scene.waits ≡ get_or scene.objects.blocks k 0
       + slot_blocks k after.waits
 
-counts_by : (scene : Scene) (n : ℕ) (w : Wait) (st : State) → w.state ≡ st → get_or scene.waits n None ≡ Some w
-    → n < length scene.waits → Counts scene (effect_of scene n w st)
-counts_by = search (arith, left_all, sum_by-set)
-
 pub counts_at : (scene : Scene) (n : ℕ) (w : Option Wait) → get_or scene.waits n None ≡ w → n < length scene.waits
     → Counts scene (effect_at scene n w)
-counts_at scene n None own lt = record { each = λ k enough. refl }
-counts_at scene n (Some w) own lt = counts_by scene n w w.state refl own lt
-
-counts_both : (a b c : Scene) → Counts a b → Counts b c → Counts a c
-counts_both a b c x y = search arith
+counts_at = search (arith, left_all, sum_by-set)
 
 -- The theorem: where a slot counts its blocks and more, it still does after settling, by the same more.
 pub settled_counts : (scene : Scene) → Counts scene (settled scene)
-settled_counts scene = settled_by_effects Counts (λ s. record { each = λ k enough. refl }) counts_both
+settled_counts scene = settled_by_effects Counts (search arith) (search arith)
     (search (arith, counts_at, ready_within)) scene
 
 -- and where it counts them, it still does

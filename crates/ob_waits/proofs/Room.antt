@@ -42,12 +42,6 @@ pub room_changed : (limit : ℕ) (bodies after : List (Option Body)) (ws : List 
     WaitsHaveRoom limit bodies ws → WaitsHaveRoom limit after ws
 room_changed limit bodies after ws keeps r = search arith
 
--- one body changed
-pub room_set : (limit : ℕ) (bodies : List (Option Body)) (ws : List (Option Wait)) (k : ℕ) (x : Option Body)
-    → ((t : ℕ) → slot_room limit t (get_or bodies k None) ≡ true → slot_room limit t x ≡ true) →
-    WaitsHaveRoom limit bodies ws → WaitsHaveRoom limit (set bodies k x) ws
-room_set limit bodies ws k x keeps r = grind (arith, at_place)
-
 -- a body changes in a slot that no pending wait names
 pub room_unnamed : (limit : ℕ) (bodies : List (Option Body)) (ws : List (Option Wait)) (k : ℕ) (x : Option Body)
     → slot_blocks k ws ≡ 0 → WaitsHaveRoom limit bodies ws → WaitsHaveRoom limit (set bodies k x) ws

@@ -41,11 +41,10 @@ pub ones : (ws : List (Option Wait))
     → one_each ws ≡ true
 ones [] alone = refl
 ones (None ∷ ws) alone = ones ws (λ n m t p q. omega (arith, alone (suc n) (suc m) t p q))
-ones (Some w ∷ ws) alone = and_from _ _ (ap not (false_from_ne_true (list_any (is_waits_of w.thread) ws) (λ has. omega (
-  arith,
-  let found = any_at (is_waits_of w.thread) None ws has in alone zero (suc found.0) w.thread refl
-      (waits_thread w.thread (get_or ws found.0 None) found.2),
-))))
+ones (Some w ∷ ws) alone = rw (false_from_ne_true (list_any (is_waits_of w.thread) ws) (λ has.
+    let found = any_at (is_waits_of w.thread) None ws has in
+    let own = waits_thread w.thread (get_or ws found.0 None) found.2 in
+    omega (arith, alone zero (suc found.0) w.thread refl own)))
     (ones ws (λ n m t p q. omega (arith, alone (suc n) (suc m) t p q)))
 
 -- The theorem: the waits that are kept from call to call can be.
