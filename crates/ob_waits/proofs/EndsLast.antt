@@ -23,9 +23,8 @@ none_to_end objects has = search (arith, is_ended)
 one_ended : (t : ℕ) (objects : CountedBodies) (id : Id) →
     with_acquired t (ended objects).bodies id ≡ (ended
     (record objects { bodies = with_acquired t objects.bodies id })).bodies
-one_ended t objects id = is_ended (record objects { bodies = with_acquired t objects.bodies id })
-    (with_acquired t (ended objects).bodies id) (search (arith, length-ended, length-set))
-    (grind (arith, nat_tests, at_place, ended_at))
+one_ended t objects id =
+    is_ended _ _ (search (arith, length-ended, length-set)) (grind (arith, nat_tests, at_place, ended_at))
 
 all_ended : (t : ℕ) (ids : List Id) (objects : CountedBodies)
     → with_all_acquired t (ended objects).bodies ids
@@ -66,19 +65,10 @@ first_ended : (t : ℕ) (objects : CountedBodies) (ids : List Id) → IsReferred
 first_ended t objects ids has = search (arith, bodies_same, first_same)
 
 -- the code and what is taken are the same
-abandoned_ended : (objects : CountedBodies) (ids : List Id) → IsReferred objects ids → (id : Id)
-    → list_any (in_slot id.slot) ids ≡ true → is_abandoned (ended objects).bodies id ≡ is_abandoned objects.bodies id
-abandoned_ended objects ids has id named = search (arith, ended_at)
-
 code_ended : (mode : Mode) (t : ℕ) (objects : CountedBodies) (ids : List Id) → IsReferred objects ids
     → list_ready mode t objects.bodies ids ≡ true →
     code_of mode t (ended objects).bodies ids ≡ code_of mode t objects.bodies ids
-code_ended Any t objects ids has ready =
-    let first = first_ended t objects ids has in
-    let same = abandoned_ended objects ids has (get_or ids (first_signaled t objects.bodies ids) nowhere)
-    (named_at ids (first_signaled t objects.bodies ids) (grind arith)) in
-    search arith
-code_ended All t objects ids has ready = ap {B = ℕ} (λ b. cond b 128 0) (search (arith, abandoned_ended, any_agree))
+code_ended mode t objects ids has ready = search (arith, ended_at, first_same, any_agree, named_at)
 
 after_ended : (mode : Mode) (t : ℕ) (objects : CountedBodies) (ids : List Id) → IsReferred objects ids
     → bodies_after mode t (ended objects).bodies ids

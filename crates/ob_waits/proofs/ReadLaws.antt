@@ -50,18 +50,22 @@ module _ (threads slots : ℕ) where
   pass_in_parts [] = refl
   pass_in_parts (h ∷ rows) = search (arith, pass_in_parts rows)
 
--- what is read, so
-pub rows_read : (limit clock threads slots last : ℕ) (bytes between rest : List ℕ) (rows : List NumberedWait)
-    → number_at w32 bytes ≡ Ok (last, between) → list_at threads row_at between ≡ Ok (map numbered_parts rows, rest)
-    → waits_at limit clock threads slots bytes ≡ behind rest
-    (cond (rows_within threads slots rows) (built limit clock last rows) (Err Value))
-rows_read limit clock threads slots last bytes between rest rows first second = search
-    (arith, places_pass, pass_in_parts)
-
--- or why nothing is
-pub read_fails : (e : ReadFault) (total : Read WaitList) (rest : List ℕ) (r : Result WaitList TextFault)
+read_fails : (e : ReadFault) (total : Read WaitList) (rest : List ℕ) (r : Result WaitList TextFault)
     → total ≡ behind rest r → Fails e r → Fails e total
 read_fails = search arith
+
+-- what is read, so, or why nothing is
+module _ (limit clock threads slots last : ℕ) (bytes between rest : List ℕ) (rows : List NumberedWait)
+    (first : number_at w32 bytes ≡ Ok (last, between))
+    (second : list_at threads row_at between ≡ Ok (map numbered_parts rows, rest)) where
+  pub rows_read : waits_at limit clock threads slots bytes ≡ behind rest
+      (cond (rows_within threads slots rows) (built limit clock last rows) (Err Value))
+  rows_read = search (arith, places_pass, pass_in_parts)
+
+  pub rows_fail : (e : ReadFault)
+      → Fails e (cond (rows_within threads slots rows) (built limit clock last rows) (Err Value))
+      → Fails e (waits_at limit clock threads slots bytes)
+  rows_fail e fails = read_fails e _ rest _ rows_read fails
 
 pub none_read : (c : Bool) (r : Result WaitList TextFault) → r ≡ Err Value → cond c r (Err Value) ≡ Err Value
 none_read = search arith

@@ -2,7 +2,7 @@
 -- written.
 use Rattle.std.proofs.lemmas.Bool.Decides.{nat_tests}
 use Rattle.std.proofs.lemmas.Bool.{cases_Bool}
-use Rattle.ob_waits.proofs.Cited.{inr, inl, ◌≡◌, ℕ, zero, suc, ◌+◌, ◌-◌, ◌<◌, ◌≤◌, ◌&&◌, not, true, false, cond, leb, List, [], ◌∷◌, ◌++◌, length, replicate, Option, Some, None, Result, Ok, Err, refl, subst, arith, append_assoc, get_or, list_any, is_some, and_parts, lt-leb, length_push, list_all-append, TextFault, Value, Fails, fits_from, spread, spread_from, come, may_come, tested, with_row, thread_of, can_be, numbered_parts, may_stand, one_each, WaitList, is_full, is_waits_of, number_of, skipped, NumberedWait, Wait}
+use Rattle.ob_waits.proofs.Cited.{inr, inl, ◌≡◌, ℕ, zero, suc, ◌+◌, ◌-◌, ◌<◌, ◌≤◌, ◌&&◌, not, true, false, cond, leb, List, [], ◌∷◌, ◌++◌, length, replicate, Option, Some, None, Result, Ok, Err, refl, arith, map, drop, drop_more, drop_all, append_assoc, get_or, list_any, is_some, and_parts, lt-leb, length_push, list_all-append, TextFault, Value, Fails, fits_from, spread, spread_from, come, may_come, tested, with_row, thread_of, can_be, numbered_parts, may_stand, one_each, WaitList, is_full, is_waits_of, number_of, skipped, NumberedWait, Wait}
 use Rattle.ob_codec.specs.declared.fault.ReadFault.{ReadFault}
 use Rattle.ob_codec.specs.declared.fault.ReadFault.TheVariants.{Memory, Text}
 use Rattle.ob_codec.specs.SparseLaws.{length-spread}
@@ -55,13 +55,13 @@ has_one : (t : ℕ) (w : Wait) (front back : List (Option Wait)) → t ≡ w.thr
 has_one t w [] back same = search arith
 has_one t w (x ∷ front) back same = search (arith, has_one t w front back same)
 
-alone : (w : Wait) (front back : List (Option Wait)) → one_each (front ++ Some w ∷ back) ≡ true → (m : ℕ)
+alone_in : (w : Wait) (front back : List (Option Wait)) → one_each (front ++ Some w ∷ back) ≡ true → (m : ℕ)
     → thread_of (get_or front m None) ≡ Some w.thread → ⊥
-alone w [] back one m own = cc (own)
-alone w (None ∷ front) back one zero own = cc (own)
-alone w (None ∷ front) back one (suc m) own = alone w front back one m own
-alone w (Some a ∷ front) back one zero own = search (arith, has_one, and_parts, a.thread, w.thread)
-alone w (Some a ∷ front) back one (suc m) own = search (arith, alone w front back, and_parts)
+alone_in w [] back one m own = cc (own)
+alone_in w (None ∷ front) back one zero own = cc (own)
+alone_in w (None ∷ front) back one (suc m) own = alone_in w front back one m own
+alone_in w (Some a ∷ front) back one zero own = search (arith, has_one, and_parts, a.thread, w.thread)
+alone_in w (Some a ∷ front) back one (suc m) own = search (arith, alone_in w front back, and_parts)
 
 -- a wait among waits that can be
 there : (limit clock n : ℕ) (ws : List (Option Wait)) (w : Wait) (back : List (Option Wait))
@@ -71,7 +71,7 @@ there limit clock n ws w back can = by (number_of w.thread ws) refl
   where
     by : (o : Option ℕ) → number_of w.thread ws ≡ o → (may_stand clock (Some w) && not (is_some o)) ≡ true
     by None is = search (arith, list_all-append)
-    by (Some m) is = absurd (alone w (skipped n ws) back (grind arith) m (search (arith, get_skipped, number_own)))
+    by (Some m) is = absurd (alone_in w (skipped n ws) back (grind arith) m (search (arith, get_skipped, number_own)))
 
 pub left_refused : (limit clock last n : ℕ) (ws : List (Option Wait)) (w : Wait) (ps : List (ℕ × Wait)) → 0 < length ws
     → ((leb (length ws) n && leb n last) && (may_stand clock (Some w) && not (is_some (number_of w.thread ws))))
@@ -79,24 +79,18 @@ pub left_refused : (limit clock last n : ℕ) (ws : List (Option Wait)) (w : Wai
 left_refused limit clock last n ws w ps some not_so =
     grind (arith, nat_tests, left_next last n ws w ps, append_assoc, there limit clock (n - 1) ws w)
 
--- what is known of a row that can come
-pub record Comes (last : ℕ) (list : WaitList) (held : NumberedWait) : Type 0 where
-  pub above : length list.waits ≤ held.number
-  pub most : held.number ≤ last
-  pub alone : number_of held.wait.thread list.waits ≡ None
+-- of a row that can come the thread has no wait, and a number is left for it
+module _ (last : ℕ) (list : WaitList) (held : NumberedWait) (may : may_come last list held ≡ true) where
+  alone : number_of held.wait.thread list.waits ≡ None
+  alone = grind arith
 
-pub comes : (last : ℕ) (list : WaitList) (held : NumberedWait) → may_come last list held ≡ true → Comes last list held
-comes last list held may = search arith
+  pub alone_skipped : number_of held.wait.thread (skipped (held.number - 1) list.waits) ≡ None
+  alone_skipped = number_none (skipped (held.number - 1) list.waits) held.wait.thread
+      (search (arith, get_skipped, no_number, alone))
 
-pub alone_skipped : (last t : ℕ) (ws : List (Option Wait)) → number_of t ws ≡ None
-    → number_of t (skipped last ws) ≡ None
-alone_skipped last t ws none = number_none (skipped last ws) t (search (arith, get_skipped, no_number))
-
--- a number is left for it
-pub not_full : (last : ℕ) (list : WaitList) (held : NumberedWait) → 0 < held.number → last ≤ list.limit
-    → Comes last list held
-    → is_full (record list { waits = skipped (held.number - 1) list.waits }) ≡ false
-not_full last list held some most c = search (arith, length-skipped)
+  pub not_full : 0 < held.number → last ≤ list.limit
+      → is_full (record list { waits = skipped (held.number - 1) list.waits }) ≡ false
+  not_full some most = grind (arith, nat_tests, length-skipped (held.number - 1) list.waits)
 
 -- the step of building: what is left comes to what it came to
 pub record Goes (last : ℕ) (list : WaitList) (ps : List (ℕ × Wait)) (total : Result WaitList TextFault) : Type 0 where
@@ -105,26 +99,39 @@ pub record Goes (last : ℕ) (list : WaitList) (ps : List (ℕ × Wait)) (total 
   pub most : last ≤ list.limit
   pub rest : tested list.limit list.clock (left last list.waits ps) ≡ total
 
-pub goes_on : (last : ℕ) (list list' : WaitList) (held : NumberedWait) (ps : List (ℕ × Wait))
-    (total : Result WaitList TextFault) → come last list held ≡ Ok list'
-    → Goes last list (numbered_parts held ∷ ps) total
-    → Goes last list' ps total
-goes_on last list list' held ps total e goes =
-    let may : may_come last list held ≡ true = search arith in
-    let is : with_row list held ≡ list' = search arith in
-    let c = comes last list held may in
-    let longer : length (with_row list held).waits ≡ suc held.number = search (arith, length-skipped, length_push) in
-    subst (λ (l : WaitList). Goes last l ps total) is (search (arith, left_next))
+first_row : (rows : List NumberedWait) (i : ℕ) (held : NumberedWait) → i < length rows → held ≡ get_or rows i held
+    → map numbered_parts (drop i rows) ≡ numbered_parts held ∷ map numbered_parts (drop (i + 1) rows)
+first_row rows i held lt is = search (arith, drop_more)
 
-pub ends : (e : ReadFault) (last : ℕ) (list : WaitList) (held : NumberedWait) (ps : List (ℕ × Wait))
-    (total : Result WaitList TextFault) → Fails e (come last list held)
-    → Goes last list (numbered_parts held ∷ ps) total
-    → Fails e total
-ends Memory last list held ps total fails goes = tt
-ends (Text f) last list held ps total fails goes = elim (cases_Bool (may_come last list held)) [
-  | inl is ↦ absurd (let e = rw is at fails in cc e)
-  | inr is ↦ let e = rw is at fails in search (arith, left_refused)
-]
+module _ (rows : List NumberedWait) (i : ℕ) {last : ℕ} {list : WaitList} {total : Result WaitList TextFault}
+    (goes : Goes last list (map numbered_parts (drop i rows)) total) where
+  pub goes_on : (list' : WaitList) (held : NumberedWait) → i < length rows → held ≡ get_or rows i held
+      → come last list held ≡ Ok list' → Goes last list' (map numbered_parts (drop (i + 1) rows)) total
+  goes_on list' held lt is e =
+      let may : may_come last list held ≡ true = search arith in
+      let same : with_row list held ≡ list' = search arith in
+      let above : length list.waits ≤ held.number = grind arith in
+      let most : held.number ≤ last = grind arith in
+      let longer : length (with_row list held).waits ≡ suc held.number = search (arith, length-skipped, length_push) in
+      let now = rw (first_row rows i held lt is) at goes in
+      rw (← same) (search (arith, left_next))
+
+  pub ends : (e : ReadFault) (held : NumberedWait) → i < length rows → held ≡ get_or rows i held
+      → Fails e (come last list held) → Fails e total
+  ends Memory held lt is fails = tt
+  ends (Text f) held lt is fails = elim (cases_Bool (may_come last list held)) [
+    | inl may ↦ absurd (let e = rw may at fails in cc e)
+    | inr not_so ↦
+        let e = rw not_so at fails in
+        let now = rw (first_row rows i held lt is) at goes in search (arith, left_refused)
+  ]
+
+  pub all_put : length rows ≤ i → can_be list.limit list.clock (skipped last list.waits) ≡ true
+      → total ≡ Ok (record list { waits = skipped last list.waits })
+  all_put past can =
+      let rest = rw (drop_all i rows past) at goes in
+      let done : tested list.limit list.clock (left last list.waits []) ≡ total = rest.rest in
+      search (arith, done, left_none last list.waits, can)
 
 -- so are all, where the last number is above the limit
 pub too_many : (limit clock last : ℕ) (ps : List (ℕ × Wait)) → limit < last
