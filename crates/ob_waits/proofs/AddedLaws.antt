@@ -1,5 +1,5 @@
 -- One more wait at the end.
-use Rattle.ob_waits.proofs.Cited.{at_place, ◌≡◌, ℕ, zero, suc, ◌<◌, ◌≤◌, List, [], ◌∷◌, ◌++◌, length, Option, Some, None, arith, get_or, Bool, true, inl, inr, list_any, ◌==◌, get_or_past, get_or_append_left, get_or_push, length_push, Id, Mode, Wait, Answered, thread_of, IsWaitable, WaitWaitable, Within, IsOrdered, numbers_of, new_wait, nowhere, is_code, is_pending, names_slot, number_of, PendingIndex, IsRight, HasPlace, IsTracked}
+use Rattle.ob_waits.proofs.Cited.{at_place, ◌≡◌, ℕ, zero, suc, ◌<◌, ◌≤◌, List, [], ◌∷◌, ◌++◌, length, Option, Some, None, arith, get_or, Bool, true, inl, inr, list_any, ◌==◌, get_or_append_left, length_push, Id, Mode, Wait, Answered, thread_of, IsWaitable, WaitWaitable, Within, IsOrdered, numbers_of, new_wait, nowhere, is_code, is_pending, names_slot, number_of, PendingIndex, IsRight, HasPlace, IsTracked}
 use Rattle.std.proofs.lemmas.Bool.{cases_Bool}
 use Rattle.ob_waits.proofs.TrackedLaws.{no_number}
 

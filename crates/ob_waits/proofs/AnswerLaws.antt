@@ -1,6 +1,6 @@
 -- The answered waits are known in order while waits come, are answered and go.
 use Rattle.std.proofs.lemmas.Bool.Decides.{nat_tests}
-use Rattle.ob_waits.proofs.Cited.{at_place, ◌≡◌, ◌≢◌, ◌⊎◌, ℕ, ◌+◌, ◌<◌, ◌≤◌, List, [], ◌∷◌, ◌++◌, ◌-◌, length, Option, Some, None, refl, ◌∙◌, sym, subst, arith, get_or, set, true, false, IfSome, get_or_past, get_or-set_same, get_or-set_other, IsAtMost, IsLeastFrom, Wait, is_answered, AnsweredNumbers, IsAnswered, AreToldBut, AreTold, ThinsAnswered, thread_of, IsRising, Within, is_pending}
+use Rattle.ob_waits.proofs.Cited.{at_place, ◌≡◌, ◌≢◌, ◌⊎◌, ℕ, ◌+◌, ◌<◌, ◌≤◌, List, [], ◌∷◌, ◌++◌, ◌-◌, length, Option, Some, None, refl, ◌∙◌, sym, subst, arith, get_or, set, true, false, IfSome, IsAtMost, IsLeastFrom, Wait, is_answered, AnsweredNumbers, IsAnswered, AreToldBut, AreTold, ThinsAnswered, thread_of, IsRising, Within, is_pending}
 use Rattle.ob_waits.proofs.NumberLaws.{last_most, within_left, within_last}
 
 -- the same waits, and more room

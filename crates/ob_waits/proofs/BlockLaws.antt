@@ -1,5 +1,5 @@
 -- The blocks of an object, counted along a list of numbers.
-use Rattle.ob_waits.proofs.Cited.{at_place, ◌≡◌, ℕ, suc, ◌-◌, ◌+◌, ◌<◌, ◌≤◌, List, [], ◌∷◌, length, Option, None, refl, arith, get_or, set, inl, inr, true, sum_by, count_by, ◌==◌, list_any, Id, Wait, blocks_in, names_slot, ids_of, get_or_past, get_or-set_other, set_past, sum_by-cons, sum_by-set, Within, IsRising, IsOrdered}
+use Rattle.ob_waits.proofs.Cited.{at_place, ◌≡◌, ℕ, suc, ◌-◌, ◌+◌, ◌<◌, ◌≤◌, List, [], ◌∷◌, length, Option, None, refl, arith, get_or, set, inr, true, sum_by, count_by, ◌==◌, list_any, Id, Wait, blocks_in, names_slot, ids_of, get_or_past, get_or-set_other, set_past, sum_by-cons, sum_by-set, Within, IsRising, IsOrdered}
 use Rattle.pin_core.specs.Holds.{same_id}
 
 sum_same : (g h : ℕ → ℕ) (ns : List ℕ) → ((k : ℕ) → Within k ns → g k ≡ h k) → sum_by g ns ≡ sum_by h ns

@@ -1,5 +1,5 @@
 -- How the numbers of blocks change with the waits, by slot and by Id.
-use Rattle.ob_waits.proofs.Cited.{at_place, nat_tests, get_or-map, ◌≡◌, ℕ, ◌+◌, ◌*◌, ◌<◌, ◌≤◌, List, [], ◌∷◌, ◌++◌, length, Option, Some, None, refl, ap, ◌∙◌, arith, get_or, set, map, true, cond, count_by, sum_by, ◌==◌, list_any, length-set, length-map, get_or_past, ext_get_or, sum_by-cons, sum_by-append, sum_by-le, get_or-le-sum_by, count_by-le-length, Id, Mode, Wait, WaitsInvariant, nowhere, new_wait, answered, ids_of, names_slot, slot_places, slot_blocks, blocks_in, blocks_among, Scene, is_ready, effect, settled, number_of, numbered_ids, thread_ids, is_waits_of, unless_of}
+use Rattle.ob_waits.proofs.Cited.{at_place, nat_tests, get_or-map, ◌≡◌, ℕ, ◌+◌, ◌*◌, ◌<◌, ◌≤◌, List, [], ◌∷◌, ◌++◌, length, Option, Some, None, refl, ap, ◌∙◌, arith, get_or, set, map, true, cond, count_by, sum_by, ◌==◌, list_any, length-set, length-map, get_or_past, ext_get_or, sum_by-cons, sum_by-append, sum_by-le, get_or-le-sum_by, count_by-le-length, Id, Mode, Wait, WaitsInvariant, nowhere, new_wait, answered, ids_of, names_slot, slot_places, slot_blocks, blocks_in, blocks_among, Scene, is_ready, effect, settled, number_of, numbered_ids, thread_ids, unless_of}
 use Rattle.std.proofs.lemmas.List.Elements.{All-from_get_or}
 use Rattle.pin_core.specs.Holds.{same_id}
 use Rattle.ob_waits.proofs.BlockLaws.{sum_cleared}
@@ -37,8 +37,8 @@ blocks_removed id ws n = search (arith, sum_cleared)
 pub dropped_found : (ws : List (Option Wait)) (t n : ℕ) → WaitsInvariant ws → number_of t ws ≡ Some n
     → map (unless_of t) ws ≡ set ws n None
 dropped_found ws t n kept found =
-    ext_get_or None _ _ (search (arith, length-map, length-set)) (λ i lt. grind (arith, nat_tests, at_place,
-    get_or-map (unless_of t) ws i None, number_own ws t n, kept.one_each i n t, length-map ws (unless_of t)))
+    ext_get_or None _ _ (search (arith, length-map, length-set)) (λ i lt.
+    grind (arith, nat_tests, at_place, get_or-map (unless_of t) ws i None, number_own ws t n, kept.one_each i n t, length-map ws (unless_of t)))
 
 pub dropped_missing : (ws : List (Option Wait)) (t : ℕ) → number_of t ws ≡ None → map (unless_of t) ws ≡ ws
 dropped_missing ws t none = ext_get_or None _ _ (length-map ws (unless_of t))

@@ -1,5 +1,5 @@
 -- Deadlines go on being ahead and listed while waits come, are answered and go, and the code finds those that are over.
-use Rattle.ob_waits.proofs.Cited.{at_place, nat_tests, ◌≡◌, ℕ, ◌++◌, ◌∷◌, [], ◌<◌, ◌≤◌, List, length, Option, Some, None, refl, arith, get_or, set, true, false, IfSome, is_some, map, get_or-map, Mode, Wait, Answered, AreListed, AreTimely, deadline_of, is_overdue, IsAfter, thread_of, number_of}
+use Rattle.ob_waits.proofs.Cited.{at_place, nat_tests, ◌≡◌, ℕ, ◌++◌, ◌∷◌, [], List, Option, Some, None, refl, arith, get_or, set, true, false, IfSome, is_some, map, get_or-map, Wait, Answered, AreListed, AreTimely, deadline_of, is_overdue, IsAfter, number_of}
 use Rattle.least.specs.Dues.{is_by, IsLeast, NotAfter}
 use Rattle.ob_body.specs.Timer.{is_due}
 use Rattle.ob_waits.proofs.Keeping.{Fade}

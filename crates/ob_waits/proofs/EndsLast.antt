@@ -1,7 +1,6 @@
 -- To end an object where its last block leaves is to settle first and then end every object to which nothing refers.
-use Rattle.ob_waits.proofs.Cited.{at_place, ◌≡◌, ℕ, zero, suc, ◌<◌, List, [], ◌∷◌, length, Option, None, refl, ap, arith, get_or, Bool, true, cond, position_or_len, list_any, length-set, get_or_past, ext_get_or, passes_at_first, nat_tests, Id, Body, Mode, Wait, State, Pending, Answered, CountedBodies, blocks_left, without_block, without_blocks, HasBodies, HasBlocks, all_blocks_left, plain_effect, plain_effect_of, plain_effect_at, settled_plainly, settled_plainly_within, body_ended, ended, with_ends, nowhere, is_abandoned, first_signaled, list_ready, state_ready, is_ready, first_ready, with_acquired, with_all_acquired, bodies_after, code_of, ids_of, state_ids, Scene, effect_of, effect_at, settled, settled_within}
+use Rattle.ob_waits.proofs.Cited.{at_place, ◌≡◌, ℕ, zero, suc, ◌<◌, List, [], ◌∷◌, length, Option, None, refl, arith, get_or, Bool, true, position_or_len, list_any, length-set, get_or_past, ext_get_or, passes_at_first, nat_tests, Id, Body, Mode, Wait, State, Pending, Answered, CountedBodies, blocks_left, without_block, without_blocks, HasBodies, HasBlocks, all_blocks_left, plain_effect, plain_effect_of, plain_effect_at, settled_plainly, settled_plainly_within, body_ended, ended, with_ends, first_signaled, list_ready, state_ready, is_ready, first_ready, with_acquired, with_all_acquired, bodies_after, code_of, ids_of, state_ids, Scene, effect_of, effect_at, settled, settled_within}
 use Rattle.std.proofs.lemmas.List.FromFn.{get_or-map-range_with_len, length-map-range_with_len}
-use Rattle.ob_waits.specs.declared.wait.Mode.TheVariants.{Any, All}
 use Rattle.ob_waits.proofs.References.{counts_at}
 use Rattle.ob_waits.proofs.Apart.{in_slot, SameAt, named_at, any_agree, first_same, ready_same}
 use Rattle.ob_waits.proofs.Counted.{named_counts}

@@ -51,8 +51,10 @@ pub effect_room : (limit : ℕ) (scene : Scene) (n : ℕ) → is_ready scene.obj
     → WaitsInvariant scene.waits → WaitsHaveRoom limit scene.objects.bodies scene.waits
     → WaitsHaveRoom limit (effect scene n).objects.bodies (effect scene n).waits
 effect_room limit scene n ready k r = let a = answers scene n ready in record {
-  each = λ m. grind (arith, nat_tests, at_place, a.waits, a.own, r.each m, k.one_each m n, room_other limit
-      a.wait.thread scene.objects.bodies (effect scene n).objects.bodies (get_or scene.waits m None) (a.room limit));
+  each = λ m.
+      let other = room_other limit a.wait.thread scene.objects.bodies (effect scene n).objects.bodies
+      (get_or scene.waits m None) (a.room limit) in
+      grind (arith, nat_tests, at_place, a.waits, a.own, r.each m, k.one_each m n, other);
 }
 
 pub effect_fits : (limit : ℕ) (scene : Scene) (n : ℕ) → is_ready scene.objects.bodies (get_or scene.waits n None) ≡ true

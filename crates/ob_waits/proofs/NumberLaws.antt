@@ -1,6 +1,5 @@
 -- A number put at the end of a list, and a list thinned.
 use Rattle.ob_waits.proofs.Cited.{◌≡◌, ℕ, zero, suc, ◌+◌, ◌-◌, ◌<◌, ◌≤◌, List, [], ◌∷◌, ◌++◌, length, Option, None, refl, ap, ◌∙◌, arith, get_or, set, Bool, true, false, inl, inr, cond, take, drop, ◌⊎◌, filter, drop-append-le, drop-set, drop-take, drop_more, get_or_default, get_or-set_other, length-drop, length-set, length-take, take_more, take_more_set, Wait, Within, IsRising, IsOrdered, KeepsPending, ends_with, has_pending, Thins, is_pending}
-use Rattle.std.proofs.lemmas.Bool.{cases_Bool}
 use Rattle.std.proofs.Math.Seq.{take-length}
 
 pub within_left : (n m : ℕ) (ns : List ℕ) → Within n ns → Within n (ns ++ m ∷ [])

@@ -1,6 +1,6 @@
 -- Numbers take effect one after another where they are ready: that is settling, as long as none that is ready is below
 -- the next.
-use Rattle.ob_waits.proofs.Cited.{inl, inr, at_place, ◌≡◌, ℕ, zero, suc, ◌+◌, ◌<◌, ◌≤◌, List, [], ◌∷◌, length, Option, Some, None, refl, subst, arith, drop, eqb, get_or, set, Bool, true, false, list_any, ◌&&◌, not, IfSome, drop_all, drop_more, list_any_at, count_by-le-length, fails_before_first, passes_at_first, true_from_ne_false, Id, Body, Mode, Pending, Wait, numbers_of, Thins, CountedBodies, slot_signaled, AreIndexed, Covers, IsOnlyIn, IsReadyAt, IsReadyBy, IsRising, IsSettled, IsSpent, thread_of, nowhere, Scene, answered, is_ready, is_pending, ids_of, first_ready, first_signaled, effect, passed, settled, settled_within}
+use Rattle.ob_waits.proofs.Cited.{inl, inr, at_place, ◌≡◌, ℕ, zero, suc, ◌+◌, ◌<◌, ◌≤◌, List, [], ◌∷◌, length, Option, Some, None, subst, arith, drop, eqb, get_or, set, Bool, true, false, list_any, ◌&&◌, not, IfSome, drop_all, drop_more, list_any_at, count_by-le-length, fails_before_first, passes_at_first, true_from_ne_false, Id, Body, Mode, Pending, Wait, numbers_of, Thins, CountedBodies, slot_signaled, AreIndexed, Covers, IsOnlyIn, IsReadyAt, IsReadyBy, IsRising, IsSettled, IsSpent, thread_of, nowhere, Scene, answered, is_ready, is_pending, ids_of, first_ready, first_signaled, effect, passed, settled, settled_within}
 use Rattle.std.specs.Bool.{if◌then◌else◌}
 use Rattle.std.proofs.lemmas.Bool.{cases_Bool}
 use Rattle.ob_waits.specs.declared.wait.Mode.TheVariants.{Any}
@@ -94,10 +94,10 @@ pub by_passed : (changed : ℕ → Bool) (m : ℕ) (s : Scene) → IsReadyBy cha
     → IsReadyBy changed (passed (m ∷ []) s).objects.bodies (passed (m ∷ []) s).waits
 by_passed changed m s r = elim (cases_Bool (is_ready s.objects.bodies (get_or s.waits m None))) [
   | inl ready ↦ let a = answers s m ready in rw ready (record {
-      before = r.before;
-      settled = search (arith, settled_replaced);
-      less = λ t k out signaled. r.less t k out (a.less.each t (record { slot = k; generation = 0 }) signaled);
-    })
+    before = r.before;
+    settled = search (arith, settled_replaced);
+    less = λ t k out signaled. r.less t k out (a.less.each t (record { slot = k; generation = 0 }) signaled);
+  })
   | inr none ↦ rw none r
 ]
 

@@ -24,8 +24,7 @@ module _ (mask : ℕ) (ps qs : List (Option NumberedThread)) (f g : ℕ → Opti
 
   inserted_placed : thread_in mask ps f e.number ≡ None → IsPlaced mask qs g
   inserted_placed free = record {
-    each = λ i entry is. grind (arith, nat_tests, new i, moved entry.number, placed.each i entry,
-        placed.each (home mask e.number));
+    each = λ i entry is. grind (arith, nat_tests, new i, moved entry.number, placed.each i entry, placed.each (home mask e.number));
   }
 
 -- a number is put at its place, of places of which there may be more

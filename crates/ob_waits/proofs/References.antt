@@ -1,5 +1,5 @@
 -- The counts that are told of each block that leaves go on counting the blocks.
-use Rattle.ob_waits.proofs.Cited.{◌≡◌, ℕ, ◌-◌, ◌+◌, ◌<◌, ◌≤◌, List, [], ◌∷◌, length, Option, Some, None, refl, arith, get_or, cond, ◌==◌, length-set, get_or_past, get_or-set_same, get_or-set_other, sum_by-set, sum_by-cons, Id, Wait, State, CountedBodies, blocks_left, without_block, without_blocks, slot_places, slot_blocks, Scene, effect_at, effect_of, settled, HasBlocks}
+use Rattle.ob_waits.proofs.Cited.{◌≡◌, ℕ, ◌-◌, ◌+◌, ◌<◌, ◌≤◌, List, [], ◌∷◌, length, Option, None, arith, get_or, cond, ◌==◌, length-set, get_or_past, get_or-set_same, get_or-set_other, sum_by-set, sum_by-cons, Id, Wait, CountedBodies, blocks_left, without_block, without_blocks, slot_places, slot_blocks, Scene, effect_at, settled, HasBlocks}
 use Rattle.ob_waits.proofs.Settling.{settled_by_effects, ready_within}
 
 pub left_one : (blocks : List ℕ) (id : Id) (k : ℕ)

@@ -1,6 +1,6 @@
 -- What renewing waits keeps: their order, each count over them, the rules of waits, and each thread's wait; and how
 -- waits are copied one after another.
-use Rattle.ob_waits.proofs.Cited.{at_place, nat_tests, take_more, get_or_past, ◌≡◌, ℕ, zero, suc, ◌+◌, ◌-◌, ◌<◌, ◌≤◌, true, false, List, [], ◌∷◌, ◌++◌, length, take, Option, Some, None, refl, ap, arith, get_or, eqb, list_any, is_some, sum_by, append-nil, get_or-take, length-take, take_all, count_by-le-length, length-filter, sum_by-cons, Id, Body, Wait, IsSettled, WaitHasRoom, WaitWaitable, WaitsHaveRoom, WaitsInvariant, thread_of, blocks_among, blocks_in, is_ready, number_of, renewed, slot_blocks, standing}
+use Rattle.ob_waits.proofs.Cited.{at_place, nat_tests, take_more, get_or_past, ◌≡◌, ℕ, zero, suc, ◌+◌, ◌-◌, ◌<◌, ◌≤◌, true, false, List, [], ◌∷◌, ◌++◌, length, take, Option, Some, None, refl, arith, get_or, eqb, list_any, is_some, sum_by, append-nil, get_or-take, length-take, take_all, count_by-le-length, length-filter, sum_by-cons, Id, Body, Wait, IsSettled, WaitHasRoom, WaitsHaveRoom, WaitsInvariant, thread_of, blocks_among, blocks_in, is_ready, number_of, renewed, slot_blocks, standing}
 use Rattle.std.proofs.lemmas.List.Elements.{filter-append}
 use Rattle.std.proofs.lemmas.Map.Steps.{length-le_from_distinct_below}
 use Rattle.ob_waits.specs.SpellingLaws.{distinct, threads_of}
@@ -89,9 +89,10 @@ copied_all ws last none =
 pub alone_before : (ws : List (Option Wait)) (last n : ℕ) (w : Wait) → WaitsInvariant ws → last < n
     → get_or ws n None ≡ Some w → number_of w.thread (renewed (take (suc last) ws)) ≡ None
 alone_before ws last n w kept above is =
-    alone_renewed w.thread (take (suc last) ws) (number_none (take (suc last) ws) w.thread
-    (λ m own. grind (arith, has_wait (take (suc last) ws) m w.thread, length-take (suc last) ws,
-    get_or-take (suc last) ws m None, kept.one_each m n w.thread)))
+    alone_renewed w.thread (take (suc last) ws) (number_none (take (suc last) ws) w.thread (λ m own.
+    let lt = has_wait (take (suc last) ws) m w.thread own in
+    let long = length-take (suc last) ws in
+    grind (arith, lt, long, get_or-take (suc last) ws m None, kept.one_each m n w.thread)))
 
 -- and a number is left for it
 pub room_before : (ws : List (Option Wait)) (last n limit : ℕ) (w : Wait) → get_or ws 0 None ≡ None

@@ -1,5 +1,5 @@
 -- Numbers that are given to nobody.
-use Rattle.ob_waits.proofs.Cited.{cases_lt, ◌≡◌, ℕ, zero, suc, ◌+◌, ◌-◌, ◌≤◌, List, [], ◌∷◌, ◌++◌, length, replicate, Option, None, refl, arith, get_or, get_or_past, get_or_append_left, length-append, length-replicate, ext_get_or, Wait, AreTold, AnsweredNumbers, AreTimely, IsSparse, listed, IsOrdered, IsTracked, PendingIndex, AreByThread, skipped}
+use Rattle.ob_waits.proofs.Cited.{cases_lt, ◌≡◌, ℕ, suc, ◌+◌, ◌≤◌, List, length, replicate, Option, None, arith, get_or, get_or_past, get_or_append_left, length-append, length-replicate, ext_get_or, Wait, AreTold, AnsweredNumbers, AreTimely, IsSparse, listed, IsOrdered, IsTracked, PendingIndex, AreByThread, skipped}
 use Rattle.std.proofs.lemmas.List.{get_or-replicate, get_or-append_right}
 use Rattle.ob_waits.proofs.ListedLaws.{length_listed, value_at}
 

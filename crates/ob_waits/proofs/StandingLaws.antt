@@ -1,5 +1,5 @@
 -- The tests of waits that are read are those that waits pass from call to call.
-use Rattle.ob_waits.proofs.Cited.{◌≡◌, ℕ, zero, suc, ◌<◌, ◌≤◌, not, true, false, List, [], ◌∷◌, length, Option, Some, None, refl, ap, arith, get_or, list_all, list_any, ◌==◌, and_from, and_parts, false_from_ne_true, le-leb, or_parts, list_any_at, Id, AreTimely, deadline_of, IsAfter, IsTracked, PendingIndex, IsWaitable, WaitWaitable, thread_of, can_be, may_list, may_stand, names_twice, one_each, has_slot, is_waits_of, nowhere, Mode, Wait}
+use Rattle.ob_waits.proofs.Cited.{◌≡◌, ℕ, zero, suc, ◌<◌, ◌≤◌, true, false, List, [], ◌∷◌, length, Option, Some, None, refl, arith, get_or, list_all, list_any, ◌==◌, and_from, and_parts, false_from_ne_true, le-leb, or_parts, list_any_at, Id, AreTimely, deadline_of, IsAfter, IsTracked, PendingIndex, IsWaitable, WaitWaitable, thread_of, can_be, may_list, may_stand, names_twice, one_each, has_slot, is_waits_of, nowhere, Mode, Wait}
 use Rattle.ob_waits.proofs.AddedLaws.{any_at}
 use Rattle.ob_waits.proofs.TrackedLaws.{waits_thread}
 

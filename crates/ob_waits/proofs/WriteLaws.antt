@@ -1,5 +1,5 @@
 -- Waits are written as their rows stand, by rising number.
-use Rattle.ob_waits.proofs.Cited.{◌≡◌, ℕ, zero, suc, ◌+◌, ◌-◌, ◌<◌, ◌≤◌, ◌^◌, true, List, [], ◌∷◌, ◌++◌, length, drop, Option, None, refl, arith, append_assoc, get_or, AllByRecursion, flat_map, is_some, drop_all, get_or_past, length-append, SparseFits, entries_from, row_of, RowFits, WaitFits, row_text, Wait}
+use Rattle.ob_waits.proofs.Cited.{◌≡◌, ℕ, zero, suc, ◌+◌, ◌-◌, ◌<◌, ◌≤◌, ◌^◌, true, List, [], ◌∷◌, ◌++◌, length, drop, Option, None, arith, append_assoc, get_or, AllByRecursion, flat_map, is_some, drop_all, get_or_past, length-append, SparseFits, entries_from, row_of, RowFits, WaitFits, row_text, Wait}
 use Rattle.std.proofs.lemmas.Grind.{flat_map-append}
 
 -- the rows behind a number

@@ -6,11 +6,7 @@ use Rattle.ob_waits.proofs.reading.copy_all.Goals as goal
 pub put_wait-requires-clause-stands : goal.put_wait-requires-clause-stands
 put_wait-requires-clause-stands c =
     let n = c.in-Some.number in
-    grind (
-      arith,
-      stands c.args.copy.now.clock (get_or c.args.live.now n None) (c.requires.tracked.kept.each n)
-          (c.requires.ahead.each n),
-    )
+    grind (arith, stands c.args.copy.now.clock (get_or c.args.live.now n None) (c.requires.tracked.kept.each n) (c.requires.ahead.each n))
 
 pub put_wait-requires-clause-alone : goal.put_wait-requires-clause-alone
 put_wait-requires-clause-alone c = search (arith, alone_before)
@@ -23,19 +19,12 @@ put_wait-requires-clause-below_limit c =
     search (arith, le-ltb, room)
 
 pub loop-number-preserved-in-Continue-1 : goal.loop-number-preserved-in-Continue-1
-loop-number-preserved-in-Continue-1 c = search (
-  arith,
-  copied_next c.args.live.now c.loop-number.last c.in-Some.number
-      c.in-Some.ensures.above c.in-Some.ensures.least,
-)
+loop-number-preserved-in-Continue-1 c =
+    search (arith, copied_next c.args.live.now c.loop-number.last c.in-Some.number c.in-Some.ensures.above c.in-Some.ensures.least)
 
 pub loop-number-preserved : goal.loop-number-preserved
-loop-number-preserved c = search (
-  arith,
-  append-nil,
-  copied_next c.args.live.now c.loop-number.last c.in-Some.number
-      c.in-Some.ensures.above c.in-Some.ensures.least,
-)
+loop-number-preserved c =
+    search (arith, append-nil, copied_next c.args.live.now c.loop-number.last c.in-Some.number c.in-Some.ensures.above c.in-Some.ensures.least)
 
 pub returns : goal.returns
 returns c = search (arith, copied_all)

@@ -40,8 +40,9 @@ returns-clause-read c =
     let below : rows_within a.threads a.slots rows ≡ true = ap (rows_within a.threads a.slots)
     (sym c.as_slice.ensures.value) ∙ sym c.rows_within.ensures ∙ c.if-not-rows_within.false in
     let is = rw (c.as_slice-2.ensures.value, c.pass_to.ensures, c.new-read.ensures) at c.in_ok-put_all.ensures in
-    rw (rows_read a.waits a.clock a.threads a.slots c.in_ok-last.last a.from.now c.four.new.self c.read_rows.new.from rows
-    c.in_ok-last.ensures c.in_ok-rows.ensures, below, is) refl
+    let total = rows_read a.waits a.clock a.threads a.slots c.in_ok-last.last a.from.now c.four.new.self
+    c.read_rows.new.from rows c.in_ok-last.ensures c.in_ok-rows.ensures in
+    rw (total, below, is) refl
 
 pub returns-clause-limit : goal.returns-clause-limit
 returns-clause-limit c = let a = c.args in (read_within a.waits a.clock a.threads a.slots _ _ _ (returns-clause-read c)).0
