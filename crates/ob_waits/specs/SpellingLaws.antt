@@ -1,7 +1,7 @@
 -- Waits are read as they were spelled.
-use Rattle.std.proofs.Common.{◌≡◌, ℕ, zero, suc, ◌<◌, ◌||◌, not, Bool, true, false, eqb, leb, ltb, List, [], ◌∷◌, ◌++◌, length, Option, Some, None, Ok, ap, arith, eq-eqb, ne_eqb, refl, subst, sym}
-use Rattle.std.specs.List.{AllByRecursion, IsDistinct, list_all, list_any}
-use Rattle.std.proofs.lemmas.Bool.{and_parts, eqb-true, le-leb, ltb-true}
+use Rattle.std.proofs.lemmas.Bool.Decides.{nat_tests}
+use Rattle.std.proofs.Common.{◌≡◌, ℕ, zero, suc, ◌<◌, not, true, false, eqb, leb, List, [], ◌∷◌, ◌++◌, length, Option, Some, None, Ok, ap, arith, refl}
+use Rattle.std.specs.List.{AllByRecursion, IsDistinct, list_any}
 use Rattle.std.proofs.lemmas.Map.Steps.{length-le_from_distinct_below}
 use Rattle.ob_codec.specs.Codecs.{as_codec, both_codec, form_takes, list_codec, option_codec, tagged_codec, u32_codec, u64_codec, where_codec}
 use Rattle.ob_codec.specs.Laws.{IsCodec, Takes}
@@ -11,8 +11,8 @@ use Rattle.ob_codec.specs.SparseLaws.{sparse_codec}
 use Rattle.ob_codec.specs.Spelling.{AreBytes}
 use Rattle.ob_codec.specs.Steps.{bind_ok, ok_is}
 use Rattle.pin_core.specs.SpellingLaws.{id_codec}
-use Rattle.ob_waits.specs.Spelling.{NumberedFits, IdsFit, StateFits, WaitFits, WaitsFit, are_below, are_within, can_be, is_within, may_stand, one_each, numbered_at, numbered_of, numbered_parts, numbered_text, ids_at, ids_text, parts_text, state_at, state_in, state_text, tag_of, wait_at, wait_of, wait_parts, wait_text, waits_at, waits_text, with_rest}
-use Rattle.ob_waits.specs.Waits.{WaitList, is_waits_of, state_ids}
+use Rattle.ob_waits.specs.Spelling.{NumberedFits, IdsFit, StateFits, WaitFits, WaitsFit, are_within, can_be, one_each, numbered_at, numbered_of, numbered_parts, numbered_text, ids_at, ids_text, parts_text, state_at, state_in, state_text, tag_of, wait_at, wait_of, wait_parts, wait_text, waits_at, waits_text, with_rest}
+use Rattle.ob_waits.specs.Waits.{WaitList, is_waits_of}
 use Rattle.ob_waits.specs.declared.wait.Mode.TheVariants.{Any, All}
 use Rattle.ob_waits.specs.declared.wait.State.{State}
 use Rattle.ob_waits.specs.declared.wait.State.TheVariants.{Pending, Answered}
@@ -24,15 +24,9 @@ ids_codec = list_codec id_codec 64
 one-again : (t : ℕ) (x : State) (rest : List ℕ) → tag_of x ≡ t → StateFits x
     → state_in t (parts_text x ++ rest) ≡ Ok (x, rest)
 unfolding state_in
-one-again t (Pending Any ids) rest is fits = subst
-    (λ (n : ℕ). state_in n (ids_text ids ++ rest) ≡ Ok (Pending Any ids, rest)) is
-    (rw (ids_codec.again ids rest fits) refl)
-one-again t (Pending All ids) rest is fits = subst
-    (λ (n : ℕ). state_in n (ids_text ids ++ rest) ≡ Ok (Pending All ids, rest)) is
-    (rw (ids_codec.again ids rest fits) refl)
-one-again t (Answered code) rest is fits = subst
-    (λ (n : ℕ). state_in n (parts_text (Answered code) ++ rest) ≡ Ok (Answered code, rest)) is
-    (rw (u32_codec.again code rest fits) refl)
+one-again t (Pending Any ids) rest is fits = search (arith, ids_codec.again)
+one-again t (Pending All ids) rest is fits = search (arith, ids_codec.again)
+one-again t (Answered code) rest is fits = search (arith, u32_codec.again)
 
 one-takes : (t : ℕ) (bytes : List ℕ) (x : State) (rest : List ℕ) → AreBytes bytes → state_in t bytes ≡ Ok (x, rest)
     → Takes bytes (parts_text x) rest × StateFits x × (tag_of x ≡ t)
@@ -68,51 +62,24 @@ others : (thread : ℕ) (waits : List (Option Wait)) → not (list_any (is_waits
     → AllByRecursion (λ other. eqb thread other ≡ false) (threads_of waits)
 others thread [] none = tt
 others thread (None ∷ waits) none = others thread waits none
-others thread (Some wait ∷ waits) none = by (eqb wait.thread thread) refl none (others thread waits)
-  where
-    by : (same : Bool) → eqb wait.thread thread ≡ same → not (same || list_any (is_waits_of thread) waits) ≡ true
-        → (not (list_any (is_waits_of thread) waits) ≡ true
-        → AllByRecursion (λ other. eqb thread other ≡ false) (threads_of waits))
-        → AllByRecursion (λ other. eqb thread other ≡ false) (wait.thread ∷ threads_of waits)
-    by true is none later = absurd cc
-    by false is none later = (
-      ne_eqb thread wait.thread (λ same. let e = eq-eqb wait.thread thread (sym same) in absurd cc),
-      later none,
-    )
+others thread (Some wait ∷ waits) none = grind (arith, nat_tests, others thread waits)
 
 pub distinct : (waits : List (Option Wait)) → one_each waits ≡ true → IsDistinct eqb (threads_of waits)
 unfolding IsDistinct
 distinct [] one = tt
 distinct (None ∷ waits) one = distinct waits one
-distinct (Some wait ∷ waits) one =
-    let both = and_parts (not (list_any (is_waits_of wait.thread) waits)) (one_each waits) one in
-    (others wait.thread waits both.0, distinct waits both.1)
+distinct (Some wait ∷ waits) one = grind (arith, others wait.thread waits, distinct waits)
 
 below : (threads slots : ℕ) (waits : List (Option Wait)) → are_within threads slots waits ≡ true → (thread : ℕ)
     → list_any (eqb thread) (threads_of waits) ≡ true → thread < threads
 below threads slots [] within thread has = absurd cc
-below threads slots (None ∷ waits) within thread has = below threads slots waits within thread has
-below threads slots (Some wait ∷ waits) within thread has =
-    by (eqb thread wait.thread) refl has (below threads slots waits here.1 thread)
-  where
-    here : (is_within threads slots (Some wait) ≡ true) × (are_within threads slots waits ≡ true)
-    here = and_parts (is_within threads slots (Some wait)) (are_within threads slots waits) within
-
-    by : (same : Bool) → eqb thread wait.thread ≡ same → same || list_any (eqb thread) (threads_of waits) ≡ true
-        → (list_any (eqb thread) (threads_of waits) ≡ true → thread < threads) → thread < threads
-    by true is has later =
-        let low = ltb-true wait.thread threads (and_parts (ltb wait.thread threads)
-        (are_below slots (state_ids wait.state)) here.0).0 in
-        omega (arith, low, eqb-true thread wait.thread is)
-    by false is has later = later has
+below threads slots (x ∷ waits) within thread has = grind (arith, nat_tests, below threads slots waits)
 
 few_waits : (threads slots limit clock : ℕ) (waits : List (Option Wait)) → can_be limit clock waits ≡ true
     → are_within threads slots waits ≡ true → leb (length (entries_from 0 waits)) threads ≡ true
 few_waits threads slots limit clock waits can within =
-    let one = (and_parts (list_all (may_stand clock) waits) (one_each waits) (and_parts _ _ can).1).1 in
-    let few = length-le_from_distinct_below (threads_of waits) threads (distinct waits one)
-    (below threads slots waits within) in
-    le-leb (length (entries_from 0 waits)) threads (omega (arith, few, rows_long 0 waits))
+    let few = length-le_from_distinct_below (threads_of waits) threads in
+    grind (arith, nat_tests, distinct waits, below threads slots waits, rows_long 0 waits, few)
 
 abbrev ListsFit : ℕ → ℕ → ℕ → ℕ → List (Option Wait) → Type 0
 ListsFit limit clock threads slots waits = (SparseFewFit threads WaitFits waits × (can_be limit clock waits ≡ true))
@@ -131,9 +98,8 @@ lists_codec limit clock threads slots = where_codec
 pub waits_again : (threads slots : ℕ) (list : WaitList) (rest : List ℕ) → WaitsFit list
     → are_within threads slots list.waits ≡ true
     → waits_at list.limit list.clock threads slots (waits_text list.waits ++ rest) ≡ Ok (list, rest)
-waits_again threads slots list rest fits within = rw
-    ((lists_codec list.limit list.clock threads slots).again list.waits rest
-    (((fits.0, few_waits threads slots list.limit list.clock list.waits fits.1 within), fits.1), within)) refl
+waits_again threads slots list rest fits within =
+    search (arith, (lists_codec list.limit list.clock threads slots).again list.waits rest, few_waits)
 
 pub waits_take : (limit clock threads slots : ℕ) (bytes : List ℕ) (list : WaitList) (rest : List ℕ) → AreBytes bytes
     → waits_at limit clock threads slots bytes ≡ Ok (list, rest)
@@ -142,6 +108,4 @@ waits_take limit clock threads slots bytes list rest fits e =
     let x = bind_ok (lists_at limit clock threads slots bytes)
     (λ (x : List (Option Wait) × List ℕ). Ok (with_rest limit clock x.0, x.1)) (list, rest) e in
     let w = (lists_codec limit clock threads slots).takes bytes x.0.0 x.0.1 fits x.1 in
-    subst (λ (z : WaitList × List ℕ). Takes bytes (waits_text z.0.waits) z.1 × WaitsFit z.0
-    × (are_within threads slots z.0.waits ≡ true)) (ok_is (with_rest limit clock x.0.0, x.0.1) (list, rest) x.2)
-    (w.0, (w.1.0.0.0, w.1.0.1), w.1.1)
+    search (arith, ok_is)
