@@ -29,8 +29,7 @@ all_ended : (t : ℕ) (ids : List Id) (objects : CountedBodies)
     → with_all_acquired t (ended objects).bodies ids
     ≡ (ended (record objects { bodies = with_all_acquired t objects.bodies ids })).bodies
 all_ended t [] objects = refl
-all_ended t (id ∷ ids) objects =
-    search (arith, one_ended, all_ended t ids (record objects { bodies = with_acquired t objects.bodies id }))
+all_ended t (id ∷ ids) objects = search (arith, one_ended, with_acquired, all_ended t ids)
 
 -- a block leaves
 block_ended : (objects : CountedBodies) (id : Id) → without_block (ended objects) id
@@ -44,8 +43,7 @@ block_ended objects id =
 blocks_ended : (ids : List Id) (objects : CountedBodies)
     → without_blocks (ended objects) ids ≡ ended (record objects { blocks = all_blocks_left objects.blocks ids })
 blocks_ended [] objects = refl
-blocks_ended (id ∷ ids) objects =
-    search (arith, block_ended, blocks_ended ids (record objects { blocks = blocks_left objects.blocks id }))
+blocks_ended (id ∷ ids) objects = search (arith, block_ended, blocks_left, blocks_ended ids)
 
 -- each slot that a list names counts a block
 abbrev IsReferred : CountedBodies → List Id → Type 0

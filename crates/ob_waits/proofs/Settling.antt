@@ -137,8 +137,7 @@ was_ready scene n k ready after = elim (cases_eq k n) [
 -- a settled scene stays
 pub settled_none : (fuel : ℕ) (scene : Scene) → IsSettled scene.objects.bodies scene.waits
     → settled_within fuel scene ≡ scene
-settled_none zero scene q = refl
-settled_none (suc n) scene q = search (arith, passes_at_first)
+settled_none x0 scene q = search (arith, passes_at_first)
 
 pub settled_same : (scene : Scene) → IsSettled scene.objects.bodies scene.waits → settled scene ≡ scene
 settled_same scene q = search (arith, settled_none)
