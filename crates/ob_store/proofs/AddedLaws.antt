@@ -2,7 +2,6 @@
 use Rattle.ob_store.proofs.Cited.{◌≡◌, ℕ, ◌+◌, ◌<◌, List, [], ◌∷◌, ◌++◌, length, Some, None, refl, subst, arith, get_or, map, true, map-set_same, length-set, Id, Slot, opening_slot, id_of, HandleFlags, is_vacant_at, Body, owner_of, ObjectName, Rows, find_name, Entry, with_entry_of, form_of, IsAgreed, ObjectsInvariant, PartsState, state_of, IsLive, StoreInvariant, IsCounted, IsListing, form_in, ObjectsState, ObjectAttributes, places_in, vacancy, State, generation_of}
 use Rattle.std.proofs.Math.ListN.{get_or-map}
 use Rattle.ob_rights.specs.declared.rights.Rights.{Rights}
-use Rattle.ob_arena.proofs.SlotLemmas.{vacant_within, vacant_empty}
 use Rattle.ob_waits.proofs.Room.{room_unnamed}
 use Rattle.ob_waits.proofs.Settled.{settled_unnamed}
 use Rattle.ob_store.specs.Objects.{with_object}
@@ -69,7 +68,7 @@ module _ (p : PartsState) (kept : StoreInvariant p) (tied : ObjectsInvariant p.o
   o = p.objects
 
   table : process < length p.tables.tables
-  table = live_tabled p.limits p.processes p.tables.tables process kept.sound.processes_kept live
+  table = search (arith, live_tabled)
 
   none : object_at p.objects slot ≡ None
   none = search arith
@@ -104,9 +103,9 @@ module _ (p : PartsState) (kept : StoreInvariant p) (tied : ObjectsInvariant p.o
       }
 
   pub kept_nameless : attributes.name ≡ None → StoreInvariant (added p.rows)
-  kept_nameless nameless = search (arith, live_tabled, vacant_empty, vacant_within, kept_added, listing_added, placed_agreed)
+  kept_nameless nameless = search (arith, kept_added, listing_added, placed_agreed, table, within, none)
 
   pub kept_name : (name : ObjectName) → attributes.name ≡ Some name → find_name name p.rows ≡ None
       → StoreInvariant (added (p.rows ++ (name, id_of p.objects.keeper.slots slot) ∷ []))
-  kept_name name named absent = kept_added _ (listing_name_added _ _ _ _ kept.sound.listing (placed_agreed o
-      tied.agreed) _ _ _ _ tied.born table refl refl named none within absent)
+  kept_name name named absent =
+      kept_added _ (listing_name_added _ _ _ _ kept.sound.listing (placed_agreed o tied.agreed) _ _ _ _ tied.born table refl refl named none within absent)

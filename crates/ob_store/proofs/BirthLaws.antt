@@ -1,9 +1,6 @@
 -- How many objects were made, slot by slot, and their numbers.
-use Rattle.ob_store.proofs.Cited.{at_place, ◌≡◌, ℕ, ◌+◌, ◌<◌, ◌≤◌, List, length, Option, Some, None, arith, set, sum_by, Slot, slot_of, opening_slot, Object, made_in, AreBorn}
-use Rattle.std.proofs.lemmas.List.Elements.{All-from_get_or}
-use Rattle.std.proofs.lemmas.List.Sums.{sum_by-set, sum_by-le}
+use Rattle.ob_store.proofs.Cited.{at_place, ◌≡◌, ℕ, ◌+◌, ◌<◌, ◌≤◌, List, length, Option, Some, None, arith, set, sum_by, Slot, slot_of, opening_slot, Object, made_in, AreBorn, All-from_get_or, sum_by-set, sum_by-le, made_by}
 use Rattle.pin_core.specs.declared.word.Phase.{Phase}
-use Rattle.ob_store.specs.Agreement.{made_by}
 use Rattle.ob_store.proofs.EndLaws.{some_set}
 
 -- each generation is from 1 to the last

@@ -1,8 +1,8 @@
 -- What holds of bodies goes on so: their forms, their owners, the room that waits have, and that none is ready.
-use Rattle.ob_store.proofs.Cited.{at_place, nat_tests, ◌≡◌, ℕ, ◌⊎◌, ◌<◌, List, length, Option, Some, None, ap, ◌∙◌, arith, get_or, set, Bool, true, cond, is_some, Body, owner_of, is_signaled, Wait, thread_of, Object, IsLive, AreFormed, AreOfLive, Yields, form_in, CountedBodies, form_of, slot_owner, Scene}
-use Rattle.ob_waits.specs.CountedBodies.{slot_signaled}
-use Rattle.ob_waits.specs.Form.{slot_form, HasWait}
+use Rattle.ob_store.proofs.Cited.{at_place, nat_tests, ◌≡◌, ℕ, ◌⊎◌, ◌<◌, List, length, Option, Some, None, arith, get_or, set, Bool, true, cond, is_some, Body, owner_of, is_signaled, Wait, Object, IsLive, AreFormed, AreOfLive, Yields, form_in, form_of, Scene}
 use Rattle.ob_waits.specs.Waits.{settled}
+use Rattle.ob_waits.specs.CountedBodies.{slot_signaled}
+use Rattle.ob_waits.specs.Form.{slot_form}
 use Rattle.ob_waits.proofs.Settling.{IsLess}
 use Rattle.ob_waits.proofs.Staying.{settled_form, settled_owner, settled_thread}
 
@@ -19,33 +19,20 @@ pub formed_by : (clock : ℕ) (objects : List (Option Object)) (bodies after : L
     → AreFormed clock objects after
 formed_by clock objects bodies after stays f = search arith
 
--- owners that owned it before or wait, and waits that stay their threads'
-pub of_live_by : (threads : List (Option ℕ)) (bodies after : List (Option Body)) (ws ws' : List (Option Wait))
-    → ((k t : ℕ) → slot_owner (get_or after k None) ≡ Some t
-    → (slot_owner (get_or bodies k None) ≡ Some t) ⊎ HasWait t ws)
-    → ((n : ℕ) → thread_of (get_or ws' n None) ≡ thread_of (get_or ws n None)) → AreOfLive threads bodies ws
-    → AreOfLive threads after ws'
-of_live_by threads bodies after ws ws' owners waiters l = search arith
-
 -- more threads are live
 pub of_live_more : (threads threads' : List (Option ℕ)) (bodies : List (Option Body)) (ws : List (Option Wait))
     → ((t : ℕ) → IsLive threads t → IsLive threads' t) → AreOfLive threads bodies ws → AreOfLive threads' bodies ws
 of_live_more threads threads' bodies ws more l = search arith
 
 -- the waits settle
-module _ (first : Scene) (after : CountedBodies) (ws' : List (Option Wait))
-    (value : ◌≡◌ {A = Scene} (record { objects = after; waits = ws' }) (settled first)) where
-  body_is : (k : ℕ) → get_or after.bodies k None ≡ get_or (settled first).objects.bodies k None
-  body_is k = ap (λ (s : Scene). get_or s.objects.bodies k None) value
-
+module _ (first : Scene) where
   pub formed_settled : (clock : ℕ) (objects : List (Option Object)) → AreFormed clock objects first.objects.bodies
-      → AreFormed clock objects after.bodies
-  formed_settled clock objects f = search (arith, formed_by, body_is, settled_form)
+      → AreFormed clock objects (settled first).objects.bodies
+  formed_settled clock objects f = search (arith, formed_by, settled_form)
 
   pub of_live_settled : (threads : List (Option ℕ)) → AreOfLive threads first.objects.bodies first.waits
-      → AreOfLive threads after.bodies ws'
-  of_live_settled threads l = of_live_by _ _ _ _ ws' (search (arith, body_is, settled_owner)) (λ n. ap (λ (s : Scene).
-      thread_of (get_or s.waits n None)) value ∙ settled_thread _ n) l
+      → AreOfLive threads (settled first).objects.bodies (settled first).waits
+  of_live_settled threads l = search (arith, settled_owner, settled_thread)
 
 -- a body goes, or stays
 module _ (c : Bool) (bodies : List (Option Body)) (i : ℕ) where
@@ -81,7 +68,7 @@ module _ (bodies : List (Option Body)) (k : ℕ) (old new : Body) (clock : ℕ) 
 
   pub less_put : ((t : ℕ) → is_signaled t new ≡ true → is_signaled t old ≡ true)
       → IsLess bodies (set bodies k (Some new))
-  less_put less = record { each = λ t id h. grind (arith, nat_tests, at_place, less t) }
+  less_put less = grind (arith, nat_tests, at_place)
 
 -- what is signaled is there
 pub signaled_some : (thread : ℕ) (b : Option Body) → slot_signaled thread b ≡ true → is_some b ≡ true

@@ -1,8 +1,5 @@
 -- What holds of each element of a list, and of what stands past its end, holds at each place.
-use Rattle.ob_store.proofs.Cited.{◌≡◌, ℕ, ◌∙◌, zero, suc, ◌<◌, Bool, true, List, [], ◌∷◌, ap, length, get_or, replicate, sym, arith, get_or-replicate, get_or_past, length-replicate, and_parts, AllByRecursion, list_all, range_with_len}
-use Rattle.std.proofs.lemmas.List.Elements.{All-from_get_or}
-use Rattle.std.proofs.lemmas.List.FromFn.{get_or-range_with_len, length-range_with_len}
-use Rattle.std.proofs.lemmas.List.Sums.{AllPass-from_list_all, list_all-from_AllPass}
+use Rattle.ob_store.proofs.Cited.{◌≡◌, ℕ, ◌∙◌, zero, suc, ◌<◌, Bool, true, List, [], ◌∷◌, ap, length, get_or, replicate, sym, arith, get_or-replicate, get_or-map, get_or_past, length-map, length-replicate, map, and_parts, AllByRecursion, list_all, range_with_len, All-from_get_or, get_or-range_with_len, length-range_with_len, AllPass-from_list_all, list_all-from_AllPass}
 
 -- a test that each element passes, and that holds of what stands for none
 pub all_at : {A : Type 0} (p : A → Bool) (xs : List A) (none : A) → p none ≡ true → list_all p xs ≡ true →
@@ -30,6 +27,10 @@ below_from p n each = all_from p (range_with_len 0 n) 0 (search (arith, get_or-r
 pub below_at : (p : ℕ → Bool) (n k : ℕ) → list_all p (range_with_len 0 n) ≡ true → k < n → p k ≡ true
 below_at p n k all lt = ap p (sym (number_at n k lt))
     ∙ AllPass-from_list_all p (range_with_len 0 n) all k 0 (omega (arith, length-range_with_len 0 n))
+
+-- what is read off a list, at a place
+pub map_at : {A B : Type 0} (f : A → B) (xs : List A) (k : ℕ) (d : A) → get_or (map f xs) k (f d) ≡ f (get_or xs k d)
+map_at f xs k d = search (arith, get_or-map, get_or_past, length-map)
 
 -- a list of what stands for none
 pub replicate_at : {A : Type 0} (n k : ℕ) (none : A) → get_or (replicate n none) k none ≡ none

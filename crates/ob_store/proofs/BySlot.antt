@@ -1,6 +1,5 @@
 -- A number for each slot, and what changes when one of them does.
-use Rattle.ob_store.proofs.Cited.{◌≡◌, ℕ, ◌≢◌, ◌<◌, ◌≤◌, List, length, ◌∙◌, sym, arith, get_or, set, length-set, length-replicate, get_or-replicate, get_or_past, get_or-set_same, get_or-set_other, ext_get_or, get_or-map-range_with_len, length-map-range_with_len, by_slot}
-use Rattle.std.specs.Prelude.{replicate}
+use Rattle.ob_store.proofs.Cited.{◌≡◌, ℕ, ◌≢◌, ◌<◌, ◌≤◌, List, length, ◌∙◌, sym, arith, get_or, set, length-set, length-replicate, get_or-replicate, get_or_past, get_or-set_same, get_or-set_other, ext_get_or, get_or-map-range_with_len, length-map-range_with_len, by_slot, replicate}
 
 pub get_by_slot : (n : ℕ) (f : ℕ → ℕ) (k : ℕ) → k < n → get_or (by_slot n f) k 0 ≡ f k
 get_by_slot n f k lt = search (arith, get_or-map-range_with_len)

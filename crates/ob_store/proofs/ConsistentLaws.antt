@@ -1,5 +1,5 @@
 -- What a store keeps, told of its state.
-use Rattle.ob_store.proofs.Cited.{ap, ◌+◌, refl, ◌∙◌, subst, ltb, Shape, AreDistinct, ObjectsInvariant, PartsState, whole_of, StoreInvariant, IsConsistent}
+use Rattle.ob_store.proofs.Cited.{arith, refl, ObjectsInvariant, PartsState, whole_of, StoreInvariant, IsConsistent}
 use Rattle.ob_waits.specs.Deadlines.{AreAhead}
 use Rattle.ob_waits.specs.Rules as rules
 use Rattle.ob_store.proofs.CountedLaws.{handles_at, blocks_at}
@@ -14,18 +14,13 @@ consistent p kept tied waits ahead = record {
   slots = tied.agreed.each;
   shape = kept.sound.limited.shape_is;
   generations = refl;
-  sizes = (let is = ap (λ (x : Shape). x.slots) kept.sound.limited.shape_is in
-      (tied.agreed.length_is ∙ is, tied.agreed.bodied ∙ is, tied.agreed.marked ∙ is, tied.agreed.wide ∙ is));
+  sizes = search (arith, tied.agreed.length_is, tied.agreed.bodied, tied.agreed.marked, tied.agreed.wide, kept.sound.limited.shape_is);
   published = tied.listed;
   born = tied.born;
   named = kept.sound.named;
-  ended = λ id there.
-      let within = there_within _ id there in
-      let h = handles_at _ _ _ _ kept.sound.counted _ within ∙ handles_are _ _ _ kept.sound.named id there in
-      let b = blocks_at _ _ _ _ kept.sound.counted _ within ∙ blocks_are _ _ _ kept.sound.named id there in
-      tied.bodied.each id.slot ∙ (λ i. ltb 0 (h i + b i));
+  ended = search (arith, there_within, handles_at, blocks_at, handles_are, blocks_are, tied.bodied.each, kept.sound.counted, kept.sound.named);
   formed = kept.sound.formed;
-  distinct = subst AreDistinct kept.sound.listing.same kept.sound.listing.distinct;
+  distinct = rw kept.sound.listing.same at kept.sound.listing.distinct;
   waits = waits;
   of_live = kept.sound.of_live;
   ahead = ahead;

@@ -1,10 +1,9 @@
 -- What is stored of references goes on being what is counted, as each change changes both.
-use Rattle.ob_store.proofs.Cited.{◌≡◌, ℕ, ◌+◌, ◌-◌, ◌<◌, List, [], ◌∷◌, length, Option, Some, None, ap, ◌∙◌, arith, get_or, set, Body, HandleFlags, Entry, entry_at, slot_handles, table_of, with_table, with_entry_of, with_flags_of, without_entry_of, IsBounded, Wait, CountedBodies, IsCounted, slot_handles-few, Scene, slot_blocks}
-use Rattle.std.specs.Prelude.{replicate}
+use Rattle.ob_store.proofs.Cited.{◌≡◌, Id, without_blocks, ℕ, ◌+◌, ◌-◌, ◌<◌, List, [], ◌∷◌, length, Option, Some, None, ◌∙◌, arith, get_or, set, Body, HandleFlags, Entry, entry_at, slot_handles, table_of, with_table, with_entry_of, with_flags_of, without_entry_of, IsBounded, Wait, CountedBodies, IsCounted, slot_handles-few, Scene, slot_blocks, replicate}
 use Rattle.ob_tables.proofs.SlotCounts.{one_in-same, one_in-other, slot_handles-with_entry, slot_handles-without_entry, slot_handles-with_flags, slot_handles-with_table}
-use Rattle.ob_waits.specs.Waits.{settled}
-use Rattle.ob_waits.proofs.Ends.{sizes_settled}
-use Rattle.ob_waits.proofs.References.{settled_counts}
+use Rattle.ob_waits.specs.Waits.{slot_places, settled}
+use Rattle.ob_waits.proofs.Ends.{sizes_left, sizes_settled}
+use Rattle.ob_waits.proofs.References.{left_all, settled_counts}
 use Rattle.ob_store.proofs.BySlot.{count_at, count_few, counts_long, recounted, recounted_one, zero_counts}
 
 module _ (seen : CountedBodies) (n : ℕ) (ts : List (List (Option Entry))) (ws : List (Option Wait))
@@ -16,17 +15,14 @@ module _ (seen : CountedBodies) (n : ℕ) (ts : List (List (Option Entry))) (ws 
   blocks_at k lt = search (arith, count_at)
 
   pub handles_long : length seen.handles ≡ n
-  handles_long = counts_long seen.handles n (λ i. slot_handles i ts) counted.handles
+  handles_long = search (arith, counts_long)
 
   pub blocks_long : length seen.blocks ≡ n
-  blocks_long = counts_long seen.blocks n (λ i. slot_blocks i ws) counted.blocks
+  blocks_long = search (arith, counts_long)
 
   -- no slot counts more handles than the tables have places
   pub handles_few : (processes handles k : ℕ) → IsBounded processes handles ts → get_or seen.handles k 0 < 4294967295
-  handles_few processes handles k b =
-      let few = count_few _ n _ k counted.handles in
-      let all = slot_handles-few k _ _ ts b in
-      omega arith
+  handles_few processes handles k b = omega (arith, count_few _ n _ k counted.handles, slot_handles-few k _ _ ts b)
 
   -- an entry comes
   pub counted_placed : (p : ℕ) (e : Entry) → p < length ts
@@ -47,8 +43,7 @@ module _ (seen : CountedBodies) (n : ℕ) (ts : List (List (Option Entry))) (ws 
   -- an entry leaves
   pub one_less : (p value : ℕ) (e : Entry) → entry_at (table_of ts p) value ≡ Some e
       → slot_handles e.id.slot (without_entry_of ts p value) + 1 ≡ slot_handles e.id.slot ts
-  one_less p value e found = let x = slot_handles-without_entry e.id.slot ts p value e found in let y = one_in-same e in
-      omega arith
+  one_less p value e found = omega (arith, slot_handles-without_entry e.id.slot ts p value e found, one_in-same e)
 
   pub counted_removed : (bodies : List (Option Body)) (p value : ℕ) (e : Entry)
       → entry_at (table_of ts p) value ≡ Some e
@@ -58,11 +53,8 @@ module _ (seen : CountedBodies) (n : ℕ) (ts : List (List (Option Entry))) (ws 
         blocks = seen.blocks;
       }) n (without_entry_of ts p value) ws
   counted_removed bodies p value e found = record {
-    handles = recounted_one _ n _
-        _ _ _ counted.handles
-        (λ k other. let x = slot_handles-without_entry k ts p _ e found in let y = one_in-other e k other in
-        omega arith)
-        (search (arith, handles_at, one_less));
+    handles = recounted_one _ n _ _ _ _ counted.handles
+        (λ k other. omega (arith, slot_handles-without_entry k ts p _ e found, one_in-other e k other)) (search (arith, handles_at, one_less));
     blocks = counted.blocks;
   }
 
@@ -74,34 +66,25 @@ module _ (seen : CountedBodies) (n : ℕ) (ts : List (List (Option Entry))) (ws 
   -- a process comes
   pub counted_process : (k : ℕ) → table_of ts k ≡ [] → IsCounted seen n (with_table ts k None) ws
   counted_process k none =
-      let same : (slot : ℕ) → slot_handles slot (with_table ts k None) ≡ slot_handles slot ts =
-      λ slot. omega (arith, slot_handles-with_table slot ts k None none) in
+      let same = λ (slot : ℕ). slot_handles-with_table slot ts k None none in
       search (arith, same)
 
-  -- an object to which nothing refers leaves its slot
-  pub counted_left : (bodies : List (Option Body)) (k : ℕ) → get_or seen.handles k 0 ≡ 0 → get_or seen.blocks k 0 ≡ 0
-      → IsCounted (record { bodies = bodies; handles = set seen.handles k 0; blocks = set seen.blocks k 0 }) n ts ws
-  counted_left bodies k handles blocks = search (arith, handles_at, blocks_at, recounted_one)
+  -- blocks leave
+  pub counted_unblocked : (ids : List Id) (ws' : List (Option Wait))
+      → ((k : ℕ) → slot_blocks k ws' + slot_places k ids ≡ slot_blocks k ws) → IsCounted (without_blocks seen ids) n ts ws'
+  counted_unblocked ids ws' fewer = record {
+    handles = (sizes_left ids seen).handles ∙ counted.handles;
+    blocks = recounted _ _ n _ _ counted.blocks (sizes_left ids seen).blocks (search (arith, blocks_at, left_all, fewer));
+  }
 
   -- the waits settle
-  pub counted_settled : (bodies : List (Option Body)) (after : CountedBodies) (ws' : List (Option Wait))
-      → ◌≡◌ {A = Scene} (record { objects = after; waits = ws' })
-      (settled (record { objects = record seen { bodies = bodies }; waits = ws }))
-      → IsCounted after n ts ws'
-  counted_settled bodies after ws' value =
-      let first : Scene = record { objects = record seen { bodies = bodies }; waits = ws } in
-      record {
-        handles = ap (λ (s : Scene). s.objects.handles) value ∙ (sizes_settled first).handles ∙ counted.handles;
-        blocks = recounted _ _ n _ _ counted.blocks
-            (ap (λ (s : Scene). length s.objects.blocks) value ∙ (sizes_settled first).blocks)
-            (λ k lt. omega (
-              arith,
-              blocks_at k lt,
-              (settled_counts first).each k (let at = blocks_at k lt in omega arith),
-              ap (λ (s : Scene). get_or s.objects.blocks k 0) value,
-              ap (λ (s : Scene). slot_blocks k s.waits) value,
-            ));
-      }
+  pub counted_settled : IsCounted (settled (record { objects = seen; waits = ws })).objects n ts
+      (settled (record { objects = seen; waits = ws })).waits
+  counted_settled =
+      let first : Scene = record { objects = seen; waits = ws } in
+      let sizes = sizes_settled first in
+      let counts = settled_counts first in
+      search (arith, recounted, sizes, counts.each, blocks_at, counted.handles, counted.blocks)
 
 -- nothing refers to anything yet
 pub counted_opening : (n : ℕ) → IsCounted (record {

@@ -1,8 +1,10 @@
--- What counting leaves: all is as it was but for the handles, which are more by the entries that name a slot.
-use Rattle.ob_store.proofs.Cited.{◌≡◌, ℕ, ◌+◌, ◌<◌, true, cond, List, [], ◌∷◌, length, get_or, Option, Some, Ok, sym, ap, ◌∙◌, arith, length-set, get_or-set_same, get_or-set_other, sum_by-cons, Id, bind_ok, Entry, IsThere, id_in, Object, Places, with_handle, handles_in, handles_among, slot_handles_in, slot_handles, one_id, counting_all, counting_in, is_its}
-use Rattle.ob_tables.specs.Counts.{names, names_slot}
-use Rattle.ob_store.specs.Counting.{counting, may_count}
+-- What counting leaves: all is as it was but for the handles, which are more by the entries that name a slot. What a store
+-- that is kept has counted is counted again.
+use Rattle.ob_store.proofs.Cited.{◌≡◌, ℕ, ◌+◌, ◌<◌, true, cond, List, [], ◌∷◌, length, get_or, Option, Some, Ok, sym, ap, ◌∙◌, arith, length-set, get_or-set_same, get_or-set_other, sum_by-cons, Id, bind_ok, Entry, IsThere, id_in, Object, Places, with_handle, handles_in, handles_among, slot_handles_in, slot_handles, one_id, counting_all, counting_in, is_its, names, names_slot, counting, may_count, ◌≤◌, None, refl, length-replicate, IsBounded, Wait, IsCounted, IsNamed, slot_handles-few, same_Some, and_from, lt-ltb, same_id-same, one_in-same, uncounted}
 use Rattle.ob_store.proofs.NamedLaws.{there_within}
+use Rattle.ob_store.proofs.ByPlace.{replicate_at}
+use Rattle.ob_store.proofs.BySlot.{is_by_slot}
+use Rattle.ob_store.proofs.CountedLaws as stored
 
 abbrev pub handles_at : Places → ℕ → ℕ
 handles_at p k = get_or p.seen.handles k 0
@@ -59,3 +61,52 @@ tables_count p q (table ∷ tables) wide e =
     let c = table_counts p b.0 table wide b.1 in
     then_counts _ _ _ _ _ _ _ _ _ c (tables_count b.0 q tables (still_wide p b.0 _ _ c wide) b.2)
     (search (arith, sum_by-cons)) (search arith)
+
+abbrev Again : Places → List (List (Option Entry)) → Type 0
+Again p tables = (q : Places) × (counting_all p tables ≡ Ok q)
+
+pub its_id : (x : Option Object) (id : Id) → id_in x ≡ Some id → is_its id x ≡ true
+its_id = search (arith, same_Some, same_id-same)
+
+may-again : (p : Places) (id : Id) → IsThere p.objects id → handles_at p id.slot < 4294967295 → may_count p id ≡ true
+may-again p id there room = search (arith, its_id, and_from, lt-ltb, id.slot, p.objects)
+
+in-again : (p : Places) (places : List (Option Entry)) → IsWide p →
+    ((k : ℕ) → handles_at p k + slot_handles_in k places ≤ 4294967295) →
+    ((id : Id) → 0 < handles_in id places → IsThere p.objects id) → (q : Places) × (counting_in p places ≡ Ok q)
+in-again p [] wide few named = (p, refl)
+in-again p (None ∷ places) wide few named =
+    search (arith, in-again p places wide (search (arith, sum_by-cons)) (search (arith, sum_by-cons)))
+in-again p (Some e ∷ places) wide few named =
+    let there = named e.id (rw (sum_by-cons, same_id-same) (omega arith)) in
+    let room : handles_at p e.id.slot < 4294967295 = search (arith, sum_by-cons, one_in-same, few e.id.slot) in
+    let may = may-again p e.id there room in
+    let c = one_counts p e wide may in
+    let rest = in-again (with_handle p e.id.slot) places (still_wide p (with_handle p e.id.slot) _ _ c wide)
+    (λ k. search (arith, sum_by-cons, few k, c.handles k)) (λ id h. named id (search (arith, sum_by-cons))) in
+    (rest.0, rw may rest.1)
+
+all-again : (p : Places) (tables : List (List (Option Entry))) → IsWide p →
+    ((k : ℕ) → handles_at p k + slot_handles k tables ≤ 4294967295) →
+    ((id : Id) → 0 < handles_among id tables → IsThere p.objects id) → Again p tables
+all-again p [] wide few named = (p, refl)
+all-again p (table ∷ tables) wide few named =
+    let a = in-again p table wide (λ k. search (arith, sum_by-cons, few k)) (λ id h. named id (search (arith, sum_by-cons))) in
+    let c = table_counts p a.0 table wide a.1 in
+    let rest = all-again a.0 tables (still_wide p a.0 _ _ c wide)
+    (λ k. search (arith, sum_by-cons, few k, c.handles k))
+    (λ id h. rw c.same (named id (search (arith, sum_by-cons)))) in
+    (rest.0, rw a.1 rest.1)
+
+pub counting_again : (p : Places) (processes limit : ℕ) (tables : List (List (Option Entry)))
+    (waits : List (Option Wait)) → IsCounted p.seen (length p.objects) tables waits → IsNamed p.objects tables waits
+    → IsBounded processes limit tables → counting_all (uncounted p) tables ≡ Ok p
+counting_again p processes limit tables waits counted named bounded =
+    let n = length p.objects in
+    let wide : IsWide (uncounted p) = sym (length-replicate {A = ℕ} n 0) in
+    let a = all-again (uncounted p) tables wide
+    (λ k. search (arith, replicate_at, slot_handles-few k processes limit tables bounded)) named.entries in
+    let c = tables_count (uncounted p) a.0 tables wide a.1 in
+    let same : a.0.seen.handles ≡ p.seen.handles =
+    is_by_slot _ n _ (search (arith, c.length_is, length-replicate)) (λ k lt. search (arith, c.handles k, replicate_at)) ∙ sym counted.handles in
+    a.1 ∙ ap Ok (rw same at c.same)

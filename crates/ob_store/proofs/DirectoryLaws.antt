@@ -1,5 +1,5 @@
 -- How the rows of the directory change with the handles and with the objects, and whose rows they are.
-use Rattle.ob_store.proofs.Cited.{◌≡◌, ℕ, ◌≢◌, zero, suc, ◌<◌, List, [], ◌∷◌, ◌++◌, length, Option, Some, None, refl, ap, ◌∙◌, arith, get_or, set, Bool, true, false, cond, not, ◌&&◌, ltb, inl, inr, cases_eq, Id, same_id, ObjectName, Rows, Row, Entry, handles_among, Object, Contains, get_or-set_other, get_or-set_same, length-set, set-get_or, rows_of}
+use Rattle.ob_store.proofs.Cited.{◌≡◌, ℕ, ◌≢◌, zero, suc, ◌<◌, List, [], ◌∷◌, ◌++◌, length, Option, Some, None, refl, arith, get_or, set, Bool, true, false, cond, not, ◌&&◌, ltb, inl, inr, cases_eq, Id, same_id, ObjectName, Rows, Row, Entry, handles_among, Object, Contains, get_or-set_other, get_or-set_same, length-set, set-get_or, rows_of}
 use Rattle.std.specs.List.{All, cons_option, filter, filter_map}
 use Rattle.std.proofs.lemmas.List.{set-set}
 use Rattle.std.proofs.lemmas.List.Elements.{All-append, All-nil, All-tail, Contains-append_left, Contains-append_right, filter-append}
@@ -20,46 +20,36 @@ module _ {A B : Type 0} (f : Option A → Option B) where
   picks_same : (g : Option A → Option B) (xs : List (Option A))
       → ((k : ℕ) → f (get_or xs k None) ≡ g (get_or xs k None)) → filter_map f xs ≡ filter_map g xs
   picks_same g [] same = refl
-  picks_same g (x ∷ xs) same = let rest = picks_same g xs (λ k. same (suc k)) in λ i. cons_option (same 0 i) (rest i)
+  picks_same g (x ∷ xs) same = cc (picks_same g xs (λ k. same (suc k)), same 0)
 
   -- a slot changes, and what is picked of it stays
   picks_stay : (xs : List (Option A)) (k : ℕ) (x : Option A) → k < length xs → f x ≡ f (get_or xs k None)
       → filter_map f (set xs k x) ≡ filter_map f xs
   picks_stay [] k x less same = refl
-  picks_stay (y ∷ xs) zero x less same = search arith
-  picks_stay (y ∷ xs) (suc k) x less same = ap (cons_option (f y)) (picks_stay xs k x (omega arith) same)
+  picks_stay (y ∷ xs) k x less same = grind (arith, picks_stay xs)
 
   pub picks_none : (xs : List (Option A)) → ((k : ℕ) → f (get_or xs k None) ≡ None) → filter_map f xs ≡ []
   picks_none [] none = refl
-  picks_none (x ∷ xs) none = ap (λ o. cons_option o (filter_map f xs)) (none 0) ∙ picks_none xs (λ k. none (suc k))
+  picks_none (x ∷ xs) none = rw (none 0) (picks_none xs (λ k. none (suc k)))
 
   -- where nothing was picked, a slot that changes gives all
   picks_one : (xs : List (Option A)) (k : ℕ) (x : Option A) → k < length xs → ((j : ℕ) → f (get_or xs j None) ≡ None)
       → filter_map f (set xs k x) ≡ cons_option (f x) []
   picks_one [] k x less none = absurd (omega arith)
-  picks_one (y ∷ xs) zero x less none = ap (cons_option (f x)) (picks_none xs (λ j. none (suc j)))
-  picks_one (y ∷ xs) (suc k) x less none = ap (λ o. cons_option o (filter_map f (set xs k x))) (none 0)
-      ∙ picks_one xs k x (omega arith) (λ j. none (suc j))
+  picks_one (y ∷ xs) zero x less none = rw (picks_none xs (λ j. none (suc j))) refl
+  picks_one (y ∷ xs) (suc k) x less none = rw (none 0) (picks_one xs k x (omega arith) (λ j. none (suc j)))
 
   -- as does the one slot of which anything is picked
   pub picks_only : (xs : List (Option A)) (k : ℕ) → k < length xs → f None ≡ None
       → ((j : ℕ) → j ≢ k → f (get_or xs j None) ≡ None) → filter_map f xs ≡ cons_option (f (get_or xs k None)) []
   picks_only xs k less none others =
-      ap (filter_map f) (search (arith, set-get_or, set-set))
-      ∙ picks_one (set xs k None) k (get_or xs k None) (search (arith, length-set)) emptied
-    where
-      emptied : (j : ℕ) → f (get_or (set xs k None) j None) ≡ None
-      emptied j = search (arith, get_or-set_other, get_or-set_same)
-
-  -- what is picked is picked of a slot
-  picked_cons : (P : B → Type 0) (o : Option B) (ys : List B) → ((y : B) → o ≡ Some y → P y) → All P ys
-      → All P (cons_option o ys)
-  picked_cons = search arith
+      let all = picks_one (set xs k None) k (get_or xs k None) (search (arith, length-set)) (search (arith, get_or-set_other, get_or-set_same)) in
+      search (arith, set-get_or, set-set, all)
 
   picked_all : (P : B → Type 0) (xs : List (Option A)) → ((k : ℕ) (y : B) → f (get_or xs k None) ≡ Some y → P y)
       → All P (filter_map f xs)
   picked_all P [] each = All-nil P
-  picked_all P (x ∷ xs) each = picked_cons P (f x) (filter_map f xs) (each 0) (picked_all P xs (λ k. each (suc k)))
+  picked_all P (x ∷ xs) each = search (arith, picked_all P xs (λ k. each (suc k)), each 0)
 
   picked_later : (o : Option B) (ys : List B) (y : B) → Contains ys y → Contains (cons_option o ys) y
   picked_later None ys y there = there
@@ -68,18 +58,14 @@ module _ {A B : Type 0} (f : Option A → Option B) where
   picked_there : (xs : List (Option A)) (k : ℕ) (x : A) (y : B) → get_or xs k None ≡ Some x → f (Some x) ≡ Some y
       → Contains (filter_map f xs) y
   picked_there [] k x y at is = absurd cc
-  picked_there (z ∷ xs) zero x y at is = search arith
-  picked_there (z ∷ xs) (suc k) x y at is = search (arith, picked_later, picked_there xs k x y at is)
+  picked_there (z ∷ xs) k x y at is = grind (arith, picked_later, picked_there xs)
 
 -- rows that are the same birth by birth
 rows_alike : (ts ts' : Tables) (xs xs' : ObjectSlots) (n : ℕ)
     → ((b : ℕ) → b < n → filter_map (row_of ts' b) xs' ≡ filter_map (row_of ts b) xs)
     → rows_of ts' xs' n ≡ rows_of ts xs n
 rows_alike ts ts' xs xs' zero same = refl
-rows_alike ts ts' xs xs' (suc n) same =
-    let first = rows_alike ts ts' xs xs' n (λ b less. same b (omega arith)) in
-    let last : filter_map (row_of ts' n) xs' ≡ filter_map (row_of ts n) xs = same n (omega arith) in
-    λ i. first i ++ last i
+rows_alike ts ts' xs xs' (suc n) same = cc (same n (omega arith), rows_alike ts ts' xs xs' n (λ b less. same b (omega arith)))
 
 pub rows_same : (ts ts' : Tables) (xs : ObjectSlots) (n : ℕ)
     → ((k : ℕ) (o : Object) → get_or xs k None ≡ Some o → has_handles o.id ts' ≡ has_handles o.id ts)
@@ -90,46 +76,27 @@ rows_same ts ts' xs n same = search (arith, picks_same)
 abbrev pub is_of_other : Id → Row → Bool
 is_of_other id row = not (same_id row.1 id)
 
-filtered_first : (id : Id) (row : Row) (rows : Rows) (b : Bool) → same_id row.1 id ≡ b
-    → filter (is_of_other id) (row ∷ rows) ≡ cond b (filter (is_of_other id) rows) (row ∷ filter (is_of_other id) rows)
-filtered_first = search arith
-
-row_gone : (ts ts' : Tables) (id : Id) (b : ℕ) (x : Option Object) (rows rows' : Rows)
-    → ((o : Object) → has_handles o.id ts' ≡ (not (same_id o.id id) && has_handles o.id ts))
-    → rows' ≡ filter (is_of_other id) rows
-    → cons_option (row_of ts' b x) rows' ≡ filter (is_of_other id) (cons_option (row_of ts b x) rows)
-row_gone = search arith
-
 pub rows_gone : (ts ts' : Tables) (id : Id) (xs : ObjectSlots) (n : ℕ)
     → ((o : Object) → has_handles o.id ts' ≡ (not (same_id o.id id) && has_handles o.id ts))
     → rows_of ts' xs n ≡ filter (is_of_other id) (rows_of ts xs n)
 rows_gone ts ts' id xs zero gone = refl
-rows_gone ts ts' id xs (suc n) gone =
-    let first = rows_gone ts ts' id xs n gone in
-    let last = of_birth xs in
-    search (arith, filter-append)
+rows_gone ts ts' id xs (suc n) gone = search (arith, filter-append, rows_gone ts ts' id xs n gone, of_birth xs)
   where
     of_birth : (ys : ObjectSlots) → filter_map (row_of ts' n) ys ≡ filter (is_of_other id) (filter_map (row_of ts n) ys)
     of_birth [] = refl
-    of_birth (y ∷ ys) = row_gone ts ts' id n y _ _ gone (of_birth ys)
+    of_birth (y ∷ ys) = search (arith, of_birth ys)
 
 -- rows of other objects all stay
 pub others_stay : (id : Id) (rows : Rows) → All (λ (row : Row). same_id row.1 id ≡ false) rows
     → filter (is_of_other id) rows ≡ rows
 others_stay id [] apart = refl
-others_stay id (row ∷ rows) apart =
-    filtered_first id row rows false (apart 0 row (omega arith))
-    ∙ ap (λ more. row ∷ more) (others_stay id rows (All-tail (λ (r : Row). same_id r.1 id ≡ false) row rows apart))
+others_stay id (row ∷ rows) apart = grind (arith, apart 0 row, others_stay id rows (All-tail (λ (r : Row). same_id r.1 id ≡ false) row rows apart))
 
 -- one row goes, where all behind it stay
 pub first_goes : (id : Id) (row : Row) (rows rest : Rows) (b : Bool) → same_id row.1 id ≡ b
     → (b ≡ true → filter (is_of_other id) rows ≡ rows) → rest ≡ filter (is_of_other id) rows
     → cond b rows (row ∷ rest) ≡ filter (is_of_other id) (row ∷ rows)
 first_goes = search arith
-
-own_birth : (ts : Tables) (b : ℕ) (o : Object) → o.birth ≡ b → has_handles o.id ts ≡ true
-    → row_of ts b (Some o) ≡ named_row o.id o.name
-own_birth ts b o is has = search arith
 
 -- an object without handles leaves its slot, and the rows stay
 pub rows_left : (ts : Tables) (xs : ObjectSlots) (k : ℕ) (o : Object) (n : ℕ) → k < length xs
@@ -151,10 +118,8 @@ pub record IsRow (ts : Tables) (xs : ObjectSlots) (row : Row) : Type 0 where
   pub has : has_handles row.1 ts ≡ true
 
 pub rows_are : (ts : Tables) (xs : ObjectSlots) (n : ℕ) → All (IsRow ts xs) (rows_of ts xs n)
-rows_are ts xs zero = All-nil (IsRow ts xs)
-rows_are ts xs (suc n) =
-    All-append (IsRow ts xs) (rows_of ts xs n) (filter_map (row_of ts n) xs) (rows_are ts xs n)
-    (picked_all (row_of ts n) (IsRow ts xs) xs (search arith))
+rows_are ts xs zero = search (arith, All-nil)
+rows_are ts xs (suc n) = search (arith, All-append (IsRow ts xs), picked_all (row_of ts n) (IsRow ts xs), rows_are ts xs n)
 
 -- and each object with a name and with handles has a row
 pub row_there : (ts : Tables) (xs : ObjectSlots) (k : ℕ) (o : Object) (name : ObjectName) (n : ℕ)
@@ -162,9 +127,6 @@ pub row_there : (ts : Tables) (xs : ObjectSlots) (k : ℕ) (o : Object) (name : 
     → Contains (rows_of ts xs n) (name, o.id)
 row_there ts xs k o name zero at less named has = absurd (omega arith)
 row_there ts xs k o name (suc n) at less named has = elim (cases_eq o.birth n) [
-  | inl same ↦
-      let its_row = own_birth ts n o same has ∙ ap (named_row o.id) named in
-      Contains-append_right (rows_of ts xs n) _ _ (search (arith, picked_there))
-  | inr other ↦ Contains-append_left _ (filter_map (row_of ts n) xs) _ (row_there ts xs k o name n at (omega arith)
-      named has)
+  | inl same ↦ Contains-append_right (rows_of ts xs n) _ _ (picked_there (row_of ts n) xs k o _ at (search arith))
+  | inr other ↦ Contains-append_left _ (filter_map (row_of ts n) xs) _ (row_there ts xs k o name n at (omega arith) named has)
 ]

@@ -1,19 +1,15 @@
 -- Threads and processes end: what is sound stays so, and is on its way to the settled state.
-use Rattle.ob_store.proofs.Cited.{◌≡◌, ℕ, ◌≢◌, ◌<◌, List, length, Option, Some, None, refl, ap, ◌∙◌, arith, get_or, set, map, true, is_some, sum_by, length-set, length-map, get_or-set_other, get_or-set_same, Id, KeeperState, Body, Entry, handles_among, slot_handles, Wait, slot_owner, CountedBodies, without_blocks, thread_of, ObjectsInvariant, slot_left_by, thread_ended, IsLive, ProcessesState, IsCounted, ObjectsState, KeptRest, kept_rest, PartsState, SignaledState, KeepsEnough, State, AreLeft, IsEnding, IsUnderWay, owner_of, table_of}
+use Rattle.ob_store.proofs.Cited.{◌≡◌, ℕ, ◌≢◌, ◌<◌, List, length, Option, Some, None, refl, ◌∙◌, arith, get_or, set, map, true, is_some, sum_by, length-set, length-map, get_or-set_other, get_or-set_same, Id, KeeperState, Body, Entry, handles_among, Wait, slot_owner, without_blocks, thread_of, ObjectsInvariant, slot_left_by, thread_ended, IsLive, ProcessesState, IsCounted, ObjectsState, kept_rest, PartsState, SignaledState, KeepsEnough, State, AreLeft, IsEnding, IsUnderWay, table_of}
 use Rattle.ob_waits.specs.Form.{slot_form}
-use Rattle.ob_body.specs.Body.{after_abandon}
 use Rattle.ob_tables.specs.Tables.{without_entries}
 use Rattle.ob_tables.proofs.Counting.{handles_among-without_entries}
 use Rattle.ob_tables.proofs.SlotCounts.{slot_handles-without_entries}
 use Rattle.ob_waits.specs.Rules as rules
 use Rattle.ob_waits.specs.Waits.{thread_ids, unless_of, without_thread}
 use Rattle.ob_waits.proofs.Counted.{slot_dropped, blocks_dropped}
-use Rattle.ob_waits.proofs.Ends.{sizes_left}
-use Rattle.ob_waits.proofs.References.{left_all}
 use Rattle.ob_waits.proofs.Room.{room_dropped}
 use Rattle.ob_store.proofs.BodyLaws.{formed_by}
-use Rattle.ob_store.proofs.BySlot.{recounted}
-use Rattle.ob_store.proofs.CountedLaws.{blocks_at}
+use Rattle.ob_store.proofs.CountedLaws.{counted_unblocked}
 use Rattle.ob_store.proofs.EndLaws.{some_set}
 use Rattle.ob_store.proofs.EnoughLaws.{enough_unwaited}
 use Rattle.ob_store.proofs.KeptLaws.{sound_rested, state_rested}
@@ -24,12 +20,6 @@ use Rattle.ob_store.proofs.HeaderLaws.{read}
 left_mapped : (t : ℕ) (bodies after : List (Option Body)) → AreLeft bodies after
     → AreLeft (map (slot_left_by t) bodies) (map (slot_left_by t) after)
 left_mapped t bodies after l = search (arith, length-map, read)
-
-body_owner : (u t : ℕ) (b : Body) → owner_of (after_abandon u b) ≡ Some t → (owner_of b ≡ Some t) × (t ≢ u)
-body_owner = search arith
-
-owner_left_by : (u t : ℕ) (x : Option Body) → slot_owner (slot_left_by u x) ≡ Some t → (slot_owner x ≡ Some t) × (t ≢ u)
-owner_left_by = search (arith, body_owner)
 
 -- whose wait is left is another's
 waiter_left : (t u : ℕ) (w : Option Wait) → thread_of (unless_of t w) ≡ Some u → (thread_of w ≡ Some u) × (u ≢ t)
@@ -63,16 +53,16 @@ module _ (p : PartsState) (q r : ObjectsState) (a : SignaledState) (t : ℕ)
   }
 
   rests : kept_rest r ≡ kept_rest p.objects
-  rests = seen_rest ∙ blocks_rest
+  rests = search arith
 
   bodies_are : r.seen.bodies ≡ map (slot_left_by t) q.seen.bodies
-  bodies_are = ap (λ (x : CountedBodies). x.bodies) seen
+  bodies_are = search arith
 
   body_is : (k : ℕ) → get_or r.seen.bodies k None ≡ slot_left_by t (get_or q.seen.bodies k None)
   body_is k = search (arith, read)
 
   fewer : AreLeft p.objects.seen.bodies q.seen.bodies
-  fewer = rw blocks (left_blocks ids p.objects.seen)
+  fewer = search (arith, left_blocks, blocks)
 
   form_at : (k : ℕ) → is_some (get_or r.seen.bodies k None) ≡ true
       → slot_form (get_or r.seen.bodies k None) ≡ slot_form (get_or p.objects.seen.bodies k None)
@@ -80,49 +70,30 @@ module _ (p : PartsState) (q r : ObjectsState) (a : SignaledState) (t : ℕ)
 
   owner_at : (k u : ℕ) → slot_owner (get_or r.seen.bodies k None) ≡ Some u
       → (slot_owner (get_or p.objects.seen.bodies k None) ≡ Some u) × (u ≢ t)
-  owner_at k u h = let own = owner_left_by t u (get_or q.seen.bodies k None) (rw (body_is k) at h) in
-      grind (arith, own, fewer.each k)
+  owner_at k u h = search (arith, fewer, body_is)
 
   way_thread : ObjectsInvariant r → (first : KeeperState) (s : State) → IsUnderWay first p s
       → IsUnderWay first without (thread_ended s t)
   way_thread tied first s way = record {
     tied = tied;
-    sound = sound_rested p _ r _ a rests way.sound refl
-        (search (arith, length-set, some_set))
-        counted
-        (search (arith, blocks_dropped))
+    sound = sound_rested p _ r _ a rests way.sound refl (search (arith, length-set, some_set)) counted (search (arith, blocks_dropped))
         (formed_by _ _ _ _ form_at way.sound.formed)
         (record {
-          owners = λ k u h. let own = owner_at k u h in
-              live_still _ t u own.1 (way.sound.of_live.owners k u own.0);
-          waiters = λ n u h. let own = waiter_left t u _ (rw (read (unless_of t) p.waits.waits n) at h) in
-              live_still _ t u own.1 (way.sound.of_live.waiters n u own.0);
+          owners = λ k u h. let own = owner_at k u h in live_still _ t u own.1 (way.sound.of_live.owners k u own.0);
+          waiters = λ n u h. let own = waiter_left t u _ (rw (read (unless_of t) p.waits.waits n) at h) in live_still _ t u own.1
+              (way.sound.of_live.waiters n u own.0);
         })
         (search (arith, body_is, fewer, room_dropped));
     rest = state_rested p processes_left r (without_thread p.waits t) a rests
-        ∙ ap (λ (x : State). record x {
-          threads = set x.threads t None;
-          bodies = r.seen.bodies;
-          waits = map (unless_of t) x.waits;
-        }) way.rest;
+        ∙ (λ i. record (way.rest i) { threads = set (way.rest i).threads t None; bodies = r.seen.bodies; waits = map (unless_of t) (way.rest i).waits });
     bodies = rw bodies_are (left_mapped t _ _ (search (arith, fewer)));
-    keeper = ap (λ (x : KeptRest). x.keeper) rests ∙ way.keeper;
+    keeper = (λ i. (rests i).keeper) ∙ way.keeper;
   }
     where
       counted : IsCounted r.seen (length p.objects.objects) p.tables.tables dropped
-      counted = record {
-        handles = ap (λ (x : KeptRest). x.rest.handles) rests ∙ way.sound.counted.handles;
-        blocks = ap (λ (x : CountedBodies). x.blocks) seen
-            ∙ recounted _ _ _
-            _ _ way.sound.counted.blocks
-            (ap (λ (x : CountedBodies). length x.blocks) blocks ∙ (sizes_left ids p.objects.seen).blocks)
-            (λ k lt. rw blocks (omega (
-              arith,
-              blocks_at _ _ _ _ way.sound.counted k lt,
-              left_all ids p.objects.seen k,
-              slot_dropped k t _ alone,
-            )));
-      }
+      counted =
+          let left = counted_unblocked _ _ _ _ way.sound.counted ids dropped (λ k. slot_dropped k t _ alone) in
+          rw (seen, blocks) (record { handles = left.handles; blocks = left.blocks })
 
   pub ending_thread : ObjectsInvariant r → KeepsEnough p.signaled q.seen.bodies a r.seen.bodies
       → (first : KeeperState) (s : State) → IsEnding first p s → IsEnding first without (thread_ended s t)
@@ -131,7 +102,7 @@ module _ (p : PartsState) (q r : ObjectsState) (a : SignaledState) (t : ℕ)
 -- no entry of an empty table is counted
 none_counted : (f : Option Entry → ℕ) → f None ≡ 0 → (t : List (Option Entry)) → ((k : ℕ) → get_or t k None ≡ None)
     → sum_by f t ≡ 0
-none_counted f nothing t none = sum_none f None t (λ k lt. ap f (none k) ∙ nothing)
+none_counted f nothing t none = sum_none f None t (search (arith, none, nothing))
 
 -- a process ends that has no thread and no entry
 module _ (first : KeeperState) (p : PartsState) (s : State) (process : ℕ)
@@ -139,14 +110,8 @@ module _ (first : KeeperState) (p : PartsState) (s : State) (process : ℕ)
     (table : process < length p.tables.tables)
     (none : (k : ℕ) → get_or (table_of p.tables.tables process) k None ≡ None)
     (alone : (t : ℕ) → get_or p.processes.threads t None ≡ Some process → ⊥) where
-  abbrev cleared : List (List (Option Entry))
-  cleared = without_entries p.tables.tables process
-
   abbrev way : IsUnderWay first p s
   way = ending.under_way
-
-  slots_same : (k : ℕ) → slot_handles k (without_entries p.tables.tables process) ≡ slot_handles k p.tables.tables
-  slots_same k = search (arith, none_counted, slot_handles-without_entries)
 
   ids_same : (id : Id) → handles_among id (without_entries p.tables.tables process) ≡ handles_among id p.tables.tables
   ids_same id = search (arith, none_counted, handles_among-without_entries)
@@ -157,4 +122,4 @@ module _ (first : KeeperState) (p : PartsState) (s : State) (process : ℕ)
     tables = record p.tables { tables = without_entries p.tables.tables process };
   })
       (record s { tables = without_entries p.tables.tables process; processes = set s.processes process None })
-  ending_process = search (arith, slots_same, ids_same, get_or-set_other, get_or-set_same, length-set)
+  ending_process = search (arith, none_counted, slot_handles-without_entries, ids_same, get_or-set_other, get_or-set_same, length-set)

@@ -15,18 +15,11 @@ pub enough_left : (a : SignaledState) (bodies after : List (Option Body)) (ws : 
     → AreLeft bodies after → IsEnough a bodies ws → IsEnough a after ws
 enough_left a bodies after ws left enough = search arith
 
--- a thread's wait leaves
-pub enough_dropped : (a : SignaledState) (bodies : List (Option Body)) (ws : List (Option Wait)) (t : ℕ)
-    → IsEnough a bodies ws → IsEnough a bodies (map (unless_of t) ws)
-enough_dropped a bodies ws t enough = search (arith, settled_dropped)
-
 -- a slot that isn't listed with one more
 not_listed : (ids : List Id) (id : Id) (k : ℕ) → has_slot (ids ++ id ∷ []) k ≡ false
     → (has_slot ids k ≡ false) × (k ≡ id.slot → ⊥)
 not_listed [] id k h = search arith
-not_listed (x ∷ ids) id k h =
-    let rest = not_listed ids id k (grind arith) in
-    (grind arith, rest.1)
+not_listed (x ∷ ids) id k h = grind (arith, not_listed ids id k)
 
 -- a slot was noted, and its body changed
 pub enough_added : (a b : SignaledState) (p q : CountedBodies) (slot : ℕ) (x : Option Body)
@@ -44,19 +37,12 @@ enough_joined a bodies ws t id d settled noted =
     record {
       each = λ whole. record {
         before = set bodies id.slot None;
-        settled = settled_added _ ws t Any _ d (grind (arith, nat_tests, gone))
-            (settled_less _ _ ws (record {
-              each = λ u x. grind (arith, nat_tests, at_place);
-            }) settled);
-        less = λ u k out signaled.
-            let apart : k ≡ id.slot → ⊥ = λ same. grind (arith, nat_tests, noted whole, out, same) in
-            grind (arith, nat_tests, at_place, signaled, apart);
+        settled = settled_added _ ws t Any _ d (grind (arith, gone)) (settled_less _ _ ws (grind (arith, nat_tests, at_place)) settled);
+        less = λ u k out signaled. grind (arith, nat_tests, at_place, noted whole, out, signaled);
       };
     }
 
 -- a thread's blocks leave, and its wait
 pub enough_unwaited : (a : SignaledState) (o p : CountedBodies) (ws : List (Option Wait)) (t : ℕ) (ids : List Id)
     → p ≡ without_blocks o ids → IsEnough a o.bodies ws → IsEnough a p.bodies (map (unless_of t) ws)
-enough_unwaited a o p ws t ids blocks enough =
-    let fewer : AreLeft o.bodies p.bodies = rw blocks (left_blocks ids o) in
-    search (arith, enough_dropped)
+enough_unwaited a o p ws t ids blocks enough = let fewer = left_blocks ids o in search (arith, fewer, enough_left, settled_dropped)

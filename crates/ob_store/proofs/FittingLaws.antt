@@ -1,17 +1,20 @@
 -- Slots that are kept may be so, those that have a spelling fit, and which of them ever had an object.
-use Rattle.ob_store.proofs.Cited.{◌≡◌, ◌⊎◌, ℕ, ◌+◌, ◌-◌, ◌<◌, ◌≤◌, Bool, true, false, List, ◌++◌, length, get_or, map, replicate, take, drop, Option, sym, ap, ◌∙◌, arith, inl, inr, sum_by, AllByRecursion, range_with_len, cases_lt, le-leb, Slot, opening_slot, slot_of, Body, SavedSlot, Agrees, ObjectsInvariant, made_in, AreFormed, Object, ObjectsState, object_saved, slot_saved, slots_saved, ext_get_or, length-replicate, get_or-map-range_with_len, length-map-range_with_len, get_or-le-sum_by, SlotFits, ends_used, fresh_slot, used}
-use Rattle.std.proofs.lemmas.List.{drop_all, length-append, length-drop, get_or-drop, get_or_append_left, get_or-append-add}
-use Rattle.std.proofs.lemmas.List.FromFn.{map-range_with_len_more}
-use Rattle.std.proofs.lemmas.List.Sums.{sum_by-take-drop, sum_by_more, sum_by_more_le}
-use Rattle.ob_store.specs.SavedSlots.{AnySlotFits, is_fresh}
-use Rattle.ob_store.proofs.ByPlace.{all_by_place, replicate_at}
+use Rattle.ob_store.proofs.Cited.{◌≡◌, ◌⊎◌, ℕ, ◌+◌, ◌-◌, ◌<◌, ◌≤◌, Bool, true, false, List, length, get_or, map, take, drop, Option, sym, arith, inl, inr, sum_by, AllByRecursion, range_with_len, cases_lt, le-leb, Slot, opening_slot, slot_of, Body, SavedSlot, Agrees, ObjectsInvariant, made_in, AreFormed, Object, ObjectsState, object_saved, slot_saved, slots_saved, ext_get_or, get_or-map-range_with_len, length-map-range_with_len, get_or-le-sum_by, get_or_past, padded, SlotFits, ends_used, fresh_slot, used, drop_all, length-drop, get_or-drop, map-range_with_len_more, sum_by-take-drop, sum_by_more, sum_by_more_le, padded_at, padded_length, AnySlotFits, is_fresh}
+use Rattle.ob_store.proofs.ByPlace.{all_by_place}
 use Rattle.ob_store.proofs.UsedLaws.{ends_more, used_is}
+
+-- what is saved of the slots
+pub saved_long : (s : ObjectsState) → length (slots_saved s) ≡ s.keeper.shape.slots
+saved_long s = length-map-range_with_len (slot_saved s) 0 s.keeper.shape.slots
+
+pub saved_at : (s : ObjectsState) (k : ℕ) → k < s.keeper.shape.slots → get_or (slots_saved s) k fresh_slot ≡ slot_saved s k
+saved_at s k lt = search (arith, get_or-map-range_with_len)
 
 module _ (s : ObjectsState) (tied : ObjectsInvariant s) (clock : ℕ) (formed : AreFormed clock s.objects s.seen.bodies) where
   pub all_fit : ((k : ℕ) → k < s.keeper.shape.slots → AnySlotFits (slot_saved s k))
       → AllByRecursion (SlotFits s.keeper.shape.max_gen clock) (slots_saved s)
   all_fit each = all_by_place (SlotFits s.keeper.shape.max_gen clock) fresh_slot (slots_saved s)
-      (search (arith, le-leb, get_or-map-range_with_len, length-map-range_with_len))
+      (search (arith, le-leb, saved_at, saved_long))
 
 pub fresh_fits : (x : SavedSlot) → x ≡ fresh_slot → AnySlotFits x
 fresh_fits x is = rw is (omega arith, (tt, tt))
@@ -60,35 +63,24 @@ module _ (s : ObjectsState) (tied : ObjectsInvariant s) where
 
   module _ (k : ℕ) (le : k ≤ n) (made : sum_by made_in (take k slots) ≡ sum_by made_in slots) where
     pub all_fresh : (j : ℕ) → k ≤ j → j < n → slot_saved s j ≡ fresh_slot
-    all_fresh j from lt =
-        let there : j - k < length (drop k slots) = omega (arith, length-drop k slots, tied.agreed.wide) in
-        let at : get_or (drop k slots) (j - k) opening_slot ≡ slot_of slots j =
-        get_or-drop k slots (j - k) opening_slot ∙ ap (λ i. get_or slots i opening_slot) (omega arith) in
-        let least = get_or-le-sum_by made_in (drop k slots) (j - k) opening_slot there in
-        let none : made_in (slot_of slots j) ≡ 0 = omega (arith, sum_by-take-drop made_in slots k, ap made_in at) in
-        none-made j _ _ _ _ (tied.agreed.each j lt) (tied.aged j lt).0 none
+    all_fresh j from lt = none-made j _ _ _ _ (tied.agreed.each j lt) (tied.aged j lt).0
+        (search (
+          arith,
+          length-drop,
+          get_or-drop,
+          get_or-le-sum_by made_in (drop k slots) (j - k) opening_slot,
+          sum_by-take-drop made_in slots k,
+          tied.agreed.wide,
+        ))
 
     pub used_first : ends_used (first k) ≡ true → first k ≡ used (slots_saved s)
     used_first ended =
-        let long : length (first k) ≡ k = length-map-range_with_len (slot_saved s) 0 k in
-        let split : slots_saved s ≡ first k ++ replicate (n - k) fresh_slot =
-        ext_get_or fresh_slot (slots_saved s) (first k ++ replicate (n - k) fresh_slot)
-        (length-map-range_with_len (slot_saved s) 0 n
-        ∙ (omega (arith, length-append (first k) (replicate (n - k) fresh_slot), length-replicate (n - k) fresh_slot, long)))
-        (λ j lt. (let end = length-map-range_with_len (slot_saved s) 0 n in let within : j < n = omega (arith, lt, end) in
-        at n j within ∙ sym (behind j within (cases_lt j k)))) in
-        sym (ap used split ∙ used_is (first k) (n - k) ended)
+        let split : slots_saved s ≡ padded fresh_slot n (first k) =
+        ext_get_or fresh_slot _ _ (search (arith, saved_long, padded_length, length-map-range_with_len)) (λ j lt.
+        let within : j < n = omega (arith, saved_long s) in
+        rw (saved_at s j within, padded_at) (by j within (cases_lt j k))) in
+        rw split (sym (used_is (first k) _ ended))
       where
-        at : (m j : ℕ) → j < m → get_or (first m) j fresh_slot ≡ slot_saved s j
-        at m j lt = get_or-map-range_with_len (slot_saved s) 0 m j j fresh_slot (omega arith) (omega arith)
-
-        behind : (j : ℕ) → j < n → (j < k) ⊎ (k ≤ j)
-            → get_or (first k ++ replicate (n - k) fresh_slot) j fresh_slot ≡ slot_saved s j
-        behind j lt (inl below) =
-            get_or_append_left (first k) (replicate (n - k) fresh_slot) fresh_slot j
-            (omega (arith, length-map-range_with_len (slot_saved s) 0 k)) ∙ at k j below
-        behind j lt (inr above) =
-            let long : length (first k) + (j - k) ≡ j = omega (arith, length-map-range_with_len (slot_saved s) 0 k) in
-            ap (λ i. get_or (first k ++ replicate (n - k) fresh_slot) i fresh_slot) (sym long)
-            ∙ get_or-append-add (first k) (replicate (n - k) fresh_slot) (j - k) fresh_slot
-            ∙ replicate_at (n - k) (j - k) fresh_slot ∙ sym (all_fresh j above lt)
+        by : (j : ℕ) → j < n → (j < k) ⊎ (k ≤ j) → slot_saved s j ≡ get_or (first k) j fresh_slot
+        by j lt (inl below) = search (arith, get_or-map-range_with_len)
+        by j lt (inr above) = search (arith, all_fresh, get_or_past, length-map-range_with_len)

@@ -1,10 +1,6 @@
 -- One header changed: what becomes of the lists that are read off the headers.
-use Rattle.ob_store.proofs.Cited.{◌≡◌, ℕ, ◌-◌, ◌+◌, ◌<◌, List, length, Option, Some, None, ap, ◌∙◌, sym, arith, get_or, set, map, replicate, Bool, true, false, cond, eqb, IfSome, IsSome, map-set_same, padded, Id, Body, map-replicate, slot_acquired, without_block, ObjectHeader, with_blocks_at, length-map, get_or-map, get_or_past, get_or-set_same, set-get_or, Slots, is_vacant_at, Object, Places, places_of, Tag, object_of, objects_in, header_body, vacancy, vacant_places, with_handle, without_handle, without_header, no_tag}
-use Rattle.std.proofs.lemmas.List.{map-set}
-use Rattle.least.proofs.PaddedLemmas.{padded_length}
-use Rattle.ob_arena.specs.Slots.{least_vacant, vacant_count}
+use Rattle.ob_store.proofs.Cited.{◌≡◌, ℕ, ◌-◌, ◌+◌, ◌<◌, List, length, Option, Some, None, ap, sym, ◌∙◌, arith, get_or, set, map, replicate, Bool, true, false, eqb, IfSome, IsSome, map-set_same, padded, Id, Body, map-replicate, slot_acquired, without_block, ObjectHeader, with_blocks_at, length-map, get_or-map, get_or_past, get_or-set_same, set-get_or, Slots, is_vacant_at, Object, Places, places_of, Tag, object_of, objects_in, header_body, vacancy, vacant_places, with_handle, without_handle, without_header, no_tag, map-set, padded_length, least_vacant, vacant_count, rest_of, seen_in, header_handles, header_blocks, header_handle_left, header_block_left, with_header_of, with_block, is_last_handle}
 use Rattle.ob_arena.proofs.SlotLemmas.{vacant_least}
-use Rattle.ob_store.specs.Objects.{rest_of, seen_in, object_at, header_handles, header_blocks, header_handle_left, header_block_left, with_header_of, with_block, is_last_handle}
 use Rattle.ob_store.proofs.LabelLaws.{object_read, objects_kept, objects_padded, objects_length, objects_none, objects_out, objects_put, header_there}
 
 -- what a list that is read off another has at a place
@@ -26,48 +22,31 @@ module _ {B : Type 0} (f : Option ObjectHeader → B) (xs : List (Option ObjectH
 
 -- a header in its place, and one that differs from it
 module _ (xs : List (Option ObjectHeader)) (k : ℕ) (x : ObjectHeader) (is : get_or xs k None ≡ Some x) where
-  pub handles_at : get_or (map header_handles xs) k 0 ≡ x.handles
-  handles_at = search (arith, read)
+  -- what is read off it, and what stays as it was
+  at-header : {B : Type 0} (f : Option ObjectHeader → B) → get_or (map f xs) k (f None) ≡ f (Some x)
+  at-header f = search (arith, read)
 
-  pub blocks_at : get_or (map header_blocks xs) k 0 ≡ x.blocks
-  blocks_at = search (arith, read)
+  stays : {B : Type 0} (f : Option ObjectHeader → B) (y : ObjectHeader) → f (Some y) ≡ f (Some x)
+      → map f (set xs k (Some y)) ≡ map f xs
+  stays f y same = search (arith, map-set_same)
 
   -- where the object stays
-  pub objects_same : (ls : List Tag) (y : ObjectHeader) → ((l : Tag) → object_of y l ≡ object_of x l)
+  objects-stay : (ls : List Tag) (y : ObjectHeader) → ((l : Tag) → object_of y l ≡ object_of x l)
       → objects_in (set xs k (Some y)) ls ≡ objects_in xs ls
-  objects_same ls y same = objects_kept xs ls k (Some y) (λ l. ap Some (same l) ∙ ap (λ z. object_at z l) (sym is))
-
-  pub handles_same : (y : ObjectHeader) → y.handles ≡ x.handles
-      → map header_handles (set xs k (Some y)) ≡ map header_handles xs
-  handles_same y same = search (arith, map-set_same)
-
-  pub blocks_same : (y : ObjectHeader) → y.blocks ≡ x.blocks
-      → map header_blocks (set xs k (Some y)) ≡ map header_blocks xs
-  blocks_same y same = search (arith, map-set_same)
-
-  pub bodies_same : (y : ObjectHeader) → y.body ≡ x.body → map header_body (set xs k (Some y)) ≡ map header_body xs
-  bodies_same y same = search (arith, map-set_same)
-
-  pub body_here : get_or (map header_body xs) k None ≡ x.body
-  body_here = read header_body xs k ∙ ap header_body is
+  objects-stay ls y same = objects_kept xs ls k (Some y) (λ l. rw is (ap Some (same l)))
 
   -- a thread acquires it
   pub seen_acquired : (thread : ℕ) → seen_in (set xs k (Some (record x { body = slot_acquired thread x.body })))
-      ≡ record (seen_in xs) {
-        bodies = set (map header_body xs) k
-            (slot_acquired thread (get_or (map header_body xs) k None));
-      }
-  seen_acquired thread = search (arith, handles_same, blocks_same, body_here, map-set)
+      ≡ record (seen_in xs) { bodies = set (map header_body xs) k (slot_acquired thread (get_or (map header_body xs) k None)) }
+  seen_acquired thread = search (arith, stays, at-header header_body, map-set)
 
-  pub seen_put : (b : Body) → seen_in (set xs k (Some (record x { body = Some b }))) ≡ record (seen_in xs) {
-    bodies =
-        set (map header_body xs) k (Some b);
-  }
-  seen_put b = search (arith, handles_same, blocks_same, map-set)
+  pub seen_put : (b : Body) → seen_in (set xs k (Some (record x { body = Some b })))
+      ≡ record (seen_in xs) { bodies = set (map header_body xs) k (Some b) }
+  seen_put b = search (arith, stays, map-set)
 
   pub seen_block_left : seen_in (set xs k (Some (header_block_left x)))
       ≡ without_block (seen_in xs) (record { slot = k; generation = 0 })
-  seen_block_left = search (arith, handles_at, blocks_at, handles_same, bodies_same, map-set)
+  seen_block_left = search (arith, at-header header_handles, at-header header_blocks, stays, map-set)
 
   -- all that is read off the headers
   module _ (retired : List Bool) (ls : List Tag) where
@@ -78,28 +57,28 @@ module _ (xs : List (Option ObjectHeader)) (k : ℕ) (x : ObjectHeader) (is : ge
     after y = places_of (record { bodies = set xs k (Some y); retired = retired }) ls
 
     pub places_handle_came : after (record x { handles = x.handles + 1 }) ≡ with_handle before k
-    places_handle_came = search (arith, handles_at, objects_same, blocks_same, bodies_same, map-set)
+    places_handle_came = search (arith, at-header header_handles, objects-stay, stays, map-set)
 
     pub places_block_came : after (record x { blocks = x.blocks + 1 }) ≡ with_block before k
-    places_block_came = search (arith, blocks_at, objects_same, handles_same, bodies_same, map-set)
+    places_block_came = search (arith, at-header header_blocks, objects-stay, stays, map-set)
 
     pub places_blocks : (n : ℕ) → after (record x { blocks = n }) ≡ with_blocks_at before k n
-    places_blocks n = search (arith, objects_same, handles_same, bodies_same, map-set)
+    places_blocks n = search (arith, objects-stay, stays, map-set)
 
-    pub last_is : is_last_handle before k ≡ eqb ((x.handles - 1) + x.blocks) 0
-    last_is = search (arith, handles_at, blocks_at)
+    last_is : is_last_handle before k ≡ eqb ((x.handles - 1) + x.blocks) 0
+    last_is = search (arith, at-header header_handles, at-header header_blocks)
 
     pub places_handle_left : after (header_handle_left x) ≡ without_handle before k
-    places_handle_left = search (arith, handles_at, objects_same, blocks_same, bodies_same, map-set, last_is)
+    places_handle_left = search (arith, at-header header_handles, objects-stay, stays, map-set, last_is)
 
     pub places_handle_fewer : 1 < get_or (map header_handles xs) k 0 → after (record x { handles = x.handles - 1 })
         ≡ without_handle before k
-    places_handle_fewer more = search (arith, handles_at, places_handle_left)
+    places_handle_fewer more = search (arith, at-header header_handles, places_handle_left)
 
     -- what waits leave as it is
     pub rest_same : (y z : ObjectHeader) → y ≡ z → ((l : Tag) → object_of z l ≡ object_of x l) → z.handles ≡ x.handles
         → rest_of (after y) ≡ rest_of before
-    rest_same y z is object handles = ap (λ (s : ObjectHeader). rest_of (after s)) is ∙ (search (arith, objects_same, handles_same))
+    rest_same y z is object handles = rw is (search (arith, objects-stay, stays))
 
 -- a slot with an object has a header
 pub header_of : (s : Slots ObjectHeader) (ls : List Tag) (p : Places) (k : ℕ) → places_of s ls ≡ p
@@ -140,24 +119,23 @@ pub places_removed : (s : Slots ObjectHeader) (ls : List Tag) (k : ℕ)
 places_removed s ls k = search (arith, map-set, objects_out)
 
 -- a slot without a header has nothing to lose
-pub seen_absent : (xs : List (Option ObjectHeader)) (id : Id) → get_or xs id.slot None ≡ None
-    → seen_in xs ≡ without_block (seen_in xs) id
-seen_absent xs id none =
-    let handles : get_or (map header_handles xs) id.slot 0 ≡ 0 = search (arith, read) in
-    let blocks : get_or (map header_blocks xs) id.slot 0 ≡ 0 = search (arith, read) in
-    let less : get_or (map header_blocks xs) id.slot 0 ≡ get_or (map header_blocks xs) id.slot 0 - 1 = omega arith in
-    let counts : get_or (map header_handles xs) id.slot 0 + (get_or (map header_blocks xs) id.slot 0 - 1) ≡ 0 =
-    omega arith in
-    λ i. record {
-      bodies = (sym (set-get_or (map header_body xs) id.slot None)
-          ∙ ap (set (map header_body xs) id.slot) (read header_body xs id.slot ∙ ap header_body none)
-          ∙ ap (λ n. cond (eqb n 0) (set (map header_body xs) id.slot None) (map header_body xs)) (sym counts)) i;
-      handles = map header_handles xs;
-      blocks = (sym (set-get_or (map header_blocks xs) id.slot 0) ∙ ap (set (map header_blocks xs) id.slot) less) i;
-    }
+module _ (xs : List (Option ObjectHeader)) (id : Id) (none : get_or xs id.slot None ≡ None) where
+  nothing-set : {B : Type 0} (f : Option ObjectHeader → B) → set (map f xs) id.slot (f None) ≡ map f xs
+  nothing-set f =
+      ap (set (map f xs) id.slot) (sym (read f xs id.slot ∙ ap f none)) ∙ set-get_or (map f xs) id.slot (f None)
 
-pub places_vacant : (n : ℕ) (ls : List Tag) → places_of (record {
-  bodies = replicate n None;
-  retired = replicate n false;
-}) ls ≡ vacant_places n
+  nothing-there : {B : Type 0} (f : Option ObjectHeader → B) → get_or (map f xs) id.slot (f None) ≡ f None
+  nothing-there f = search (arith, read, none)
+
+  pub seen_absent : seen_in xs ≡ without_block (seen_in xs) id
+  seen_absent = search (
+    arith,
+    nothing-set header_body,
+    nothing-set header_blocks,
+    nothing-there header_handles,
+    nothing-there header_blocks,
+  )
+
+pub places_vacant : (n : ℕ) (ls : List Tag) → places_of (record { bodies = replicate n None; retired = replicate n false }) ls
+    ≡ vacant_places n
 places_vacant n ls = search (arith, map-replicate, objects_none)

@@ -1,5 +1,5 @@
 -- What is kept is kept by each change of a store, and the state after it is the settled one.
-use Rattle.ob_store.proofs.Cited.{nat_tests, at_place, ◌≡◌, ℕ, ◌<◌, ◌≤◌, List, [], ◌∷◌, length, Option, Some, None, refl, ap, subst, arith, get_or, map, set, IsSome, Id, Slot, KeeperState, HandleFlags, Entry, handles_among, entry_at, IsBounded, table_of, with_entry_of, with_flags_of, WaitList, Limits, ObjectsInvariant, PartsState, state_of, whole_of, SignaledState, StoreInvariant, IsSound, IsCounted, AreFormed, AreOfLive, IsPopulated, IsNamed, HasBodies, IsLive, ProcessesKept, ProcessesState, ObjectsState, KeptRest, kept_rest, opened, Whole, objects_of, settled, generation_of, IsFree}
+use Rattle.ob_store.proofs.Cited.{nat_tests, Body, at_place, ◌≡◌, ℕ, ◌<◌, ◌≤◌, List, [], ◌∷◌, length, Option, Some, None, refl, arith, get_or, map, set, IsSome, Id, Slot, KeeperState, HandleFlags, Entry, handles_among, entry_at, IsBounded, table_of, with_entry_of, with_flags_of, WaitList, Limits, ObjectsInvariant, PartsState, state_of, whole_of, SignaledState, StoreInvariant, IsSound, IsCounted, AreFormed, AreOfLive, IsPopulated, IsNamed, IsLive, ProcessesKept, ProcessesState, ObjectsState, kept_rest, opened, Whole, objects_of, settled, generation_of}
 use Rattle.ob_tables.specs.Tables as tables
 use Rattle.ob_tables.proofs.SlotCounts.{slot_handles-le}
 use Rattle.ob_waits.specs.Rules.{WaitsHaveRoom}
@@ -16,17 +16,15 @@ use Rattle.ob_store.proofs.PopulatedLaws.{populated_process, populated_thread}
 use Rattle.ob_store.proofs.SettledLaws.{settled_still}
 use Rattle.ob_tables.proofs.GivenLaws.{live_put, next_is_free, process_kept, thread_kept}
 
--- the table of one process changes, which stays empty where that isn't live
-pub table_changed : (limits : Limits) (l : ProcessesState) (ts : List (List (Option Entry))) (process : ℕ)
-    (table : List (Option Entry)) → (get_or l.processes process None ≡ None → table ≡ [])
-    → ProcessesKept limits l ts → ProcessesKept limits l (set ts process table)
-table_changed limits l ts process table empty k = grind (arith, at_place)
+module _ (limits : Limits) (l : ProcessesState) (ts : List (List (Option Entry))) (process : ℕ) (table : List (Option Entry)) where
+  -- the table of one process changes, which stays empty where that isn't live
+  pub table_changed : (get_or l.processes process None ≡ None → table ≡ []) → ProcessesKept limits l ts
+      → ProcessesKept limits l (set ts process table)
+  table_changed empty k = grind (arith, at_place)
 
--- that of a live process changes at will
-pub live_changed : (limits : Limits) (l : ProcessesState) (ts : List (List (Option Entry))) (process : ℕ)
-    (table : List (Option Entry)) → IsLive l.processes process → ProcessesKept limits l ts
-    → ProcessesKept limits l (set ts process table)
-live_changed limits l ts process table live = grind (arith, at_place)
+  -- that of a live process changes at will
+  pub live_changed : IsLive l.processes process → ProcessesKept limits l ts → ProcessesKept limits l (set ts process table)
+  live_changed live = grind (arith, at_place)
 
 -- what is stored is what the state counts
 pub objects_are : (p : PartsState) → IsSound p → p.objects.seen ≡ objects_of (state_of p)
@@ -34,8 +32,7 @@ objects_are p sound = search arith
 
 -- nothing is left to settle
 pub settled_kept : (p : PartsState) → StoreInvariant p → ObjectsInvariant p.objects → settled (state_of p) ≡ state_of p
-settled_kept p kept tied = settled_still (state_of p) kept.sound.named
-    (subst HasBodies (objects_are p kept.sound) tied.bodied) kept.settled
+settled_kept p kept tied = settled_still _ kept.sound.named (rw (objects_are p kept.sound) at tied.bodied) kept.settled
 
 pub whole_kept : (p : PartsState) → StoreInvariant p → ObjectsInvariant p.objects
     → ◌≡◌ {A = Whole} (whole_of p) (record { state = settled (state_of p); keeper = p.objects.keeper })
@@ -44,13 +41,10 @@ whole_kept p kept tied = search (arith, settled_kept)
 -- a keeper that only closed slots has its generations and its shape
 generations_open : (xs : List Slot) → map generation_of (map open_slot xs) ≡ map generation_of xs
 generations_open [] = refl
-generations_open (x ∷ xs) = ap (λ (t : List ℕ). x.generation ∷ t) (generations_open xs)
+generations_open (x ∷ xs) = search (arith, generations_open xs)
 
 pub same_generations : (a b : KeeperState) → opened a ≡ opened b → map generation_of a.slots ≡ map generation_of b.slots
 same_generations a b same = search (arith, generations_open)
-
-pub same_shape : (a b : KeeperState) → opened a ≡ opened b → a.shape ≡ b.shape
-same_shape a b same = ap (λ (k : KeeperState). k.shape) same
 
 -- threads, objects and waits changed, but for what waits leave of objects as it is
 module _ (p : PartsState) (l : ProcessesState) (q : ObjectsState) (ws : WaitList) (a : SignaledState)
@@ -65,16 +59,21 @@ module _ (p : PartsState) (l : ProcessesState) (q : ObjectsState) (ws : WaitList
     waits = ws.waits;
     clock = ws.clock;
   }
-  state_rested =
-      let generations = same_generations q.keeper p.objects.keeper (ap (λ (r : KeptRest). r.keeper) rest) in
-      search arith
+  state_rested = search (arith, same_generations)
 
   pub sound_rested : IsSound p → ws.limit ≡ p.waits.limit → ProcessesKept p.limits l p.tables.tables
       → IsCounted q.seen (length p.objects.objects) p.tables.tables ws.waits
       → IsNamed p.objects.objects p.tables.tables ws.waits
       → AreFormed ws.clock p.objects.objects q.seen.bodies → AreOfLive l.threads q.seen.bodies ws.waits
       → WaitsHaveRoom p.limits.max_recursion q.seen.bodies ws.waits → IsSound rested
-  sound_rested sound limit live counted named formed of_live room = search (arith, same_shape)
+  sound_rested sound limit live counted named formed of_live room = search arith
+
+-- bodies changed, and nothing else of the objects
+pub sound_bodies : (p : PartsState) (q : ObjectsState) (a : SignaledState) (bodies : List (Option Body))
+    → kept_rest q ≡ kept_rest p.objects → q.seen ≡ record p.objects.seen { bodies = bodies } → IsSound p
+    → AreFormed p.waits.clock p.objects.objects bodies → AreOfLive p.processes.threads bodies p.waits.waits
+    → WaitsHaveRoom p.limits.max_recursion bodies p.waits.waits → IsSound (record p { objects = q; signaled = a })
+sound_bodies p q a bodies rest seen sound formed of_live room = rw seen (search (arith, sound_rested))
 
 -- the object of a handle has a body
 pub handled : (p : PartsState) (id : Id) → IsSound p → ObjectsInvariant p.objects → 0 < handles_among id p.tables.tables
@@ -129,32 +128,25 @@ module _ (p : PartsState) (w : Whole) (view : whole_of p ≡ w) (kept : StoreInv
     abbrev pub next : ℕ
     next = next_number p.limits.reuse p.processes.processes
 
-    process_free : IsFree p.processes.processes next
-    process_free = next_is_free p.limits.reuse p.processes.processes kept.sound.processes_kept.processes_from_one
-
-    thread_free : IsFree p.processes.threads (next_number p.limits.reuse p.processes.threads)
-    thread_free = next_is_free p.limits.reuse p.processes.threads kept.sound.processes_kept.threads_from_one
-
     -- its table has no entry yet
     pub none_in : table_of p.tables.tables next ≡ []
-    none_in = kept.sound.processes_kept.vacated next process_free.none
+    none_in = search (arith, next_is_free)
 
     pub member_kept : (parent : Option ℕ) (session : ℕ)
         → ProcessesKept p.limits (with_member p parent session).processes (with_member p parent session).tables.tables
-    member_kept parent session = process_kept p.limits p.processes p.tables.tables next _ session _ process_free thread_free
-        (rw (← view) at processes) (rw (← view) at threads) kept.sound.processes_kept
+    member_kept parent session =
+        search (arith, process_kept, next_is_free, rw (← view) at processes, rw (← view) at threads, kept.sound.processes_kept)
 
     pub member_live : (parent : Option ℕ) (session : ℕ)
         → AreOfLive (with_member p parent session).processes.threads p.objects.seen.bodies p.waits.waits
-    member_live parent session = of_live_more _ _ _ _ (λ k. live_put _ _ _ k thread_free) kept.sound.of_live
+    member_live parent session = search (arith, of_live_more, live_put, next_is_free)
 
     pub member_populated : (parent : Option ℕ) (session : ℕ)
         → IsPopulated (with_member p parent session).processes.processes (with_member p parent session).processes.threads
-    member_populated parent session = populated_process _ _ _ _ _ process_free thread_free kept.populated
+    member_populated parent session = search (arith, populated_process, next_is_free)
 
     pub kept_process : (session : ℕ) → StoreInvariant (with_member p None session)
-    kept_process session =
-        search (arith, member_kept, member_live, member_populated, counted_process, named_process, listing_process, none_in, kept.sound, kept.settled)
+    kept_process session = search (arith, member_kept, member_live, member_populated, counted_process, named_process, listing_process, none_in)
 
 -- a thread comes
 abbrev pub with_thread : PartsState → ℕ → PartsState

@@ -1,7 +1,5 @@
 -- The objects that are read off the headers and their tags, and the tags that are read off labels and names.
-use Rattle.ob_store.proofs.Cited.{◌≡◌, ℕ, zero, suc, ◌-◌, ◌∷◌, ◌++◌, [], ◌<◌, List, length, Option, Some, None, refl, ap, ◌∙◌, arith, get_or, set, replicate, false, cond, IsSome, padded, ObjectName, Label, ObjectHeader, at_place, nat_tests, ext_get_or, length-replicate, Tag, name_in, object_of, objects_in, no_tag, tag_of, tags_in}
-use Rattle.std.proofs.lemmas.List.{get_or_default}
-use Rattle.ob_store.specs.Objects.{object_at, no_label}
+use Rattle.ob_store.proofs.Cited.{◌≡◌, ℕ, zero, suc, ◌∷◌, ◌++◌, [], ◌<◌, List, length, Option, Some, None, refl, ap, arith, get_or, set, replicate, false, cond, IsSome, padded, ObjectName, Label, ObjectHeader, at_place, nat_tests, ext_get_or, length-replicate, Tag, name_in, object_of, objects_in, no_tag, tag_of, tags_in, get_or_default, padded_at, object_at, no_label}
 use Rattle.ob_store.proofs.ByPlace.{replicate_at}
 
 pub object_read : (xs : List (Option ObjectHeader)) (ls : List Tag) (k : ℕ)
@@ -36,16 +34,10 @@ objects_out xs ls k = ext_get_or None _ _ (grind (arith, at_place, objects_lengt
     (λ j lt. grind (arith, nat_tests, at_place, object_read, objects_length))
 
 -- a tag where there was none says nothing
-objects_more : (xs : List (Option ObjectHeader)) (ls : List Tag) (n : ℕ)
-    → objects_in xs (ls ++ replicate n no_tag) ≡ objects_in xs ls
-objects_more [] ls n = refl
-objects_more (x ∷ xs) [] zero = refl
-objects_more (x ∷ xs) [] (suc n) = ap (λ t. object_at x no_tag ∷ t) (objects_more xs [] n)
-objects_more (x ∷ xs) (l ∷ ls) n = ap (λ t. object_at x l ∷ t) (objects_more xs ls n)
-
 pub objects_padded : (xs : List (Option ObjectHeader)) (ls : List Tag) (len : ℕ)
     → objects_in xs (padded no_tag len ls) ≡ objects_in xs ls
-objects_padded xs ls len = objects_more xs ls (len - length ls)
+objects_padded xs ls len = ext_get_or None _ _ (search (arith, objects_length)) (λ k lt.
+    search (arith, object_read, padded_at))
 
 -- no header, no object
 pub objects_none : (n : ℕ) (ls : List Tag) → objects_in (replicate n None) ls ≡ replicate n None
@@ -56,8 +48,7 @@ objects_none n ls = ext_get_or None _ _ (search (arith, objects_length, length-r
 pub object_here : (xs : List (Option ObjectHeader)) (ls : List Tag) (k : ℕ) (x : ObjectHeader) (l : Tag)
     → get_or xs k None ≡ Some x
     → l ≡ get_or ls k l → k < length ls → get_or (objects_in xs ls) k None ≡ Some (object_of x l)
-object_here xs ls k x l header label within = object_read xs ls k ∙ ap (λ z. object_at z (get_or ls k no_tag)) header
-    ∙ ap (λ z. Some (object_of x z)) (search (arith, get_or_default))
+object_here xs ls k x l header label within = search (arith, object_read, header, get_or_default)
 
 -- a slot with an object has a header
 pub header_there : (xs : List (Option ObjectHeader)) (ls : List Tag) (k : ℕ) → IsSome (get_or (objects_in xs ls) k None)

@@ -1,5 +1,5 @@
 -- The entry of a handle leaves: what is sound stays so, and is on its way to the settled state.
-use Rattle.ob_store.proofs.Cited.{at_place, ◌≡◌, ℕ, ◌+◌, ◌<◌, List, length, Option, Some, None, arith, get_or, Bool, eqb, [], IsSome, nat_tests, KeeperState, ObjectName, Rows, Entry, handles_among, table_of, without_entry_of, ObjectsInvariant, IsThere, IsNamed, IsListing, IsSound, PartsState, State, AreLeft, IsUnderWay, entry_at, Object, ObjectsState, name_in}
+use Rattle.ob_store.proofs.Cited.{at_place, ◌≡◌, ℕ, ◌<◌, length, Option, Some, None, arith, get_or, Bool, eqb, [], IsSome, nat_tests, KeeperState, ObjectName, Rows, Entry, handles_among, table_of, without_entry_of, ObjectsInvariant, IsThere, IsNamed, IsListing, IsSound, PartsState, State, AreLeft, IsUnderWay, entry_at, Object, ObjectsState, name_in}
 use Rattle.ob_tables.specs.Table.{without_entry}
 use Rattle.ob_store.specs.Objects.{without_handle_of}
 use Rattle.ob_store.specs.Moves.{rows_left, rows_without}
@@ -13,37 +13,25 @@ use Rattle.ob_store.proofs.KeptLaws.{same_generations, table_changed}
 
 -- an empty table stays empty
 nothing_left : (value : ℕ) → without_entry [] value ≡ []
-nothing_left value = search arith
+nothing_left = search arith
 
 module _ (p : PartsState) (process value : ℕ) (e : Entry) (sound : IsSound p) (tied : ObjectsInvariant p.objects)
     (found : entry_at (table_of p.tables.tables process) value ≡ Some e) where
-  abbrev o : ObjectsState
-  o = p.objects
-
-  abbrev pub handle_left : ObjectsState
-  handle_left = without_handle_of p.objects e.id.slot
-
-  abbrev tables_after : List (List (Option Entry))
-  tables_after = without_entry_of p.tables.tables process value
-
   there : IsThere p.objects.objects e.id
-  there = named_entry o.objects p.tables.tables p.waits.waits sound.named process value e found
+  there = search (arith, named_entry)
 
   within : e.id.slot < length p.objects.objects
-  within = there_within o.objects e.id there
+  within = search (arith, there_within, there)
 
   pub held : 0 < get_or p.objects.seen.handles e.id.slot 0
-  held =
-      let a = handles_at _ _ _ _ sound.counted _ within in
-      let b = one_less _ _ _ _ sound.counted _ _ e found in
-      omega arith
+  held = omega (arith, handles_at _ _ _ _ sound.counted _ within, one_less _ _ _ _ sound.counted _ _ e found)
 
   pub has_object : (q : ObjectsState) → q ≡ without_handle_of p.objects e.id.slot
       → IsSome (get_or q.objects e.id.slot None)
   has_object q is = search (arith, there_some, there)
 
   named_after : IsNamed p.objects.objects (without_entry_of p.tables.tables process value) p.waits.waits
-  named_after = named_removed o.objects p.tables.tables p.waits.waits sound.named process value e found
+  named_after = search (arith, named_removed)
 
   -- bodies stay, but for one at most
   pub bodies_left : AreLeft p.objects.seen.bodies (without_handle_of p.objects e.id.slot).seen.bodies
@@ -57,24 +45,15 @@ module _ (p : PartsState) (process value : ℕ) (e : Entry) (sound : IsSound p) 
         rows = rows;
       })
   sound_removed rows listing = record {
-    limited = search arith;
     processes_kept = search (arith, nothing_left, table_changed, sound.processes_kept.vacated);
     counted = counted_removed _ _ _ _ sound.counted _ _ _ e found;
-    named = named_after;
     formed = formed_left _ _ _ _ bodies_left sound.formed;
     of_live = search (arith, of_live_gone);
     room = search (arith, bodies_left);
+    limited = search arith;
+    named = named_after;
     listing = listing;
   }
-
-  -- the handles that there were
-  handles_were : get_or p.objects.seen.handles e.id.slot 0
-      ≡ handles_among e.id (without_entry_of p.tables.tables process value) + 1
-  handles_were =
-      let a = handles_at _ _ _ _ sound.counted _ within in
-      let b = one_less _ _ _ _ sound.counted _ _ e found in
-      let c = handles_are _ _ _ named_after _ there in
-      omega arith
 
   listing_zero : (x : Object) → get_or p.objects.objects e.id.slot None ≡ Some x → x.id ≡ e.id
       → handles_among e.id (without_entry_of p.tables.tables process value) ≡ 0 → (name : Option ObjectName)
@@ -90,7 +69,10 @@ module _ (p : PartsState) (process value : ℕ) (e : Entry) (sound : IsSound p) 
       (last : was_last ≡ eqb (get_or p.objects.seen.handles e.id.slot 0) 1)
       (names : rows ≡ rows_left p.rows was_last (name_in (get_or q.objects e.id.slot None))) where
     listing_left : IsListing rows (without_entry_of p.tables.tables process value) p.objects.objects p.objects.births
-    listing_left = search (arith, there, handles_were, listing_zero, listing_removed, there_some)
+    listing_left =
+        let was = handles_at _ _ _ _ sound.counted _ within in
+        let less = one_less _ _ _ _ sound.counted _ _ e found in
+        search (arith, there, was, less, handles_are _ _ _ named_after _ there, listing_zero, listing_removed)
 
     abbrev pub removed : PartsState
     removed = record p {

@@ -1,6 +1,5 @@
 -- Bodies that went, as references left.
-use Rattle.ob_store.proofs.Cited.{◌≡◌, ℕ, ◌⊎◌, List, [], ◌∷◌, Option, None, get_or, set, Bool, cond, arith, length-set, Id, Body, CountedBodies, without_block, without_blocks, HasBodies, Object, AreFormed, AreLeft, ended}
-use Rattle.ob_waits.specs.Ends.{slot_ended}
+use Rattle.ob_store.proofs.Cited.{◌≡◌, ℕ, List, [], ◌∷◌, Option, None, set, Bool, cond, arith, length-set, Id, Body, CountedBodies, without_block, without_blocks, HasBodies, Object, AreFormed, AreLeft, ended}
 use Rattle.ob_waits.proofs.EndsLast.{is_ended}
 use Rattle.ob_waits.proofs.Settling.{IsLess}
 use Rattle.ob_store.proofs.BodyLaws.{at_gone}
@@ -15,8 +14,8 @@ pub left_gone : (c : Bool) (bodies : List (Option Body)) (i : ℕ) → AreLeft b
 left_gone c bodies i = search (arith, at_gone, length-set)
 
 pub left_blocks : (ids : List Id) (o : CountedBodies) → AreLeft o.bodies (without_blocks o ids).bodies
-left_blocks [] o = left_same o.bodies
-left_blocks (id ∷ ids) o = search (arith, left_gone, left_blocks ids (without_block o id))
+left_blocks [] o = search (arith, left_same)
+left_blocks (id ∷ ids) o = search (arith, left_more, left_gone, left_blocks ids (without_block o id))
 
 -- they signal nothing
 pub less_gone : (bodies after : List (Option Body)) → AreLeft bodies after → IsLess bodies after
@@ -27,16 +26,8 @@ pub formed_left : (clock : ℕ) (objects : List (Option Object)) (bodies after :
     → AreLeft bodies after → AreFormed clock objects bodies → AreFormed clock objects after
 formed_left clock objects bodies after left = search arith
 
--- where bodies went that were to go, all that was to end has ended
-gone_ended : (after : CountedBodies) (bodies : List (Option Body)) (k : ℕ) → HasBodies after
-    → (get_or after.bodies k None ≡ get_or bodies k None) ⊎ (get_or after.bodies k None ≡ None)
-    → get_or after.bodies k None ≡ slot_ended (get_or after.handles k 0) (get_or after.blocks k 0)
-    (get_or bodies k None)
-gone_ended after bodies k has at = search arith
-
 pub ended_gone : (after : CountedBodies) (bodies : List (Option Body)) → HasBodies after → AreLeft bodies after.bodies
     → ended (record after { bodies = bodies }) ≡ after
 ended_gone after bodies has left =
-    let is : after.bodies ≡ (ended (record after { bodies = bodies })).bodies =
-    is_ended _ _ left.length_is (λ k. gone_ended _ _ k has (left.each k)) in
-    search arith
+    let is = is_ended (record after { bodies = bodies }) after.bodies left.length_is (search (arith, left.each)) in
+    search (arith, is)

@@ -19,7 +19,6 @@ pub mod PopulatedLaws
 pub mod OwnerLaws
 pub mod OneByOne
 pub mod TimerLaws
-pub mod WalkingLaws
 pub mod ClosingLaws
 pub mod NotedLaws
 pub mod LeftLaws
@@ -35,16 +34,12 @@ pub mod SavedLaws
 pub mod CountingLaws
 pub mod SavedSlotLaws
 pub mod SavedWaitLaws
-pub mod SavedBirthLaws
 pub mod SavedOrderLaws
 pub mod SavedNameLaws
 pub mod SavedObjectLaws
-pub mod SavedProcessLaws
 pub mod SavedKeptLaws
 pub mod FittingLaws
 pub mod SavedCodecs
-pub mod CountingAgain
-pub mod WholeAgain
 pub mod SavedAgain
 pub mod VacatedLaws
 pub mod SavedStoreLaws
@@ -54,7 +49,6 @@ pub mod OpeningLaws
 pub mod PlacedLaws
 pub mod AddedLaws
 pub mod ReclaimedLaws
-pub mod CameLaws
 pub mod WaitedLaws
 pub mod TimeoutLaws
 pub mod ChildLaws

@@ -1,9 +1,6 @@
 -- The published list has each object.
-use Rattle.ob_store.proofs.Cited.{at_place, nat_tests, ◌≡◌, ℕ, ◌<◌, List, [], ◌∷◌, ◌++◌, length, set, arith, Option, Some, get_or-set_same, get_or-set_other, get_or_past, length-set, Id, Object, ObjectsState, ObjectAttributes, object_in}
-use Rattle.pin_core.specs.declared.descr.Descr.{Descr}
+use Rattle.ob_store.proofs.Cited.{at_place, nat_tests, ◌≡◌, ℕ, ◌<◌, List, [], ◌∷◌, ◌++◌, length, set, arith, Option, Some, get_or-set_same, get_or-set_other, get_or_past, length-set, Id, Object, ObjectsState, ObjectAttributes, object_in, Descr, stored, published, Listed, IsListed}
 use Rattle.pin_core.proofs.Counts.{count-snoc}
-use Rattle.pin_words.specs.Keepers.{stored, published}
-use Rattle.ob_store.specs.Agreement.{Listed, IsListed}
 
 -- an object set at a slot, or one that leaves
 pub listed_set : (ps : List (Id × Descr)) (objects : List (Option Object)) (s : ℕ) (x : Option Object) → Listed ps x

@@ -1,20 +1,9 @@
 -- The names that are entered go on being the directory, and distinct, as handles and objects come and leave.
-use Rattle.ob_store.proofs.Cited.{HandleFlags, Id, same_id, ObjectName, Row, Entry, handles_among, handles_in, entry_at, Object, ObjectsState, AreBorn, IsAgreed, rows_of, IsListing, ◌≡◌, ℕ, ◌+◌, ◌<◌, ◌≤◌, [], ◌∷◌, ◌++◌, length, replicate, Some, None, refl, ap, ◌∙◌, sym, subst, arith, get_or, set, Bool, true, false, not, ◌&&◌, ltb, inl, inr, Option, Contains, cases_lt, append-nil, get_or_past, AreDistinct, Rows, find_name, table_of, with_entry_of, with_flags_of, with_table, without_entry_of, handles_among-with_table, some_within}
-use Rattle.std.proofs.Common.{is_some}
-use Rattle.std.specs.Cmp.{both_ways}
-use Rattle.std.specs.List.{All, IsDistinct, filter}
-use Rattle.std.specs.Map.{keys_of}
-use Rattle.std.proofs.lemmas.Bool.{ltb-true}
-use Rattle.std.proofs.lemmas.List.{map-append, set_past}
-use Rattle.std.proofs.lemmas.List.Elements.{All-from_recursion, All-tail, Contains-get_or}
+use Rattle.ob_store.proofs.Cited.{HandleFlags, Id, same_id, ObjectName, Row, Entry, handles_among, handles_in, entry_at, Object, ObjectsState, AreBorn, IsAgreed, rows_of, IsListing, ◌≡◌, ℕ, ◌+◌, ◌<◌, ◌≤◌, [], ◌∷◌, ◌++◌, length, replicate, Some, None, refl, ap, ◌∙◌, sym, subst, arith, get_or, set, Bool, true, false, not, ◌&&◌, inl, inr, Option, Contains, cases_lt, append-nil, get_or_past, AreDistinct, Rows, find_name, table_of, with_entry_of, with_flags_of, with_table, without_entry_of, handles_among-with_table, some_within, is_some, both_ways, All, filter, keys_of, ltb-true, map-append, set_past, All-from_recursion, All-tail, Contains-get_or, IsDistinct-push, IsDistinct-tail, same_name, without_name, same_name-Decides, same_name_equiv, new_table, found_counts, handles_among-with_entry, handles_among-with_flags, handles_among-without_entry, handles_in-among, handles_in-inherited, one_of}
+use Rattle.std.specs.List.{IsDistinct}
 use Rattle.std.proofs.lemmas.Map.Entries.{none_past_head}
-use Rattle.std.proofs.lemmas.Map.Keys.{IsDistinct-push, IsDistinct-tail}
 use Rattle.std.proofs.lemmas.Map.Made.{IsDistinct-keys_filter, is_some-lookup}
 use Rattle.std.proofs.lemmas.Map.Views.{Contains-from_lookup, lookup-from_Contains}
-use Rattle.ob_name.specs.Listing.{same_name, without_name}
-use Rattle.ob_name.specs.Same.{same_name-Decides, same_name_equiv}
-use Rattle.ob_tables.specs.Tables.{new_table}
-use Rattle.ob_tables.proofs.Counting.{found_counts, handles_among-with_entry, handles_among-with_flags, handles_among-without_entry, handles_in-among, handles_in-inherited, one_of}
 use Rattle.ob_store.proofs.DirectoryLaws.{IsRow, ObjectSlots, Tables, first_goes, has_handles, is_of_other, others_stay, row_there, rows_added, rows_are, rows_gone, rows_left, rows_same}
 
 -- each object stands in the slot of its Id
@@ -29,10 +18,6 @@ table_among id ts p = search (arith, get_or_past, handles_in-among)
 new_has : (id : Id) (ts : Tables) (from : Option ℕ) → handles_in id (new_table ts from) ≤ handles_among id ts
 new_has id ts None = omega arith
 new_has id ts (Some from) = omega (arith, table_among id ts from, handles_in-inherited id (table_of ts from))
-
-still_has_none : (id : Id) (ts : Tables) (p : ℕ) (from : Option ℕ) → table_of ts p ≡ []
-    → has_handles id (with_table ts p from) ≡ has_handles id ts
-still_has_none id ts p from none = search (arith, handles_among-with_table, new_has)
 
 -- tables that differ by an entry: where its object has handles without it, the same objects have handles
 still_has : (more fewer : Tables) (e : Entry) (id : Id) (b : Bool) → same_id id e.id ≡ b
@@ -50,8 +35,7 @@ none_left = search arith
 pub distinct_with : (rows : Rows) (name : ObjectName) (id : Id) → AreDistinct rows → find_name name rows ≡ None
     → AreDistinct (rows ++ (name, id) ∷ [])
 distinct_with rows name id distinct absent =
-    subst (IsDistinct same_name) (sym (map-append (λ (row : Row). row.0) rows ((name, id) ∷ [])))
-    (IsDistinct-push same_name_equiv _ _ distinct (sym (is_some-lookup (same_name name) rows) ∙ ap is_some absent))
+    rw map-append (IsDistinct-push same_name_equiv _ _ distinct (sym (is_some-lookup (same_name name) rows) ∙ ap is_some absent))
 
 -- where rows have the Id just if they have the name, those without the name are those without the Id
 name_goes : (name : ObjectName) (id : Id) (rows : Rows) → AreDistinct rows
@@ -111,7 +95,7 @@ module _ (rows : Rows) (ts : Tables) (objects : ObjectSlots) (births : ℕ)
   -- a process comes, without entries or with those that it inherits
   pub listing_process : (p : ℕ) (from : Option ℕ) → table_of ts p ≡ []
       → IsListing rows (with_table ts p from) objects births
-  listing_process p from none = listing_alike (with_table ts p from) (λ k o at. still_has_none o.id ts p from none)
+  listing_process p from none = listing_alike _ (λ k o at. search (arith, handles_among-with_table, new_has))
 
   -- an entry has other flags
   pub listing_flags : (p value : ℕ) (e : Entry) (flags : HandleFlags) → entry_at (table_of ts p) value ≡ Some e
@@ -130,17 +114,14 @@ module _ (rows : Rows) (ts : Tables) (objects : ObjectSlots) (births : ℕ)
   pub listing_removed : (p value : ℕ) (e : Entry) → entry_at (table_of ts p) value ≡ Some e
       → 0 < handles_among e.id (without_entry_of ts p value)
       → IsListing rows (without_entry_of ts p value) objects births
-  listing_removed p value e found some = listing_alike _ (λ k o at. still_has ts (without_entry_of ts p value) e o.id
-      (same_id o.id e.id) refl (handles_among-without_entry o.id ts p value e found) some)
+  listing_removed p value e found some = listing_alike _ (λ k o at. still_has ts (without_entry_of ts p value) e o.id _ refl
+      (handles_among-without_entry o.id ts p value e found) some)
 
   -- an object without handles leaves its slot
   pub listing_left : (slot : ℕ) (o : Object) → get_or objects slot None ≡ Some o → handles_among o.id ts ≡ 0
       → IsListing rows ts (set objects slot None) births
-  listing_left slot o at none = record {
-    same = listing.same ∙ sym (rows_left ts objects slot o births (some_within objects slot o at) at
-        (ap (λ n. ltb 0 n) none));
-    distinct = listing.distinct;
-  }
+  listing_left slot o at none =
+      search (arith, rows_left ts objects slot o births (some_within objects slot o at) at (rw none))
 
   module _ (placed : ArePlaced objects) where
     -- what is found by its name is an object of that name, which has handles
@@ -154,17 +135,10 @@ module _ (rows : Rows) (ts : Tables) (objects : ObjectSlots) (births : ℕ)
     pub listing_removed_last : (p value : ℕ) (e : Entry) (o : Object) → entry_at (table_of ts p) value ≡ Some e
         → handles_among e.id (without_entry_of ts p value) ≡ 0 → get_or objects e.id.slot None ≡ Some o → o.id ≡ e.id
         → o.name ≡ None → IsListing rows (without_entry_of ts p value) objects births
-    listing_removed_last p value e o found none at own nameless = record {
-      same = listing.same ∙ sym (rows_without ts objects births p value e found none
-          ∙ others_stay e.id (rows_of ts objects births) others);
-      distinct = listing.distinct;
-    }
-      where
-        apart : (row : Row) → IsRow ts objects row → same_id row.1 e.id ≡ false
-        apart row is = search arith
-
-        others : All (λ (row : Row). same_id row.1 e.id ≡ false) (rows_of ts objects births)
-        others k d less = apart (get_or (rows_of ts objects births) k d) (rows_are ts objects births k d less)
+    listing_removed_last p value e o found none at own nameless =
+        let stay = others_stay e.id (rows_of ts objects births) (λ k d less. let is = rows_are ts objects births k d less in
+        search arith) in
+        search (arith, rows_without, stay)
 
     pub listing_name_removed : (p value : ℕ) (e : Entry) (o : Object) (name : ObjectName) → AreBorn objects births
         → entry_at (table_of ts p) value ≡ Some e → handles_among e.id (without_entry_of ts p value) ≡ 0
@@ -186,10 +160,8 @@ module _ (rows : Rows) (ts : Tables) (objects : ObjectSlots) (births : ℕ)
         there = row_there ts objects o.id.slot o name births (here objects e o at own) (search arith) named has
 
         alike : All (λ (row : Row). same_id row.1 o.id ≡ same_name name row.0) (rows_of ts objects births)
-        alike k d less =
-            let also = Contains-get_or (rows_of ts objects births) k d less in
-            let is = rows_are ts objects births k d less in
-            row_alike ts _ _ o _ _ distinct placed (here objects e o at own) named there also is
+        alike k d less = row_alike ts _ _ o _ _ distinct placed (here objects e o at own) named there
+            (Contains-get_or (rows_of ts objects births) k d less) (rows_are ts objects births k d less)
 
         left : without_name name rows ≡ filter (is_of_other e.id) (rows_of ts objects births)
         left = ap (without_name name) listing.same ∙ name_goes name o.id (rows_of ts objects births) distinct alike
@@ -205,7 +177,8 @@ module _ (rows : Rows) (ts : Tables) (objects : ObjectSlots) (births : ℕ)
         → p < length ts → o.id ≡ e.id → o.birth ≡ births → o.name ≡ Some name
         → get_or objects e.id.slot None ≡ None → e.id.slot < length objects → find_name name rows ≡ None
         → IsListing (rows ++ (name, o.id) ∷ []) (with_entry_of ts p e) (set objects e.id.slot (Some o)) (births + 1)
-    listing_name_added p e o name born table own number named empty within absent = search (arith, handles_among-with_entry, rows_added, rows_same, distinct_with)
+    listing_name_added p e o name born table own number named empty within absent =
+        search (arith, handles_among-with_entry, rows_added, rows_same, distinct_with)
 
 -- before any call there is no name
 pub listing_opening : (slots : ℕ) → IsListing [] ([] ∷ []) (replicate slots None) 0

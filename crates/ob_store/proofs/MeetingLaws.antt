@@ -1,6 +1,5 @@
 -- A held Id has its object.
-use Rattle.ob_store.proofs.Cited.{Id, slot_of, id_of, ObjectsInvariant, ObjectsState, ◌≡◌, ◌<◌, true, None, arith}
-use Rattle.std.proofs.Common.{slice_index_or}
+use Rattle.ob_store.proofs.Cited.{Id, slot_of, id_of, ObjectsInvariant, ObjectsState, ◌≡◌, ◌<◌, true, None, arith, slice_index_or}
 use Rattle.pin_core.specs.Safety.{may_be_held}
 use Rattle.pin_words.specs.declared.view.ReaderView.{ReaderView}
 use Rattle.pin_words.specs.Plays.{Show}

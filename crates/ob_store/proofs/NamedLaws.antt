@@ -1,5 +1,5 @@
 -- Each Id that is named goes on being that of an object; and what a slot counts is what its object's Id counts.
-use Rattle.ob_store.proofs.Cited.{nat_tests, at_place, ◌≡◌, ℕ, suc, ◌<◌, ◌≤◌, List, [], ◌∷◌, length, Option, Some, None, refl, ap, arith, get_or, set, cond, eqb, inl, inr, sum_by, get_or_past, sum_by-cons, get_or-le-sum_by, same_id, Id, HandleFlags, Entry, handles_among, slot_handles, table_of, with_table, with_entry_of, with_flags_of, without_entry_of, Wait, Object, IsThere, IsNamed, cases_lt, entry_at, some_within, handles_among-with_table, Scene, nowhere, ids_of, slot_blocks, blocks_among}
+use Rattle.ob_store.proofs.Cited.{nat_tests, CountedBodies, at_place, ◌≡◌, ℕ, suc, ◌<◌, ◌≤◌, List, [], ◌∷◌, length, Option, Some, None, refl, arith, get_or, set, cond, eqb, sum_by, get_or_past, sum_by-cons, get_or-le-sum_by, same_id, Id, HandleFlags, Entry, handles_among, slot_handles, table_of, with_table, with_entry_of, with_flags_of, without_entry_of, Wait, Object, IsThere, IsNamed, entry_at, some_within, handles_among-with_table, nowhere, ids_of, slot_blocks, blocks_among}
 use Rattle.ob_tables.specs.Table.{at}
 use Rattle.ob_tables.proofs.Counting.{same_id-same, found_counts, handles_among-with_entry, handles_among-with_flags, handles_among-without_entry}
 use Rattle.ob_tables.proofs.SlotCounts.{slot_handles-one}
@@ -12,7 +12,7 @@ pub there_some : (objects : List (Option Object)) (id : Id) → IsThere objects 
 there_some objects id h = search arith
 
 pub there_within : (objects : List (Option Object)) (id : Id) → IsThere objects id → id.slot < length objects
-there_within objects id h = let o = there_some objects id h in some_within objects id.slot o.0 o.1
+there_within objects id h = search (arith, some_within)
 
 -- a slot has one object
 pub one_there : (objects : List (Option Object)) (a b : Id) → IsThere objects a → IsThere objects b → a.slot ≡ b.slot
@@ -22,21 +22,18 @@ one_there objects a b ha hb same = search arith
 pub sum_same : {X : Type 0} (f g : X → ℕ) (d : X) (xs : List X)
     → ((i : ℕ) → i < length xs → f (get_or xs i d) ≡ g (get_or xs i d)) → sum_by f xs ≡ sum_by g xs
 sum_same f g d [] each = refl
-sum_same f g d (x ∷ xs) each = omega (arith, sum_by-cons f x xs, sum_by-cons g x xs, each 0 (omega arith), sum_same f g d xs (λ i lt. each (suc i) (omega arith)))
+sum_same f g d (x ∷ xs) each = grind (arith, sum_by-cons, each 0, sum_same f g d xs (λ i lt. each (suc i) (omega arith)))
 
 pub sum_none : {X : Type 0} (f : X → ℕ) (d : X) (xs : List X) → ((i : ℕ) → i < length xs → f (get_or xs i d) ≡ 0)
     → sum_by f xs ≡ 0
 sum_none f d [] each = refl
-sum_none f d (x ∷ xs) each = omega (arith, sum_by-cons f x xs, each 0 (omega arith), sum_none f d xs (λ i lt. each (suc i) (omega arith)))
+sum_none f d (x ∷ xs) each = search (arith, sum_by-cons, each 0, sum_none f d xs (λ i lt. each (suc i) (omega arith)))
 
 -- what is counted stands somewhere
 pub some_counts : {X : Type 0} (f : X → ℕ) (d : X) (xs : List X) (P : Type 0)
     → ((i : ℕ) → i < length xs → 0 < f (get_or xs i d) → P) → 0 < sum_by f xs → P
 some_counts f d [] P each h = absurd (omega arith)
-some_counts f d (x ∷ xs) P each h = elim (cases_lt 0 (f x)) [
-  | inl some ↦ each 0 (omega arith) some
-  | inr none ↦ some_counts f d xs P (λ i lt. each (suc i) (omega arith)) (omega (arith, none, h, sum_by-cons f x xs))
-]
+some_counts f d (x ∷ xs) P each h = grind (arith, sum_by-cons f x xs, each 0, some_counts f d xs P (λ i lt. each (suc i) (omega arith)))
 
 -- no more is named than before
 pub named_fewer : (objects : List (Option Object)) (ts ts' : List (List (Option Entry))) (ws ws' : List (Option Wait))
@@ -48,7 +45,7 @@ module _ (objects : List (Option Object)) (ts : List (List (Option Entry))) (ws 
     (named : IsNamed objects ts ws) where
   -- the Id of an entry
   pub named_entry : (p value : ℕ) (e : Entry) → entry_at (table_of ts p) value ≡ Some e → IsThere objects e.id
-  named_entry p value e found = named.entries e.id (found_counts ts p value e found)
+  named_entry p value e found = search (arith, found_counts, named.entries)
 
   pub named_placed : (p : ℕ) (e : Entry) → p < length ts → 0 < handles_among e.id ts
       → IsNamed objects (with_entry_of ts p e) ws
@@ -64,8 +61,9 @@ module _ (objects : List (Option Object)) (ts : List (List (Option Entry))) (ws 
   -- an entry leaves
   pub named_removed : (p value : ℕ) (e : Entry) → entry_at (table_of ts p) value ≡ Some e
       → IsNamed objects (without_entry_of ts p value) ws
-  named_removed p value e found = named_fewer objects ts (without_entry_of ts p value) ws ws
-      (λ id. omega (arith, handles_among-without_entry id ts p value e found)) (λ id. omega arith) named
+  named_removed p value e found =
+      let fewer = λ (id : Id). handles_among-without_entry id ts p value e found in
+      search (arith, fewer, named_fewer)
 
   -- an entry has other flags
   pub named_flags : (p value : ℕ) (e : Entry) (flags : HandleFlags) → entry_at (table_of ts p) value ≡ Some e
@@ -77,9 +75,9 @@ module _ (objects : List (Option Object)) (ts : List (List (Option Entry))) (ws 
   named_process k none = search (arith, handles_among-with_table)
 
   -- the waits settle
-  pub named_settled : (first : Scene) (ws' : List (Option Wait)) → first.waits ≡ ws → ws' ≡ (settled first).waits
-      → IsNamed objects ts ws'
-  named_settled first ws' before after = search (arith, blocks_settled)
+  pub named_settled : (objects' : CountedBodies)
+      → IsNamed objects ts (settled (record { objects = objects'; waits = ws })).waits
+  named_settled objects' = search (arith, blocks_settled)
 
   -- whether a slot is an object's, and whether an Id is
   ids_agree : (x id : Id) → IsThere objects x → IsThere objects id → eqb x.slot id.slot ≡ same_id id x
@@ -91,22 +89,20 @@ module _ (objects : List (Option Object)) (ts : List (List (Option Entry))) (ws 
 
   -- the handles of an object's slot are its own
   pub handles_are : (id : Id) → IsThere objects id → slot_handles id.slot ts ≡ handles_among id ts
-  handles_are id there = slot_handles-one id ts (λ p i e is same. search (arith, entry_counted))
+  handles_are id there = search (arith, slot_handles-one, entry_counted, named.entries)
 
   pub place_counted : (n i : ℕ) → n < length ws → i < length (ids_of (get_or ws n None))
       → 0 < blocks_among (get_or (ids_of (get_or ws n None)) i nowhere) ws
   place_counted n i lt in' =
       let x = get_or (ids_of (get_or ws n None)) i nowhere in
       let a = get_or-le-sum_by (λ (y : Id). cond (same_id x y) 1 0) (ids_of (get_or ws n None)) i nowhere in' in
-      omega (arith, ap {B = ℕ} (λ b. cond b 1 0) (same_id-same x), a, get_or-le-sum_by (blocks_in x) ws n None lt)
+      grind (arith, a, same_id-same x, get_or-le-sum_by (blocks_in x) ws n None lt)
 
   -- and so are the blocks
   pub blocks_are : (id : Id) → IsThere objects id → slot_blocks id.slot ws ≡ blocks_among id ws
-  blocks_are id there = sum_same _ _ _ ws
-      (λ n lt. sum_same _ _ _
-      _
-      (λ i in'. let x = get_or (ids_of (get_or ws n None)) i nowhere in
-      ap {B = ℕ} (λ b. cond b 1 0) (ids_agree x id (named.blocks x (place_counted n i lt in')) there)))
+  blocks_are id there =
+      sum_same _ _ _ ws (λ n lt. sum_same _ _ _ _ (λ i in'. let x = get_or (ids_of (get_or ws n None)) i nowhere in
+      λ j. cond (ids_agree x id (named.blocks x (place_counted n i lt in')) there j) 1 0))
 
   -- no wait names a slot without an object
   pub blocks_vacant : (k : ℕ) → get_or objects k None ≡ None → slot_blocks k ws ≡ 0
@@ -120,7 +116,7 @@ module _ (objects : List (Option Object)) (ts : List (List (Option Entry))) (ws 
 
   -- as past the last
   pub blocks_past : (k : ℕ) → length objects ≤ k → slot_blocks k ws ≡ 0
-  blocks_past k le = blocks_vacant k (get_or_past objects k None le)
+  blocks_past k le = search (arith, blocks_vacant, get_or_past)
 
 -- an object to which nothing refers leaves its slot
 pub named_left : (objects : List (Option Object)) (ts : List (List (Option Entry))) (ws : List (Option Wait)) (id : Id)

@@ -1,7 +1,6 @@
 -- What is noted beside the headers, while one of them changes.
-use Rattle.ob_store.proofs.Cited.{at_place, ℕ, arith, ◌≡◌, ◌<◌, ◌≤◌, List, length, Option, Some, None, ap, refl, sym, get_or, map, set, Bool, false, cond, length-set, Body, ObjectName, slot_due, slot_owner, Label, ObjectHeader, IsSome, is_some, header_due}
-use Rattle.std.specs.Prelude.{not}
-use Rattle.ob_store.specs.Owners.{owned_came, owned_left, owned_moved, header_owner}
+use Rattle.ob_store.proofs.Cited.{ap, sym, at_place, ℕ, arith, ◌≡◌, ◌<◌, ◌≤◌, List, length, Option, Some, None, refl, get_or, map, set, Bool, false, cond, length-set, Body, ObjectName, slot_due, slot_owner, Label, ObjectHeader, IsSome, is_some, header_due, not}
+use Rattle.ob_store.specs.Owners.{header_owner, owned_came, owned_left, owned_moved}
 use Rattle.ob_store.specs.Timers.{AreNoted, due_left}
 use Rattle.ob_store.proofs.OwnerLaws.{moved_owned, owned_left_at, owned_set, owned_stays}
 use Rattle.ob_store.proofs.TimerLaws.{timed_left_at}
@@ -12,7 +11,7 @@ module _ (xs : List (Option ObjectHeader)) (counts : List ℕ) (dues : List (Opt
     (labels : List Label) (names : List (Option ObjectName)) (room : ℕ)
     (noted : AreNoted xs counts dues opens labels names room) (k : ℕ) where
   pub room_set : (y : Option ObjectHeader) → length (set xs k y) ≤ room
-  room_set y = omega (arith, noted.room, length-set xs k y)
+  room_set y = search (arith, length-set, noted.room)
 
   -- an object leaves
   pub labelled_out : (j : ℕ) → IsSome (get_or (set xs k None) j None) → j < length labels
@@ -25,9 +24,9 @@ module _ (xs : List (Option ObjectHeader)) (counts : List ℕ) (dues : List (Opt
       → AreNoted (set xs k (Some y)) (owned_came counts (slot_owner y.body)) (set dues k (slot_due y.body))
       (cond ended (set opens k false) opens) ls ns n
   noted_came y ended ls ns n within vacant is here more named same = record {
-    owned = moved_owned xs _ k _ _ _ noted.owned within (ap header_owner (sym vacant)) refl;
+    owned = moved_owned xs _ k noted.owned _ _ _ within (ap header_owner (sym vacant)) refl;
     timed = search (arith, mapped_set);
-    opened = opened_back xs _ k y _ noted.opened vacant is;
+    opened = opened_back xs _ k noted.opened y _ vacant is;
     labelled = λ j some. grind (arith, at_place, noted.labelled j);
     named = named;
     room = rw same (room_set _);

@@ -1,6 +1,5 @@
 -- A change of all bodies that is made at one slot after another.
-use Rattle.ob_store.proofs.Cited.{◌≡◌, ℕ, arith, Option, None, get_or, map, map-set_same, length-map, get_or-map, ext_get_or, Body, CountedBodies}
-use Rattle.ob_store.specs.Objects.{changed_at}
+use Rattle.ob_store.proofs.Cited.{◌≡◌, ℕ, arith, Option, None, get_or, map, map-set_same, length-map, get_or-map, ext_get_or, Body, CountedBodies, changed_at}
 
 module _ (f : Option Body → Option Body) where
   -- a slot that changed before the others do

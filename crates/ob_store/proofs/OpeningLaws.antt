@@ -1,7 +1,6 @@
 -- The state before any call is kept.
-use Rattle.ob_store.proofs.Cited.{◌≡◌, ℕ, zero, suc, ◌≤◌, [], ◌∷◌, None, refl, arith, map-replicate, length-replicate, opening_slot, HandleTables, WaitList, Limits, ObjectsInvariant, made_in, ObjectsState, with_keeper, vacant_places, PartsState, whole_of, StoreInvariant, sum_by, KeeperState, Whole, shape_of}
+use Rattle.ob_store.proofs.Cited.{◌≡◌, ℕ, zero, suc, ◌≤◌, [], ◌∷◌, None, refl, arith, map-replicate, length-replicate, opening_slot, HandleTables, WaitList, Limits, ObjectsInvariant, made_in, ObjectsState, with_keeper, vacant_places, PartsState, whole_of, StoreInvariant, sum_by, KeeperState, Whole, shape_of, replicate}
 use Rattle.ob_store.proofs.ByPlace.{replicate_at}
-use Rattle.std.specs.Prelude.{replicate}
 use Rattle.pin_words.specs.Keepers.{IsFresh}
 use Rattle.ob_tables.specs.Processes.{no_processes}
 use Rattle.ob_store.specs.Signaled.{none_signaled}

@@ -1,5 +1,5 @@
 -- Numbers that no live thread of a process has are passed by.
-use Rattle.ob_store.proofs.Cited.{◌≡◌, ℕ, zero, suc, ◌+◌, ◌-◌, ◌<◌, ◌≤◌, Option, Some, None, refl, ap, ◌∙◌, sym, arith, get_or, true, false, cond, KeeperState, PartsState, IsEnding, thread_ended, threads_ended, State}
+use Rattle.ob_store.proofs.Cited.{◌≡◌, ℕ, zero, suc, ◌+◌, ◌-◌, ◌<◌, ◌≤◌, Option, Some, None, refl, ap, ◌∙◌, sym, arith, get_or, true, false, KeeperState, PartsState, IsEnding, thread_ended, threads_ended, State}
 use Rattle.ob_tables.specs.Processes.{is_of}
 
 is_of_none : (p : ℕ) (x : Option ℕ) → (x ≡ Some p → ⊥) → is_of p x ≡ false
@@ -14,15 +14,11 @@ passed s p a (suc d) none =
     let at = ap (λ (x : State). get_or x.threads (a + d) None) rest in
     let other = is_of_none p _ (λ h. none (a + d) (omega arith) (omega arith) (sym at ∙ h)) in
     let more : a + suc d ≡ suc (a + d) = omega arith in
-    ap (threads_ended s p) more
-    ∙ ap (λ b. cond b (thread_ended (threads_ended s p (a + d)) (a + d)) (threads_ended s p (a + d))) other
-    ∙ rest
+    rw (more, other) rest
 
 pub passed_to : (s : State) (p a b : ℕ) → a ≤ b → ((t : ℕ) → a ≤ t → t < b
     → get_or (threads_ended s p a).threads t None ≡ Some p → ⊥) → threads_ended s p b ≡ threads_ended s p a
-passed_to s p a b le none =
-    let is : a + (b - a) ≡ b = omega arith in
-    search (arith, passed)
+passed_to s p a b le none = search (arith, passed s p a (b - a))
 
 -- the parts are on their way as well to where no thread between has ended
 pub ending_passed : (first : KeeperState) (p : PartsState) (s : State) (process a b : ℕ) → a ≤ b

@@ -1,5 +1,5 @@
 -- What a slot counts refers to its object; and a thread's process has its table.
-use Rattle.ob_store.proofs.Cited.{nat_tests, at_place, ◌≡◌, ℕ, ◌<◌, List, length, Option, Some, None, ◌∙◌, sym, arith, get_or, get_or_past, handles_among, blocks_among, Entry, Limits, IsLive, ProcessesKept, ProcessesState, Object, ObjectsState, object_of, tag_of, ObjectsInvariant, IsSound, IsThere, PartsState, IfSome}
+use Rattle.ob_store.proofs.Cited.{nat_tests, at_place, ◌≡◌, ℕ, ◌<◌, List, length, Option, Some, None, sym, arith, get_or, get_or_past, handles_among, blocks_among, Entry, Limits, IsLive, ProcessesKept, ProcessesState, Object, ObjectsState, object_of, tag_of, ObjectsInvariant, IsSound, IsThere, PartsState, IfSome}
 use Rattle.std.specs.Prelude.{OnSome}
 use Rattle.std.specs.Option.{option_map}
 use Rattle.ob_store.specs.declared.found.Found.{Found}
@@ -22,18 +22,13 @@ module _ (p : PartsState) (sound : IsSound p) (tied : ObjectsInvariant p.objects
   -- what the slot counts is what its object's Id counts
   module _ (o : Object) (at : get_or p.objects.objects k None ≡ Some o) where
     own : o.id.slot ≡ k
-    own = placed_agreed p.objects tied.agreed k o at
-
-    there : IsThere p.objects.objects o.id
-    there = placed_there p.objects tied k o at
+    own = search (arith, placed_agreed)
 
     pub own_handles : get_or p.objects.seen.handles k 0 ≡ handles_among o.id p.tables.tables
-    own_handles = rw (← own) (handles_at _ _ _ _ sound.counted o.id.slot (there_within _ o.id there) ∙ handles_are _ _ _
-        sound.named o.id there)
+    own_handles = rw (← own) (search (arith, handles_at, handles_are, there_within, placed_there, sound.counted, sound.named))
 
     pub own_blocks : get_or p.objects.seen.blocks k 0 ≡ blocks_among o.id p.waits.waits
-    own_blocks = rw (← own) (blocks_at _ _ _ _ sound.counted o.id.slot (there_within _ o.id there) ∙ blocks_are _ _ _
-        sound.named o.id there)
+    own_blocks = rw (← own) (search (arith, blocks_at, blocks_are, there_within, placed_there, sound.counted, sound.named))
 
   -- and so does what is seen there
   pub seen_handles : (x : Option Found) → get_or p.objects.objects k None
@@ -60,19 +55,17 @@ module _ (p : PartsState) (sound : IsSound p) (tied : ObjectsInvariant p.objects
 pub live_within : (numbers : List (Option ℕ)) (n : ℕ) → IsLive numbers n → n < length numbers
 live_within numbers n live = search (arith, get_or_past)
 
--- a live process has its table
-pub live_tabled : (limits : Limits) (l : ProcessesState) (tables : List (List (Option Entry))) (process : ℕ)
-    → ProcessesKept limits l tables → IsLive l.processes process → process < length tables
-live_tabled limits l tables process kept live = search (arith, live_within)
+module _ (limits : Limits) (l : ProcessesState) (tables : List (List (Option Entry))) where
+  -- a live process has its table
+  pub live_tabled : (process : ℕ) → ProcessesKept limits l tables → IsLive l.processes process → process < length tables
+  live_tabled process kept live = search (arith, live_within)
 
-pub process_tabled : (limits : Limits) (l : ProcessesState) (tables : List (List (Option Entry))) (process : ℕ)
-    (x : Option ℕ) → ProcessesKept limits l tables → x ≡ get_or l.processes process None
-    → OnSome x (process < length tables)
-process_tabled = grind (arith, nat_tests, at_place)
+  pub process_tabled : (process : ℕ) (x : Option ℕ) → ProcessesKept limits l tables → x ≡ get_or l.processes process None
+      → OnSome x (process < length tables)
+  process_tabled = grind (arith, nat_tests, at_place)
 
--- the process of a live thread has its table
-pub thread_tabled : (limits : Limits) (l : ProcessesState) (tables : List (List (Option Entry))) (thread : ℕ)
-    (x : Option ℕ) → ProcessesKept limits l tables → x ≡ get_or l.threads thread None
-    → IfSome x (λ p. p < length tables)
-thread_tabled limits l tables thread None kept is = tt
-thread_tabled limits l tables thread (Some p) kept is = live_tabled limits l tables p kept (kept.live thread p (sym is))
+  -- the process of a live thread has its table
+  pub thread_tabled : (thread : ℕ) (x : Option ℕ) → ProcessesKept limits l tables → x ≡ get_or l.threads thread None
+      → IfSome x (λ p. p < length tables)
+  thread_tabled thread None kept is = tt
+  thread_tabled thread (Some p) kept is = live_tabled p kept (kept.live thread p (sym is))

@@ -1,14 +1,7 @@
 -- Each live process has a live thread: as a test of what is read, and as it is kept.
-use Rattle.ob_store.proofs.Cited.{at_place, IsPopulated, State, ◌≡◌, ℕ, ◌≢◌, zero, suc, Bool, true, false, cond, List, [], ◌∷◌, length, Option, Some, None, refl, ap, ◌∙◌, arith, get_or, set, inl, inr, cases_eq, thread_ended, threads_ended, IsLive, ProcessesState, IsFree}
-use Rattle.std.proofs.Common.{◌||◌}
-use Rattle.std.specs.List.{list_any}
+use Rattle.ob_store.proofs.Cited.{at_place, IsPopulated, State, ◌≡◌, ℕ, ◌≢◌, zero, suc, Bool, true, List, [], ◌∷◌, length, Option, Some, None, refl, ap, ◌∙◌, arith, get_or, set, thread_ended, threads_ended, IsLive, ProcessesState, IsFree, ◌||◌, list_any, after_thread_end, exited, process_ended, is_of, are_populated, is_populated, put, any_put, get_or-put}
 use Rattle.std.proofs.lemmas.Bool.{eq-eqb}
-use Rattle.ob_store.specs.Ends.{after_thread_end, exited, process_ended}
-use Rattle.ob_tables.specs.Processes.{is_of}
-use Rattle.ob_tables.specs.SavedProcesses.{are_populated, is_populated}
 use Rattle.ob_store.proofs.ByPlace.{below_at, below_from}
-use Rattle.ob_tables.specs.Tables.{put}
-use Rattle.ob_tables.proofs.GivenLaws.{any_put, get_or-put}
 use Rattle.ob_store.proofs.PlacedLaws.{live_within}
 
 -- as a test
@@ -61,16 +54,5 @@ populated_exited s p populated = search (arith, threads_left, process_left)
 pub populated_thread_ended : (s : State) (p t : ℕ) → get_or s.threads t None ≡ Some p
     → IsPopulated s.processes s.threads
     → IsPopulated (after_thread_end s p t).processes (after_thread_end s p t).threads
-populated_thread_ended s p t its populated = by (list_any (is_of p) (thread_ended s t).threads) refl
-  where
-    rest : Besides p (thread_ended s t)
-    rest = thread_left s p t (ap (is_of p) its ∙ eq-eqb p p refl) (λ q other. populated q)
-
-    by : (b : Bool) → list_any (is_of p) (thread_ended s t).threads ≡ b
-        → (let after = cond b (thread_ended s t) (process_ended (thread_ended s t) p) in
-        IsPopulated after.processes after.threads)
-    by true some = λ q live. elim (cases_eq q p) [
-      | inl same ↦ search arith
-      | inr other ↦ rest q other live
-    ]
-    by false none = process_left (thread_ended s t) p rest
+populated_thread_ended s p t its populated =
+    grind (arith, eq-eqb, thread_left s p t (ap (is_of p) its ∙ eq-eqb p p refl), process_left (thread_ended s t) p)

@@ -1,9 +1,39 @@
--- The order of births rises, and has the births of the objects, each with its slot, and no others.
-use Rattle.ob_store.proofs.Cited.{◌≡◌, ℕ, ◌⊎◌, zero, suc, ◌+◌, ◌<◌, ◌≤◌, Bool, true, false, cond, List, [], ◌∷◌, get_or, Option, Some, None, Ok, refl, sym, ap, ◌∙◌, arith, inl, inr, insert_entry, is_at, Object, Births, births_from, AreBorn, nat_cmp}
-use Rattle.std.specs.declared.cmp.Ordering.{Ordering}
-use Rattle.std.specs.declared.cmp.Ordering.TheVariants.{Less, Equal, Greater}
-use Rattle.std.specs.Ordering.{match_ordering}
-use Rattle.ob_store.proofs.SavedBirthLaws.{at_is, births_step, is_greater, is_less, taken, taken_inserted}
+-- The order of births rises, and has the births of the objects, each with its slot, and no others; births that are distinct are ordered.
+use Rattle.ob_store.proofs.Cited.{insert_entry, is_at, nat_cmp, Object, Births, births_from, ◌≡◌, ℕ, ◌≢◌, suc, ◌<◌, true, false, cond, List, [], ◌∷◌, Option, Some, None, Ok, refl, ◌∙◌, arith, eq-eqb, ne_eqb, unsigned_tied, lookup, Less, Greater, ◌⊎◌, zero, ◌+◌, ◌≤◌, Bool, get_or, sym, inl, inr, AreBorn}
+
+-- the slot that has a birth
+abbrev pub taken : Births → ℕ → Option ℕ
+taken es birth = lookup (is_at (nat_cmp birth)) es
+
+-- what the order of two numbers says of them
+pub is_less : (b c : ℕ) → nat_cmp b c ≡ Less → b < c
+is_less b c e = search arith
+
+pub is_greater : (b c : ℕ) → nat_cmp b c ≡ Greater → c < b
+is_greater b c e = search arith
+
+pub at_is : (c b : ℕ) → is_at (nat_cmp c) b ≡ true → c ≡ b
+at_is c b e = search arith
+
+pub at_same : (b : ℕ) → is_at (nat_cmp b) b ≡ true
+at_same b = unsigned_tied b b ∙ eq-eqb b b refl
+
+pub at_other : (c b : ℕ) → c ≢ b → is_at (nat_cmp c) b ≡ false
+at_other c b apart = unsigned_tied c b ∙ ne_eqb c b apart
+
+-- what has a birth once one came
+pub taken_inserted : (es : Births) (b slot c : ℕ) →
+    taken (insert_entry nat_cmp es b slot) c ≡ cond (is_at (nat_cmp c) b) (Some slot) (taken es c)
+taken_inserted [] b slot c = refl
+taken_inserted (x ∷ es) b slot c = search (arith, taken_inserted es b slot c)
+
+module _ (births : ℕ) (order : Births) where
+  -- one object more
+  pub births_step : (slot : ℕ) (so_far : Births) (x : Object) (objects : List (Option Object)) →
+      births_from births so_far slot (Some x ∷ objects) ≡ Ok order →
+      (x.birth < births) × (taken so_far x.birth ≡ None) ×
+      (births_from births (insert_entry nat_cmp so_far x.birth slot) (suc slot) objects ≡ Ok order)
+  births_step slot so_far x objects e = search arith
 
 -- births from one number on, below another, each above the one before it
 unfoldable pub Rises : ℕ → ℕ → Births → Type 0
@@ -15,13 +45,7 @@ still-rises : (low high : ℕ) (es : Births) (b slot : ℕ) → low ≤ b → b 
 unfolding Rises
 still-rises low high [] b slot from below r = (from, below, tt)
 still-rises low high (x ∷ es) b slot from below r =
-    by (nat_cmp b x.0) refl (λ above. still-rises (suc x.0) high es b slot above below r.2)
-  where
-    by : (o : Ordering) → nat_cmp b x.0 ≡ o → (x.0 < b → Rises (suc x.0) high (insert_entry nat_cmp es b slot)) →
-        Rises low high (match_ordering o ((b, slot) ∷ x ∷ es) ((x.0, slot) ∷ es) (x ∷ insert_entry nat_cmp es b slot))
-    by Less is others = (from, below, (is_less b x.0 is, r.1, r.2))
-    by Equal is others = (r.0, r.1, r.2)
-    by Greater is others = (r.0, r.1, others (is_greater b x.0 is))
+    grind (arith, is_less, is_greater, still-rises (suc x.0) high es b slot)
 
 -- a birth that is below all isn't there
 pub none_below : (low high : ℕ) (es : Births) (b : ℕ) → b < low → Rises low high es → taken es b ≡ None
@@ -74,16 +98,10 @@ module _ (births : ℕ) (order : Births) where
   each-taken slot so_far (None ∷ objects) e (suc k) o is = search (arith, each-taken (suc slot) so_far objects e k o is)
   each-taken slot so_far (Some x ∷ objects) e zero o is =
       let s = births_step births order slot so_far x objects e in
-      let here : taken (insert_entry nat_cmp so_far x.birth slot) x.birth ≡ Some slot =
-      search (arith, taken_inserted) in
-      let same : x ≡ o = cc is in
-      ap (λ (z : Object). taken order z.birth) (sym same) ∙
-      taken-still (suc slot) (insert_entry nat_cmp so_far x.birth slot) objects s.2 x.birth slot here ∙
-      ap (λ (n : ℕ). Some n) (let e : slot ≡ slot + 0 = omega arith in e)
+      search (arith, taken_inserted, taken-still (suc slot) (insert_entry nat_cmp so_far x.birth slot) objects s.2 x.birth slot)
   each-taken slot so_far (Some x ∷ objects) e (suc k) o is =
-      each-taken (suc slot) (insert_entry nat_cmp so_far x.birth slot) objects
-      (births_step births order slot so_far x objects e).2 k o is ∙
-      ap (λ (n : ℕ). Some n) (let e : suc slot + k ≡ slot + suc k = omega arith in e)
+      let s = births_step births order slot so_far x objects e in
+      search (arith, each-taken (suc slot) (insert_entry nat_cmp so_far x.birth slot) objects s.2 k o is)
 
   came-later : (slot : ℕ) (so_far : Births) (x : Option Object) (objects : List (Option Object)) (b k : ℕ) →
       Came so_far (suc slot) objects b k → Came so_far slot (x ∷ objects) b k
@@ -129,3 +147,28 @@ module _ (births : ℕ) (order : Births) where
         below = λ k x is. taken_below 0 births order x.birth k o.rises (o.each k x is);
         apart = λ j k x y is it same. grind (arith, o.each j x is, o.each k y it, same);
       }
+
+-- and births that are distinct, and below their count, have an order
+born-later : (x : Option Object) (xs : List (Option Object)) (births : ℕ) → AreBorn (x ∷ xs) births → AreBorn xs births
+born-later x xs births born = record {
+  below = λ k o is. born.below (suc k) o is;
+  apart = λ j k o p is it same. (let e = born.apart (suc j) (suc k) o p is it same in omega arith);
+}
+
+from-again : (births : ℕ) (so_far : Births) (slot : ℕ) (objects : List (Option Object)) → AreBorn objects births
+    → ((k : ℕ) (o : Object) → get_or objects k None ≡ Some o → taken so_far o.birth ≡ None)
+    → (order : Births) × (births_from births so_far slot objects ≡ Ok order)
+from-again births so_far slot [] born free = (so_far, refl)
+from-again births so_far slot (None ∷ objects) born free =
+    from-again births so_far (suc slot) objects (born-later None objects births born) (λ k. free (suc k))
+from-again births so_far slot (Some x ∷ objects) born free =
+    let new = free 0 x refl in
+    let below = born.below 0 x refl in
+    let rest = from-again births (insert_entry nat_cmp so_far x.birth slot) (suc slot) objects
+    (born-later (Some x) objects births born)
+    (λ k o is. grind (arith, taken_inserted, free (suc k) o is, born.apart (suc k) 0 o x is refl)) in
+    search arith
+
+pub births_again : (objects : List (Option Object)) (births : ℕ) → AreBorn objects births →
+    (order : Births) × (births_from births [] 0 objects ≡ Ok order)
+births_again objects births born = from-again births [] 0 objects born (λ k o is. refl)

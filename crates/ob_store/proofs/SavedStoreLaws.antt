@@ -1,31 +1,33 @@
 -- A store that is kept is read again as it was written, and what is read of a store was written so.
-use Rattle.ob_store.proofs.Cited.{w64, to_le_bytes, AllByRecursion, flat_map, bind_ok, Shape, opening_slot, HandleTables, thread_of, WaitList, ids_of, nowhere, Wait, Limits, SavedSlot, ObjectsInvariant, IsLive, ProcessesState, StoreInvariant, IsSound, ObjectsState, PartsState, whole_of, ◌≡◌, ℕ, ◌*◌, ◌<◌, ◌≤◌, Bool, true, false, cond, List, [], ◌∷◌, ◌++◌, length, get_or, map, Option, Some, None, Ok, append_assoc, refl, sym, ap, ◌∙◌, subst, arith, le-leb, ext_get_or, get_or-map, length-map, where_codec, IsCodec, objects_at, objects_text, slots_saved, processes_text, SlotFits, fresh_slot, keeper_slot, slot_text, Whole, generation_of, shape_of}
-use Rattle.std.proofs.Common.{◌^◌}
-use Rattle.std.proofs.lemmas.Bool.{lt-ltb}
+use Rattle.ob_store.proofs.Cited.{ℕ, ◌+◌, List, None, Option, arith, refl, IsCodec, Entry, Limits, ProcessesKept, ProcessesState, IsPopulated, where_codec, processes_text, as_codec, both_codec, list_codec, option_codec, u32_codec, AreWithin, ListsFit, ProcessesFit, are_numbers, is_of_live, numbers_at, numbers_text, processes_at, w64, to_le_bytes, AllByRecursion, flat_map, bind_ok, Shape, opening_slot, IsBounded, HandleTables, thread_of, WaitList, ids_of, nowhere, Wait, SavedSlot, ObjectsInvariant, IsLive, StoreInvariant, IsSound, ObjectsState, PartsState, whole_of, ◌≡◌, ◌*◌, ◌<◌, ◌≤◌, Bool, true, false, cond, [], ◌∷◌, ◌++◌, length, get_or, map, Some, Ok, append_assoc, sym, ap, ◌∙◌, subst, le-leb, ext_get_or, length-map, objects_at, objects_text, slot_saved, slots_saved, SlotFits, fresh_slot, keeper_slot, slot_text, Whole, generation_of, shape_of, ◌^◌, lt-ltb, u64_codec, Takes, has_at, AreBytes, TablesFit, tables_at, tables_text, WaitsFit, are_below, are_within, is_within, waits_at, waits_text, limits_at, limits_text, begun_over, rows_text, last_wait}
+use Rattle.ob_store.proofs.ByPlace.{all_from, all_at, map_at}
+use Rattle.ob_store.proofs.PopulatedLaws.{populated_pass}
 use Rattle.std.proofs.lemmas.List.{length-append}
-use Rattle.ob_codec.specs.Codecs.{u64_codec}
-use Rattle.ob_codec.specs.Laws.{Takes}
-use Rattle.ob_codec.specs.Reading.{has_at}
-use Rattle.ob_codec.specs.Spelling.{AreBytes}
-use Rattle.ob_tables.specs.Spelling.{TablesFit, tables_at, tables_text}
 use Rattle.ob_tables.specs.SpellingLaws.{tables_again, tables_take}
-use Rattle.ob_waits.specs.Spelling.{WaitsFit, are_below, are_within, is_within, waits_at, waits_text}
 use Rattle.ob_waits.specs.SpellingLaws.{waits_again, waits_take}
-use Rattle.ob_tables.specs.SavedLimits.{limits_at, limits_text}
 use Rattle.ob_tables.specs.SavedLimitLaws.{limits_codec}
-use Rattle.ob_store.specs.SavedObjects.{begun_over}
-use Rattle.ob_tables.specs.SavedProcesses.{ListsFit, processes_at}
-use Rattle.ob_store.specs.SavedSlots.{rows_text}
-use Rattle.ob_store.specs.SavedStore.{is_moment, least_bytes, lists_at, moment_at, parts_at, begun_again, slot_bytes, store_at, store_text, tables_for, behind_lists, whole_with}
-use Rattle.ob_store.specs.State.{last_wait}
+use Rattle.ob_store.specs.SavedStore.{is_moment, least_bytes, lists_at, moment_at, begun_again, slot_bytes, store_at, store_text, tables_for, behind_lists, whole_with}
 use Rattle.ob_store.proofs.NamedLaws.{place_counted, there_within}
 use Rattle.ob_store.proofs.PlacedLaws.{live_within}
-use Rattle.ob_store.proofs.SavedAgain.{objects_again, xs-at, xs-long}
+use Rattle.ob_store.proofs.FittingLaws.{saved_at, saved_long}
+use Rattle.ob_store.proofs.SavedAgain.{objects_again}
 use Rattle.ob_store.proofs.SavedCodecs.{objects_take}
-use Rattle.ob_store.proofs.SavedProcessLaws.{kept_fits, processes_codec}
-use Rattle.ob_store.proofs.ByPlace.{all_at, all_from}
 use Rattle.ob_store.proofs.SavedSlotLaws.{slot_generation}
 use Rattle.ob_store.proofs.VacatedLaws.{vacated_from, vacated_pass}
+
+numbers_codec : (limit : ℕ) → IsCodec numbers_text (numbers_at limit) (AreWithin limit)
+numbers_codec limit = where_codec (list_codec (option_codec u32_codec) (limit + 1)) are_numbers
+
+pub processes_codec : (processes threads : ℕ)
+    → IsCodec processes_text (processes_at processes threads) (ProcessesFit processes threads)
+processes_codec processes threads = where_codec (as_codec _ _ (λ _. refl) (λ _. refl) (where_codec (both_codec
+    (numbers_codec _) (numbers_codec _)) _)) _
+
+pub kept_fits : (limits : Limits) (l : ProcessesState) (tables : List (List (Option Entry)))
+    → ProcessesKept limits l tables → IsPopulated l.processes l.threads → ListsFit l
+    → ProcessesFit limits.processes limits.threads l
+kept_fits limits l tables kept populated fits =
+    search (arith, all_from (is_of_live l.processes) l.threads None, populated_pass)
 
 -- six texts, and what stands behind them
 behind_six : (a b c d e f rest : List ℕ) → (a ++ (b ++ (c ++ (d ++ (e ++ f))))) ++ rest
@@ -38,32 +40,31 @@ moment_codec = where_codec u64_codec is_moment
 -- slots keep their generations
 generations_back : (s : ObjectsState) → ObjectsInvariant s
     → map generation_of (map keeper_slot (slots_saved s)) ≡ map generation_of s.keeper.slots
-generations_back s tied =
-    ext_get_or 0 (map generation_of (map keeper_slot (slots_saved s))) (map generation_of s.keeper.slots)
-    (search (arith, length-map, xs-long))
-    (λ k lt. (let here : k < s.keeper.shape.slots = omega (arith, length-map (map keeper_slot (slots_saved s)) generation_of, length-map (slots_saved s) keeper_slot, xs-long s tied) in
-    get_or-map generation_of (map keeper_slot (slots_saved s)) k opening_slot 0
-    (omega (arith, length-map (slots_saved s) keeper_slot, xs-long s tied))
-    ∙ ap generation_of (get_or-map keeper_slot (slots_saved s) k fresh_slot opening_slot
-    (omega (arith, xs-long s tied)))
-    ∙ slot_generation (get_or (slots_saved s) k fresh_slot) ∙ ap (λ (x : SavedSlot). x.generation) (xs-at s tied k here)
-    ∙ sym (get_or-map generation_of s.keeper.slots k opening_slot 0 (omega arith))))
+generations_back s tied = ext_get_or 1 _ _ (search (arith, length-map, saved_long, tied.agreed.wide)) (λ k lt.
+    let xs = slots_saved s in
+    let below : k < s.keeper.shape.slots = omega (arith, length-map (map keeper_slot xs) generation_of, length-map xs keeper_slot, saved_long s) in
+    rw (
+      map_at generation_of (map keeper_slot xs) k opening_slot,
+      map_at keeper_slot xs k fresh_slot,
+      map_at generation_of s.keeper.slots k opening_slot,
+      saved_at s k below,
+    ) (slot_generation (slot_saved s k)))
 
 -- the threads and the slots of waits that are kept are within the limits
 module _ (p : PartsState) (kept : StoreInvariant p) (tied : ObjectsInvariant p.objects) where
   slots-there : (n : ℕ) → n < length p.waits.waits
       → are_below p.limits.slots (ids_of (get_or p.waits.waits n None)) ≡ true
   slots-there n within = all_from _ (ids_of (get_or p.waits.waits n None)) nowhere (λ i lt.
-      (let there = there_within p.objects.objects _ (kept.sound.named.blocks _ (place_counted _ _ _ kept.sound.named n i
-      within lt)) in
-      lt-ltb _ p.limits.slots (omega (arith, ap (λ (z : Shape). z.slots) kept.sound.limited.shape_is))))
+      let there = there_within p.objects.objects _ (kept.sound.named.blocks _
+      (place_counted _ _ _ kept.sound.named n i within lt)) in
+      lt-ltb _ p.limits.slots (omega (arith, ap (λ (z : Shape). z.slots) kept.sound.limited.shape_is)))
 
   wait-within : (w : Option Wait) → ((t : ℕ) → thread_of w ≡ Some t → IsLive p.processes.threads t)
       → are_below p.limits.slots (ids_of w) ≡ true → is_within (length p.processes.threads) p.limits.slots w ≡ true
   wait-within None live below = refl
   wait-within (Some w) live below = search (arith, live_within, lt-ltb)
 
-  pub waits_within : are_within (length p.processes.threads) p.limits.slots p.waits.waits ≡ true
+  waits_within : are_within (length p.processes.threads) p.limits.slots p.waits.waits ≡ true
   waits_within = all_from (is_within (length p.processes.threads) p.limits.slots) p.waits.waits None
       (search (arith, slots-there, wait-within))
 
@@ -85,57 +86,15 @@ module _ (p : PartsState) (kept : StoreInvariant p) (tied : ObjectsInvariant p.o
   sound = kept.sound
 
   abbrev over : ObjectsState
-  over = record p.objects {
-    keeper =
-        begun_over (shape_of p.limits) (map keeper_slot (slots_saved p.objects));
-  }
-
-  processes_again : (rest : List ℕ) → processes_at p.limits.processes p.limits.threads
-      (processes_text p.processes ++ rest) ≡ Ok (p.processes, rest)
-  processes_again rest = (processes_codec p.limits.processes p.limits.threads).again p.processes rest
-      (kept_fits p.limits p.processes p.tables.tables sound.processes_kept kept.populated processes)
+  over = record p.objects { keeper = begun_over (shape_of p.limits) (map keeper_slot (slots_saved p.objects)) }
 
   tables_there : (rest : List ℕ) → tables_at p.limits.processes p.limits.handles (length p.processes.processes)
       (tables_text p.tables.tables ++ rest) ≡ Ok (p.tables, rest)
   tables_there rest = rw (← sound.limited.processes_are, ← sound.limited.handles_are, ← sound.processes_kept.tabled)
       (tables_again p.tables rest tables)
 
-  tables_back : (rest : List ℕ) → tables_for p.limits p.processes.processes
-      (tables_text p.tables.tables ++ rest) ≡ Ok (p.tables, rest)
-  tables_back rest = search (arith, tables_there, vacated_pass)
-
-  waits_back : (rest : List ℕ) → waits_at (last_wait p.limits) p.waits.clock (length p.processes.threads) p.limits.slots
-      (waits_text p.waits.waits ++ rest) ≡ Ok (p.waits, rest)
-  waits_back rest = rw (← sound.limited.waits_are) (waits_again _ _ _ _ waits (waits_within p kept tied))
-
-  same_whole : whole_with p.limits p.processes p.tables p.waits over ≡ begun_again (whole_of p)
-  same_whole = search (arith, generations_back)
-
-  objects_back : (rest : List ℕ) → objects_at p.limits p.processes.threads p.tables.tables p.waits
-      (objects_text p.limits.reuse p.objects ++ rest) ≡ Ok ((over, p.rows), rest)
-  objects_back rest = objects_again p.objects tied p.limits p.tables.process_limit p.tables.handle_limit
-      p.processes.threads p.tables.tables p.waits p.rows rest sound.limited.shape_is sound.counted sound.named
-      sound.of_live (record { room = sound.room; settled = kept.settled }) sound.listing
-      (search (arith, all_at))
-      (subst (λ (k : Shape). AllByRecursion (SlotFits k.max_gen p.waits.clock) (slots_saved p.objects))
-      sound.limited.shape_is objects)
-
-  parts_again : (rest : List ℕ) → parts_at p.limits p.waits.clock (processes_text p.processes
-      ++ (tables_text p.tables.tables ++ (waits_text p.waits.waits ++ (objects_text p.limits.reuse p.objects ++ rest))))
-      ≡ Ok (begun_again (whole_of p), rest)
-  parts_again rest =
-      let e = tables_text p.tables.tables ++ (waits_text p.waits.waits ++ (objects_text p.limits.reuse p.objects ++ rest)) in
-      let t = waits_text p.waits.waits ++ (objects_text p.limits.reuse p.objects ++ rest) in
-      let read : parts_at p.limits p.waits.clock (processes_text p.processes ++ e)
-      ≡ Ok (whole_with p.limits p.processes p.tables p.waits over, rest) =
-      rw (
-        slots_there _ _ _ _ _ _ _ (xs-long _ tied ∙ ap (λ (z : Shape). z.slots) sound.limited.shape_is),
-        processes_again e,
-        tables_back t,
-        waits_back _,
-        objects_back _,
-      ) refl in
-      read ∙ ap (λ (w : Whole). Ok (w, rest)) same_whole
+  bounded : IsBounded p.tables.process_limit p.tables.handle_limit p.tables.tables
+  bounded = search (arith, all_at)
 
   pub store_again : (moment : p.waits.clock ≤ 9223372036854775807) (rest : List ℕ)
       → store_at (store_text (whole_of p) ++ rest) ≡ Ok (begun_again (whole_of p), rest)
@@ -146,15 +105,29 @@ module _ (p : PartsState) (kept : StoreInvariant p) (tied : ObjectsInvariant p.o
       let d = tables_text p.tables.tables in
       let e = waits_text p.waits.waits in
       let f = objects_text p.limits.reuse p.objects in
-      let r = c ++ (d ++ (e ++ (f ++ rest))) in
-      let limits = limits_codec.again p.limits (b ++ r) tt in
-      let clock = moment_codec.again p.waits.clock r (
+      let limits_back = limits_codec.again p.limits (b ++ (c ++ (d ++ (e ++ (f ++ rest))))) tt in
+      let clock_back = moment_codec.again p.waits.clock (c ++ (d ++ (e ++ (f ++ rest)))) (
         omega arith,
         le-leb p.waits.clock 9223372036854775807 moment,
       ) in
-      let read : store_at (a ++ (b ++ r)) ≡ Ok (begun_again (whole_of p), rest) =
-      rw (limits, clock) (parts_again rest) in
-      ap store_at (behind_six a b c d e f rest) ∙ read
+      let there = slots_there p.limits.reuse p.limits.slots (slots_saved p.objects) c d e rest
+      (saved_long p.objects ∙ ap (λ (z : Shape). z.slots) sound.limited.shape_is) in
+      let processes_back = (processes_codec p.limits.processes p.limits.threads).again p.processes (d ++ (e ++ (f ++ rest)))
+      (kept_fits p.limits p.processes p.tables.tables sound.processes_kept kept.populated processes) in
+      let tables_back : tables_for p.limits p.processes.processes (d ++ (e ++ (f ++ rest))) ≡ Ok (p.tables, e ++ (f ++ rest)) =
+      search (arith, tables_there, vacated_pass) in
+      let waits_back : waits_at (last_wait p.limits) p.waits.clock (length p.processes.threads) p.limits.slots
+      (e ++ (f ++ rest)) ≡ Ok (p.waits, f ++ rest) =
+      rw (← sound.limited.waits_are) (waits_again _ _ _ _ waits (waits_within p kept tied)) in
+      let objects_back = objects_again p.objects tied p.limits p.tables.process_limit p.tables.handle_limit
+      p.processes.threads p.tables.tables p.waits p.rows rest sound.limited.shape_is sound.counted sound.named
+      sound.of_live (record { room = sound.room; settled = kept.settled }) sound.listing
+      bounded
+      (subst (λ (k : Shape). AllByRecursion (SlotFits k.max_gen p.waits.clock) (slots_saved p.objects))
+      sound.limited.shape_is objects) in
+      let whole : whole_with p.limits p.processes p.tables p.waits over ≡ begun_again (whole_of p) =
+      search (arith, generations_back) in
+      ap store_at (behind_six a b c d e f rest) ∙ (rw (limits_back, clock_back, there, processes_back, tables_back, waits_back, objects_back, whole) refl)
 
 -- tables that were read have the limits that were asked for, and are as many as were
 pub tables_read : (processes handles given : ℕ) (bytes : List ℕ) (t : HandleTables) (rest : List ℕ)
@@ -204,13 +177,7 @@ store_takes bytes w rest are e =
     let o = g.0.0.0 in
     let lg = objects_take limits p.threads t.tables list l.0.1 o g.0.0.1 g.0.1 ll.1.0 g.1 in
     let q : (whole_with limits p t list o, g.0.1) ≡ (w, rest) = search arith in
-    let texts : bytes ≡ limits_text limits ++ (to_le_bytes w64 b.0.0 ++ (processes_text p ++ (tables_text t.tables
-    ++ (waits_text list.waits ++ (objects_text limits.reuse o ++ g.0.1))))) =
-    search arith in
-    subst (λ (z : Whole × List ℕ). Takes bytes (store_text z.0) z.1) q (record {
-      parts =
-          subst (λ (n : ℕ). bytes ≡ limits_text limits ++ (to_le_bytes w64 n ++ (processes_text p
-          ++ (tables_text t.tables ++ (waits_text list.waits ++ (objects_text limits.reuse o ++ g.0.1)))))) (sym ll.1.1) texts
-          ∙ sym (search (arith, behind_six));
-      rest_fits = lg.rest_fits;
-    })
+    let texts : bytes ≡ limits_text limits ++ (to_le_bytes w64 list.clock ++ (processes_text p ++ (tables_text t.tables
+    ++ (waits_text list.waits ++ (objects_text limits.reuse o ++ g.0.1))))) = search arith in
+    subst (λ (z : Whole × List ℕ). Takes bytes (store_text z.0) z.1) q
+    (record { parts = texts ∙ sym (search (arith, behind_six)); rest_fits = lg.rest_fits })

@@ -1,20 +1,9 @@
 -- The blocks that are counted of objects that were read, and the tests of their waits and owners.
-use Rattle.ob_store.proofs.Cited.{◌≡◌, ℕ, ◌+◌, ◌<◌, ◌≤◌, Bool, true, false, List, length, get_or, map, Option, Some, None, refl, sym, ap, ◌∙◌, arith, inl, inr, is_some, ext_get_or, get_or-map, length-map, set-get_or, Slots, Id, Mode, Pending, Wait, ObjectHeader, IsLive, and_parts, cases_eq, blocks_among, new_wait, ObjectsState, Places, Tag, places_of, wait_stands, with_blocks, with_blocks_at}
-use Rattle.std.proofs.lemmas.Bool.{ltb-true}
-use Rattle.std.proofs.lemmas.List.Quantifiers.{position-Some}
-use Rattle.ob_waits.specs.Rules.{WaitsInvariant}
-use Rattle.ob_waits.specs.Spelling.{are_within, is_within}
-use Rattle.ob_waits.specs.Waits.{is_pending, number_of}
+use Rattle.ob_store.proofs.Cited.{◌≡◌, ℕ, ◌+◌, ◌<◌, ◌≤◌, Bool, true, List, length, get_or, map, Option, Some, None, refl, sym, ap, ◌∙◌, arith, ext_get_or, get_or-map, length-map, set-get_or, Slots, Wait, ObjectHeader, blocks_among, ObjectsState, Places, Tag, places_of, wait_stands, with_blocks, with_blocks_at, ltb-true, position-Some, WaitsInvariant, are_within, is_within, header_blocks, object_blocks, wait_of, waits_stand}
 use Rattle.ob_waits.proofs.TrackedLaws.{no_number, waits_thread}
-use Rattle.ob_store.specs.Objects.{header_blocks}
-use Rattle.ob_store.specs.SavedWaits.{object_blocks, state_stands, wait_of, waits_stand}
 use Rattle.ob_store.proofs.LabelLaws.{object_read}
 use Rattle.ob_store.proofs.ByPlace.{all_at, all_from}
 use Rattle.ob_store.proofs.HeaderLaws.{read}
-
--- a slot without an object has no blocks
-no-blocks : (xs : List (Option ObjectHeader)) (k : ℕ) → get_or xs k None ≡ None → get_or (map header_blocks xs) k 0 ≡ 0
-no-blocks xs k none = search (arith, read)
 
 module _ (s : Slots ObjectHeader) (tags : List Tag) (k : ℕ) (waits : List (Option Wait)) where
   pub blocks_vacant : get_or s.bodies k None ≡ None →
@@ -23,7 +12,7 @@ module _ (s : Slots ObjectHeader) (tags : List Tag) (k : ℕ) (waits : List (Opt
   blocks_vacant none =
       let p = places_of s tags in
       let counted : object_blocks waits (get_or p.objects k None) ≡ get_or p.seen.blocks k 0 =
-      search (arith, no-blocks, object_read) in
+      search (arith, object_read, read header_blocks s.bodies k, none) in
       search (arith, set-get_or)
 
   pub blocks_with_header : (x : ObjectHeader) → get_or s.bodies k None ≡ Some x →
@@ -40,49 +29,28 @@ pub record HasCounted (waits : List (Option Wait)) (p : Places) (slot : ℕ) (q 
 module _ (waits : List (Option Wait)) (p q : Places) (slot : ℕ) (h : HasCounted waits p slot q) where
   pub counts_end : length p.objects ≤ slot → q ≡ with_blocks waits p
   counts_end all =
-      let same : q.seen.blocks ≡ map (object_blocks waits) p.objects =
-      ext_get_or 0 _ _ (search (arith, length-map, h.length_is)) (λ k lt.
-      search (arith, h.done, get_or-map, h.length_is)) in
+      let same : q.seen.blocks ≡ map (object_blocks waits) p.objects = ext_get_or 0 _ _
+      (search (arith, length-map, h.length_is)) (search (arith, h.done, get_or-map, h.length_is)) in
       search arith
 
 module _ (limit : ℕ) (threads : List (Option ℕ)) (s : ObjectsState) (waits : List (Option Wait)) where
   abbrev stands : Option Wait → Bool
   stands w = wait_stands limit threads s w
 
-  -- the wait of a thread that isn't live
-  pub dead_wait : (t n : ℕ) → number_of t waits ≡ Some n → is_some (get_or threads t None) ≡ false →
-      stands (wait_of t waits) ≡ false
-  dead_wait t n found dead = search (arith, position-Some)
-
-  -- that of one that is, pending or answered
-  pub pending_wait : (t n u : ℕ) (mode : Mode) (ids : List Id) (deadline : Option ℕ) → number_of t waits ≡ Some n →
-      IsLive threads t → get_or waits n None ≡ Some (new_wait u mode ids deadline) →
-      stands (wait_of t waits) ≡ state_stands limit s t (Pending mode ids)
-  pending_wait t n u mode ids deadline found live is = search (arith, position-Some)
-
-  pub answered_wait : (t n : ℕ) → number_of t waits ≡ Some n → IsLive threads t →
-      is_pending (get_or waits n None) ≡ false → stands (wait_of t waits) ≡ true
-  answered_wait t n found live over = search (arith, position-Some)
-
-  -- and each wait is that of its thread
+  -- each wait is that of its thread
   its-wait : WaitsInvariant waits → (n : ℕ) (w : Wait) → get_or waits n None ≡ Some w → wait_of w.thread waits ≡ Some w
   its-wait kept n w is = search (arith, position-Some, waits_thread, no_number)
 
   pub waits_next : (t : ℕ) → ((u : ℕ) → u < t → stands (wait_of u waits) ≡ true) → stands (wait_of t waits) ≡ true →
       (u : ℕ) → u < t + 1 → stands (wait_of u waits) ≡ true
-  waits_next t before own u lt = elim (cases_eq u t) [
-    | inl here ↦ search arith
-    | inr apart ↦ before u (omega arith)
-  ]
+  waits_next t before own u lt = grind (arith, before u)
 
   pub waits_pass : (bound slots : ℕ) → WaitsInvariant waits → are_within bound slots waits ≡ true →
       ((t : ℕ) → t < bound → stands (wait_of t waits) ≡ true) → waits_stand limit threads waits s ≡ true
-  waits_pass bound slots kept within each =
-      all_from (λ (w : Option Wait). stands w) waits None (λ n lt. by n (get_or waits n None) refl)
+  waits_pass bound slots kept within each = all_from (λ (w : Option Wait). stands w) waits None
+      (λ n lt. by n (get_or waits n None) refl (all_at (is_within bound slots) waits None refl within n))
     where
-      by : (n : ℕ) (w : Option Wait) → get_or waits n None ≡ w → stands w ≡ true
-      by n None is = refl
-      by n (Some w) is =
-          let here : is_within bound slots (Some w) ≡ true = search (arith, all_at) in
-          ap (λ (x : Option Wait). stands x) (sym (its-wait kept n w is)) ∙
-          each w.thread (ltb-true w.thread bound (and_parts _ _ here).0)
+      by : (n : ℕ) (w : Option Wait) → get_or waits n None ≡ w → is_within bound slots (get_or waits n None) ≡ true
+          → stands w ≡ true
+      by n None is here = refl
+      by n (Some w) is here = ap (λ (x : Option Wait). stands x) (sym (its-wait kept n w is)) ∙ each w.thread (search (arith, ltb-true))

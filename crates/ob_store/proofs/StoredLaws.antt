@@ -1,8 +1,5 @@
 -- What a store keeps, told of what is stored.
-use Rattle.ob_store.proofs.Cited.{◌≡◌, ℕ, ◌+◌, Some, None, refl, ap, ◌∙◌, sym, subst, arith, get_or, true, ltb, Contains, get_or_past, nat_tests, Id, Shape, ObjectName, Rows, handles_among, Object, ObjectsState, ObjectsInvariant, rows_of, PartsState, state_of, whole_of, StoreInvariant}
-use Rattle.std.specs.Prelude.{◌↔◌}
-use Rattle.ob_store.specs.State.{hold_of}
-use Rattle.ob_store.specs.Stored.{IsOpenByName, MatchesState, hold_in}
+use Rattle.ob_store.proofs.Cited.{◌≡◌, ℕ, Some, None, refl, ap, ◌∙◌, subst, arith, get_or, true, ltb, Contains, get_or_past, nat_tests, Id, Shape, ObjectName, handles_among, Object, ObjectsState, ObjectsInvariant, rows_of, PartsState, state_of, whole_of, StoreInvariant, ◌↔◌, hold_of, IsOpenByName, MatchesState, hold_in}
 use Rattle.ob_store.proofs.CountedLaws.{handles_long, blocks_long}
 use Rattle.ob_store.proofs.DirectoryLaws.{IsRow, rows_are, row_there}
 use Rattle.ob_store.proofs.ListingLaws.{placed_agreed}
@@ -14,8 +11,7 @@ module _ (p : PartsState) (kept : StoreInvariant p) (tied : ObjectsInvariant p.o
 
   held : (k : ℕ) (x : Object) → get_or p.objects.objects k None ≡ Some x
       → hold_in (get_or p.objects.seen.bodies k None) ≡ hold_of (state_of p) x.id
-  held k x at =
-      search (arith, own_blocks, own_handles, kept.sound, o.seen.blocks, o.seen.bodies, o.seen.handles, tied.bodied.each)
+  held k x at = search (arith, own_blocks p kept.sound tied, own_handles p kept.sound tied, tied.bodied.each)
 
   -- each row is that of an object with a handle
   row_open : (name : ObjectName) (id : Id) → IsRow p.tables.tables p.objects.objects (name, id)
@@ -27,8 +23,7 @@ module _ (p : PartsState) (kept : StoreInvariant p) (tied : ObjectsInvariant p.o
       → Contains (rows_of p.tables.tables p.objects.objects p.objects.births) (name, id)
   open_row name id x =
       let has : ltb 0 (handles_among id p.tables.tables) ≡ true = grind (arith, nat_tests) in
-      subst (λ (i : Id). Contains (rows_of p.tables.tables o.objects o.births) (name, i)) x.its_id
-      (search (arith, row_there, id.slot, o.births, o.objects, p.tables.tables, tied.born.below, x.is_there, x.its_id, x.its_name, x.object))
+      search (arith, row_there p.tables.tables o.objects id.slot x.object name o.births x.is_there, x.its_id, x.its_name)
 
   listed : (name : ObjectName) (id : Id) → Contains (rows_of p.tables.tables p.objects.objects p.objects.births) (
     name,
@@ -38,7 +33,7 @@ module _ (p : PartsState) (kept : StoreInvariant p) (tied : ObjectsInvariant p.o
 
   -- a slot without an object has no body
   unbodied : (k : ℕ) → get_or p.objects.objects k None ≡ None → get_or p.objects.seen.bodies k None ≡ None
-  unbodied k none = search (arith, get_or_past, o.keeper.shape.slots, o.keeper.slots, o.retired, o.seen.bodies, tied.agreed.bodied, tied.agreed.each)
+  unbodied k none = search (arith, get_or_past, tied.agreed.bodied, tied.agreed.each)
 
   pub matches_state : MatchesState (whole_of p) (record {
     objects = p.objects.objects;
@@ -49,25 +44,11 @@ module _ (p : PartsState) (kept : StoreInvariant p) (tied : ObjectsInvariant p.o
       let is = ap (λ (x : Shape). x.slots) kept.sound.limited.shape_is in
       let long = tied.agreed.length_is ∙ is in
       record {
-        sizes = (
-          long,
-          tied.agreed.bodied ∙ is,
-          handles_long _ _ _ _ kept.sound.counted
-              ∙ long,
-          blocks_long _ _ _ _ kept.sound.counted ∙ long,
-        );
+        sizes = search (arith, is, long, tied.agreed.bodied, handles_long, blocks_long, kept.sound.counted);
         slots = (refl, λ k x at. placed_agreed o tied.agreed k x at);
         bodies = (refl, unbodied);
         counts = λ k x at. own_handles p kept.sound tied k x at;
-        references = λ k x at.
-            let h = own_handles p kept.sound tied k x at in
-            let b = own_blocks p kept.sound tied k x at in
-            let e = held k x at in
-            (b, e, (λ i. h i + b i + e i));
-        directory = (
-          subst (λ (rs : Rows). (name : ObjectName) (id : Id)
-              → Contains rs (name, id) ↔ IsOpenByName (state_of p) name id) (sym kept.sound.listing.same) listed,
-          kept.sound.listing.distinct,
-        );
+        references = search (arith, own_handles p kept.sound tied, own_blocks p kept.sound tied, held);
+        directory = (rw kept.sound.listing.same listed, kept.sound.listing.distinct);
         published = tied.listed;
       }

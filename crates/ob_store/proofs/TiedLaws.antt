@@ -1,6 +1,5 @@
 -- What holds of objects and their keeper holds after each change.
-use Rattle.ob_store.proofs.Cited.{at_place, ◌≡◌, ℕ, ◌+◌, ◌<◌, ◌≤◌, List, length, None, refl, arith, get_or, set, true, false, and_parts, length-set, get_or-set_same, set-get_or, nat_tests, Id, Slot, slot_of, opening_slot, Body, is_vacant_at, without_block, HasBodies, ObjectsInvariant, made_in, is_some, Places, ObjectsState, ObjectAttributes, vacancy, with_keeper, object_in, without_handle, without_header, places_in}
-use Rattle.std.specs.Prelude.{◌&&◌}
+use Rattle.ob_store.proofs.Cited.{at_place, ◌≡◌, ℕ, ◌<◌, ◌≤◌, List, length, None, refl, arith, get_or, set, true, false, and_parts, get_or-set_same, set-get_or, nat_tests, Id, Slot, slot_of, Body, is_vacant_at, without_block, HasBodies, ObjectsInvariant, is_some, Places, ObjectsState, ObjectAttributes, vacancy, with_keeper, object_in, without_handle, without_header, places_in, ◌&&◌}
 use Rattle.pin_core.specs.declared.word.Phase.TheVariants as phase
 use Rattle.pin_core.specs.Descrs.{IsGiven}
 use Rattle.pin_core.specs.Events.{in_phase, with_descr}
@@ -40,9 +39,7 @@ module _ (s : ObjectsState) (q : Places) (id : Id) (seen : q.seen ≡ without_bl
 
   pub tied_block_ended : is_some (body_at s id.slot) && is_last_block (places_in s) id.slot ≡ true
       → ObjectsInvariant (with_keeper q s.births (closed s.keeper id.slot))
-  tied_block_ended ends =
-      let is = and_parts (is_some (body_at s id.slot)) (is_last_block (places_in s) id.slot) ends in
-      rw left (tied_ended s _ _ (search arith) is.0 (ends_left id _ h.bodied) h)
+  tied_block_ended ends = rw left (tied_ended s _ _ (search arith) (and_parts _ _ ends).0 (ends_left id _ h.bodied) h)
 
   pub tied_block_left : is_some (body_at s id.slot) && is_last_block (places_in s) id.slot ≡ false
       → ObjectsInvariant (with_keeper q s.births s.keeper)
@@ -54,17 +51,11 @@ pub tied_added : (s t : ObjectsState) (k : ℕ) (attributes : ObjectAttributes) 
     → get_or (with_header (places_in s) k (object_in s k attributes) body).seen.handles k 0 ≡ 1
     → IsGiven attributes.descr → ObjectsInvariant s → ObjectsInvariant t
 tied_added s t k attributes body is vacant one given h =
-    let room : k < length s.objects = search arith in
-    let within : k < length s.keeper.slots = omega arith in
+    let within : k < length s.keeper.slots = search arith in
     let y : Slot = with_descr (slot_at s k) attributes.descr in
-    let slots : List Slot = set s.keeper.slots k y in
-    let stored : slot_of slots k ≡ y = get_or-set_same s.keeper.slots k y opening_slot within in
-    let long : k < length slots = omega (arith, length-set s.keeper.slots k y) in
-    let z : Slot = in_phase (slot_of slots k) phase.Live in
-    let more : made_in z ≡ made_in (slot_of slots k) + 1 = search arith in
-    let quiet = made_set s.keeper.slots k y within refl in
-    let count = made_more slots k z long more in
-    grind (arith, at_place, born_added, listed_added)
+    let stored : slot_of (set s.keeper.slots k y) k ≡ y = search (arith, get_or-set_same) in
+    let more = made_more (set s.keeper.slots k y) k (in_phase (slot_of (set s.keeper.slots k y) k) phase.Live) in
+    grind (arith, at_place, born_added, listed_added, made_set s.keeper.slots k y within refl, more)
 
 -- the slot of an ended object is taken back, and is free at the next generation
 pub tied_freed : (s : ObjectsState) (k : ℕ) (looks : List Look) → is_some (object_at s k) ≡ true → body_at s k ≡ None

@@ -1,6 +1,6 @@
 -- Waits whose time is up are answered one after another, and the state settles behind each: that is the same as all at
 -- once.
-use Rattle.ob_store.proofs.Cited.{nat_tests, ◌≡◌, ℕ, ◌<◌, ◌≤◌, List, Option, None, refl, ap, ◌∙◌, sym, arith, get_or, map, true, false, inl, inr, count_by, get_or_past, Body, Wait, is_overdue, ended, CountedBodies, IsSettled, Scene, slot_blocks, IsNamed, State, objects_of, settled, timed_out, slot_is_due, AreLeft, settled_less}
+use Rattle.ob_store.proofs.Cited.{nat_tests, ◌≡◌, ℕ, ◌<◌, ◌≤◌, List, Option, None, refl, ap, arith, get_or, map, true, false, inl, inr, count_by, get_or_past, Body, Wait, is_overdue, ended, CountedBodies, IsSettled, Scene, IsNamed, State, objects_of, settled, timed_out, slot_is_due, AreLeft, settled_less}
 use Rattle.ob_waits.specs.Deadlines as waits_time
 use Rattle.ob_waits.specs.Waits as waits
 use Rattle.ob_waits.proofs.Counted.{blocks_answered}
@@ -36,9 +36,6 @@ module _ (s : State) (now n : ℕ) (named : IsNamed s.objects s.tables s.waits) 
   all_named : IsNamed s.objects s.tables all.waits
   all_named = search (arith, blocks_lapsed)
 
-  one_quiet : IsSettled s.bodies one.waits
-  one_quiet = settled_answered s.bodies s.waits n 258 quiet
-
   all_quiet : IsSettled s.bodies all.waits
   all_quiet = settled_lapsed s.bodies now s.waits quiet
 
@@ -47,7 +44,7 @@ module _ (s : State) (now n : ℕ) (named : IsNamed s.objects s.tables s.waits) 
   left = (ended (objects_of one)).bodies
 
   one_is : settled one ≡ record one { bodies = left }
-  one_is = by_ends one one_named one_quiet
+  one_is = search (arith, by_ends, one_named, settled_answered)
 
   same_waits : map (waits_time.timed_out now) one.waits ≡ map (waits_time.timed_out now) s.waits
   same_waits = lapsed_twice now s.waits n over
@@ -57,30 +54,25 @@ module _ (s : State) (now n : ℕ) (named : IsNamed s.objects s.tables s.waits) 
   others = record all { bodies = left }
 
   others_are : timed_out now (settled one) ≡ others
-  others_are = ap (timed_out now) one_is ∙ (search (arith, lapsed_twice))
+  others_are = search (arith, one_is, lapsed_twice)
 
   fewer_blocks : (k : ℕ) → get_or (objects_of all).blocks k 0 ≤ get_or (objects_of one).blocks k 0
-  fewer_blocks k =
-      grind (arith, nat_tests, get_by_slot, slot_lapsed k now one.waits, ap (slot_blocks k) same_waits, get_or_past, length-by_slot)
+  fewer_blocks k = grind (arith, nat_tests, get_by_slot, slot_lapsed k now one.waits, same_waits, get_or_past, length-by_slot)
 
   others_quiet : IsSettled left all.waits
   others_quiet = settled_less s.bodies left all.waits (less_gone s.bodies left (ended_left (objects_of one))) all_quiet
 
   pub time_out_step : settled (timed_out now (settled (with_answer s n 258))) ≡ settled (timed_out now s)
   time_out_step =
-      let bodies : ended (objects_of others) ≡ ended (objects_of all) =
-      ended_twice _ _ fewer_blocks in
-      ap settled others_are ∙ by_ends _ all_named others_quiet
-      ∙ ap (λ (o : CountedBodies). record all { bodies = o.bodies }) bodies ∙ sym (by_ends all all_named all_quiet)
+      let bodies : ended (objects_of others) ≡ ended (objects_of all) = ended_twice _ _ fewer_blocks in
+      cc (others_are, by_ends others all_named others_quiet, bodies, by_ends all all_named all_quiet)
 
   -- no timer becomes due by it
   pub undue_step : ((k : ℕ) → slot_is_due now (get_or s.bodies k None) ≡ false) → (k : ℕ)
       → slot_is_due now (get_or (settled (with_answer s n 258)).bodies k None) ≡ false
-  undue_step undue k = ap (λ (t : State). slot_is_due now (get_or t.bodies k None)) one_is
-      ∙ elim ((ended_left (objects_of one)).each k) [
-        | inl same ↦ ap (slot_is_due now) same ∙ undue k
-        | inr none ↦ ap (slot_is_due now) none
-      ]
+  undue_step undue k =
+      rw (ap (λ (t : State). get_or t.bodies k None) one_is)
+      (elim ((ended_left (objects_of one)).each k) [ inl same ↦ rw same (undue k) | inr none ↦ rw none refl ])
 
   -- and one wait fewer is overdue
   pub fewer_step : count_by (is_overdue now) (settled (with_answer s n 258)).waits < count_by (is_overdue now) s.waits

@@ -1,6 +1,5 @@
 -- What calls do to bodies takes nothing for a thread.
-use Rattle.ob_store.proofs.Cited.{◌≡◌, ℕ, arith, true, Body, Yields, is_signaled}
-use Rattle.ob_body.specs.Body.{after_set, after_reset, after_post, after_unlock, after_arm, after_disarm}
+use Rattle.ob_store.proofs.Cited.{◌≡◌, ℕ, arith, true, Body, Yields, is_signaled, after_set, after_reset, after_post, after_unlock, after_arm, after_disarm}
 use Rattle.ob_store.proofs.TimerLaws.{fired_later}
 
 pub set_yields : (clock : ℕ) (b : Body) → Yields clock b (after_set b)
@@ -19,15 +18,12 @@ post_yields clock count b = search arith
 pub unlock_yields : (clock u : ℕ) (b : Body) → Yields clock b (after_unlock u b)
 unlock_yields clock u b = search arith
 
-yields_same : (clock : ℕ) (b : Body) → Yields clock b b
-yields_same clock b = search arith
-
 pub arm_yields : (clock due period : ℕ) (b : Body) → Yields clock b (after_arm due clock period b)
-arm_yields = search (arith, yields_same, fired_later)
+arm_yields = search (arith, fired_later)
 
 -- or cancelled
 pub disarm_yields : (clock : ℕ) (b : Body) → Yields clock b (after_disarm b)
-disarm_yields = search (arith, yields_same)
+disarm_yields = search arith
 
 -- nothing is signaled by it
 pub disarm_less : (b : Body) (t : ℕ) → is_signaled t (after_disarm b) ≡ true → is_signaled t b ≡ true

@@ -1,5 +1,4 @@
-use Rattle.ob_store.proofs.Cited.{◌≡◌, drop, list_all}
-use Rattle.ob_store.specs.SavedWaits.{may_wait_for}
+use Rattle.ob_store.proofs.Cited.{◌≡◌, drop, list_all, may_wait_for}
 use Rattle.ob_store.proofs.checking_waits.may_wait_for_all.Given as goal
 
 abbrev pub invariant-loop-id : goal.invariant-loop-id

@@ -1,4 +1,4 @@
-use Rattle.std.proofs.Common.{◌∙◌, length, sym, arith}
+use Rattle.ob_store.proofs.Cited.{◌∙◌, length, sym, arith}
 use Rattle.ob_store.proofs.SavedWaitLaws.{waits_next, waits_pass}
 use Rattle.ob_store.proofs.checking_waits.waits_stand.Goals as goal
 

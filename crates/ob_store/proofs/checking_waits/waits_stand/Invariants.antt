@@ -1,5 +1,4 @@
-use Rattle.ob_store.proofs.Cited.{◌≡◌, ℕ, ◌<◌, true, wait_stands}
-use Rattle.ob_store.specs.SavedWaits.{wait_of}
+use Rattle.ob_store.proofs.Cited.{◌≡◌, ℕ, ◌<◌, true, wait_stands, wait_of}
 use Rattle.ob_store.proofs.checking_waits.waits_stand.Given as goal
 
 abbrev pub invariant-loop-thread : goal.invariant-loop-thread

@@ -1,4 +1,4 @@
-use Rattle.std.proofs.Common.{arith}
+use Rattle.ob_store.proofs.Cited.{arith}
 use Rattle.ob_store.proofs.SavedWaitLaws.{counts_end}
 use Rattle.ob_store.proofs.counting.count_blocks.Goals as goal
 

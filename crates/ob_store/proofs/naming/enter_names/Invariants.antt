@@ -1,5 +1,4 @@
-use Rattle.ob_store.proofs.Cited.{◌≡◌, names_in}
-use Rattle.ob_store.specs.SavedNames.{named_from}
+use Rattle.ob_store.proofs.Cited.{◌≡◌, names_in, named_from}
 use Rattle.ob_store.proofs.naming.enter_names.Given as goal
 
 abbrev pub invariant-loop-slot : goal.invariant-loop-slot

@@ -1,5 +1,4 @@
-use Rattle.ob_store.proofs.Cited.{padded, no_tag, tags_in, ◌≡◌, ◌-◌, ◌+◌, ◌≤◌, length}
-use Rattle.std.proofs.Common.{vec_capacity}
+use Rattle.ob_store.proofs.Cited.{padded, no_tag, tags_in, ◌≡◌, ◌-◌, ◌+◌, ◌≤◌, length, vec_capacity}
 use Rattle.ob_store.proofs.object_headers.reach_label.Given as goal
 
 abbrev pub invariant-loop-labels : goal.invariant-loop-labels

@@ -1,4 +1,4 @@
-use Rattle.std.proofs.Common.{refl}
+use Rattle.ob_store.proofs.Cited.{refl}
 use Rattle.ob_store.proofs.SavedStoreLaws.{tables_kept, tables_read}
 use Rattle.ob_store.proofs.savestate.read_lists.Goals as goal
 

@@ -7,13 +7,9 @@ use Rattle.ob_store.proofs.ticking.fire_all.Goals as goal
 
 pub loop-slot-preserved : goal.loop-slot-preserved
 loop-slot-preserved g c = record {
-  seen = one_before (slot_fired c.args.now) (fired_twice c.args.now) c.in-Some.slot c.loop-slot.objects.seen
-      c.fire_at.new.self.seen c.fire_at.ensures.seen ∙ c.loop-slot.invariant.seen;
+  seen = one_before _ (fired_twice c.args.now) _ _ _ c.fire_at.ensures.seen ∙ c.loop-slot.invariant.seen;
   rest = c.fire_at.ensures.rest ∙ c.loop-slot.invariant.rest;
-  enough = λ ws enough. enough_added c.loop-slot.signaled c.add.new.self c.loop-slot.objects.seen
-      c.fire_at.new.self.seen c.in-Some.slot (slot_fired c.args.now
-      (get_or c.loop-slot.objects.seen.bodies c.in-Some.slot None))
-      c.fire_at.ensures.seen c.add.ensures.added c.add.ensures.before ws (c.loop-slot.invariant.enough ws enough);
+  enough = λ ws enough. enough_added _ _ _ _ _ _ c.fire_at.ensures.seen c.add.ensures.added c.add.ensures.before ws (c.loop-slot.invariant.enough ws enough);
 }
 
 pub returns-clause-seen : goal.returns-clause-seen

@@ -1,7 +1,4 @@
-use Rattle.ob_store.proofs.Cited.{◌∷◌, [], on_ok_weaker, object_of, tag_of}
-use Rattle.ob_store.specs.SavedObjects.{saved_of}
-use Rattle.ob_store.specs.SavedSlots.{object_text}
-use Rattle.ob_codec.proofs.SavingLaws.{two_behind}
+use Rattle.ob_store.proofs.Cited.{◌∷◌, [], on_ok_weaker, object_of, tag_of, saved_of, object_text, two_behind}
 use Rattle.ob_store.proofs.writing_objects.write_found.Goals as goal
 
 pub returns-in_ok-push-in-Some-clause-text : goal.returns-in_ok-push-in-Some-clause-text

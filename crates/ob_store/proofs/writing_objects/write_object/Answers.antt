@@ -1,10 +1,7 @@
-use Rattle.ob_store.proofs.Cited.{cond, None, w64, to_le_bytes, on_ok_weaker}
-use Rattle.ob_codec.specs.Spelling.{option}
+use Rattle.ob_store.proofs.Cited.{arith, cond, None, w64, to_le_bytes, on_ok_weaker, option, descr_text, five_behind}
 use Rattle.ob_name.specs.Spelling.{name_text}
 use Rattle.ob_body.specs.Spelling.{body_text}
-use Rattle.pin_core.specs.Spelling.{descr_text}
 use Rattle.ob_rights.specs.Spelling.{rights_text}
-use Rattle.ob_codec.proofs.SavingLaws.{five_behind}
 use Rattle.ob_store.proofs.writing_objects.write_object.Goals as goal
 
 pub returns-clause-text : goal.returns-clause-text
@@ -17,6 +14,4 @@ returns-clause-text c = on_ok_weaker c.write_name.result (λ t. five_behind c.ar
     c.write_name.ensures.text
 
 pub returns-clause-fits : goal.returns-clause-fits
-returns-clause-fits c = on_ok_weaker c.write_name.result
-    (λ t. (c.in_ok-write.ensures.fits, (c.requires, (c.in_ok-write-2.ensures.fits, (c.in_ok-write-3.ensures.fits, t)))))
-    c.write_name.ensures.fits
+returns-clause-fits c = search (arith, on_ok_weaker)

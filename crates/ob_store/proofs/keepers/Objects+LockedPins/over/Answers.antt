@@ -1,5 +1,4 @@
-use Rattle.ob_store.proofs.Cited.{sym, subst, ObjectsState, with_keeper, KeeperState}
-use Rattle.pin_words.specs.Keepers.{IsFreshWith}
+use Rattle.ob_store.proofs.Cited.{sym, subst, ObjectsState, with_keeper, KeeperState, IsFreshWith}
 use Rattle.ob_store.proofs.KeeperLaws.{tied_over}
 use Rattle.ob_store.proofs.keepers.Objects+LockedPins.over.Goals as goal
 

@@ -10,5 +10,4 @@ pub returns : goal.returns
 returns c = rw (← c.self.view_is) (places_handle_came _ _ _ c.get_mut.ensures.value _ _)
 
 pub invariant_of-self : goal.invariant_of-self
-invariant_of-self c = noted_counts _ _ _ _ _ _ _ c.self.invariant c.args.slot c.get_mut.result.now _
-    c.get_mut.ensures.value refl
+invariant_of-self c = noted_counts _ _ _ _ _ _ _ c.self.invariant _ _ _ c.get_mut.ensures.value refl

@@ -1,5 +1,4 @@
-use Rattle.std.proofs.Common.{◌≡◌, ℕ, ◌+◌, ◌≤◌, drop, get_or}
-use Rattle.ob_store.specs.Objects.{with_handles_of}
+use Rattle.ob_store.proofs.Cited.{◌≡◌, ℕ, ◌+◌, ◌≤◌, drop, get_or, with_handles_of}
 use Rattle.ob_store.proofs.objects.Objects.handles_came.Given as goal
 
 abbrev pub invariant-loop-place : goal.invariant-loop-place

@@ -1,5 +1,4 @@
-use Rattle.ob_store.proofs.Cited.{◌≡◌, ℕ, ◌++◌, ◌<◌, map, flat_map, range_with_len, slot_saved, slot_text}
-use Rattle.ob_store.specs.SavedSlots.{AnySlotFits}
+use Rattle.ob_store.proofs.Cited.{◌≡◌, ℕ, ◌++◌, ◌<◌, map, flat_map, range_with_len, slot_saved, slot_text, AnySlotFits}
 use Rattle.ob_store.proofs.objects.Objects.write_rows.Given as goal
 
 abbrev pub invariant-loop-slot : goal.invariant-loop-slot

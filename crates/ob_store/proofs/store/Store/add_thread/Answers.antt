@@ -1,4 +1,4 @@
-use Rattle.ob_store.proofs.Cited.{◌∙◌, refl, parts_of}
+use Rattle.ob_store.proofs.Cited.{◌∙◌, refl}
 use Rattle.ob_store.proofs.KeptLaws.{kept_thread, whole_kept}
 use Rattle.ob_store.proofs.store.Store.add_thread.Goals as goal
 
@@ -8,6 +8,4 @@ invariant_of-self-2 g c = rw c.in_ok-add_thread.ensures.ok
     (rw (← c.self.view_is) at c.requires.live))
 
 pub returns-clause-ok : goal.returns-clause-ok
-returns-clause-ok g c = rw (← c.self.view_is)
-    (whole_kept (record (parts_of c.self.inside.parts) { processes = c.add_thread.new.self })
-    (invariant_of-self-2 g c) c.kept.ensures ∙ rw c.in_ok-add_thread.ensures.ok refl)
+returns-clause-ok g c = rw (← c.self.view_is) (whole_kept _ (invariant_of-self-2 g c) c.kept.ensures ∙ rw c.in_ok-add_thread.ensures.ok refl)

@@ -1,4 +1,4 @@
-use Rattle.ob_store.proofs.Cited.{◌∙◌, ap, arith, length, subst, sym, IsPopulated, parts_of, state_of, State}
+use Rattle.ob_store.proofs.Cited.{arith, subst, sym, IsPopulated, parts_of, state_of, State}
 use Rattle.ob_store.proofs.PassedLaws.{threads_tables}
 use Rattle.ob_store.proofs.PlacedLaws.{live_within}
 use Rattle.ob_store.proofs.PopulatedLaws.{populated_exited}
@@ -7,18 +7,9 @@ use Rattle.ob_store.proofs.store.Store.exit.Goals as goal
 
 pub end_process-requires : goal.end_process-requires
 end_process-requires g c =
-    let p = parts_of c.self.inside.parts in
-    let begun = c.end_all.ensures.carries p.objects.keeper _
-    (ending_begins p c.clear.new.self c.self.invariant c.kept.ensures) in
-    let same = ap (λ (x : State). length x.tables) begun.under_way.rest
-    ∙ ap (λ x. length x) (threads_tables (state_of p) c.args.process (length p.processes.threads)) in
-    let tabled = c.self.invariant.sound.processes_kept.tabled in
-    let within = live_within p.processes.processes c.args.process (rw (← c.self.view_is) at c.requires.live) in
-    record {
-      sound = begun.under_way.sound;
-      table = omega (arith, same, tabled, within);
-      alone = c.end_all.ensures.ended;
-    }
+    let begun = c.end_all.ensures.carries _ _ (ending_begins _ c.clear.new.self c.self.invariant c.kept.ensures) in
+    let live = rw (← c.self.view_is) at c.requires.live in
+    search (arith, begun, begun.under_way.sound, begun.under_way.rest, threads_tables, live_within, c.self.invariant.sound.processes_kept.tabled, live)
 
 pub settle-requires : goal.settle-requires
 settle-requires g c =
@@ -34,10 +25,6 @@ settle-requires g c =
 
 pub returns : goal.returns
 returns g c =
-    let p = parts_of c.self.inside.parts in
-    let ending = c.end_process.ensures.carries p.objects.keeper _ (c.end_all.ensures.carries p.objects.keeper _
-    (ending_begins p c.clear.new.self c.self.invariant c.kept.ensures)) in
-    rw (← c.self.view_is) (record {
-      state = c.settle.ensures.state p.objects.keeper _ ending.under_way;
-      keeper = c.settle.ensures.keeper ∙ ending.under_way.keeper;
-    })
+    let way = (c.end_process.ensures.carries _ _ (c.end_all.ensures.carries _ _
+    (ending_begins _ c.clear.new.self c.self.invariant c.kept.ensures))).under_way in
+    rw (← c.self.view_is) (search (arith, c.settle.ensures.state, way, way.keeper, c.settle.ensures.keeper))

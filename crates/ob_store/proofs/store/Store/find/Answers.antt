@@ -11,6 +11,5 @@ returns-clause-handled g c =
     by : (r : Option Id) → r ≡ find_name (name_at c.args.name.now) c.self.inside.parts.names.rows
         → IfSome r (λ id. 0 < handles_of (state_of (parts_of c.self.inside.parts)) id)
     by None is = tt
-    by (Some id) is = (listing_found c.self.inside.parts.names.rows c.self.inside.parts.tables.tables
-        c.self.inside.parts.objects.objects c.self.inside.parts.objects.births c.self.invariant.sound.listing
-        (placed_agreed c.self.inside.parts.objects c.kept.ensures.agreed) (name_at c.args.name.now) id (sym is)).has
+    by (Some id) is = (listing_found _ _ _ _ c.self.invariant.sound.listing (placed_agreed _ c.kept.ensures.agreed) (name_at c.args.name.now) id
+        (sym is)).has

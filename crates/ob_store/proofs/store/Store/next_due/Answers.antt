@@ -1,5 +1,4 @@
-use Rattle.ob_store.proofs.Cited.{IfSome, le-leb, ◌≡◌, ℕ, ◌∙◌, sym, subst, ap, refl, arith, Bool, true, false, cond, leb, ◌≤◌, List, Option, Some, None, map}
-use Rattle.std.proofs.Common.{leb-true}
+use Rattle.ob_store.proofs.Cited.{IfSome, ◌≡◌, ℕ, ◌∙◌, sym, refl, arith, Bool, true, false, cond, leb, List, Option, Some, None, map, nat_tests}
 use Rattle.std.proofs.Math.ListN.{get_or-map}
 use Rattle.least.specs.Dues.{IsLeast, NotAfter, due_at}
 use Rattle.least.proofs.BestLemmas.{least_joined}
@@ -11,8 +10,7 @@ use Rattle.ob_store.proofs.store.Store.next_due.Goals as goal
 least_reached : (dues : List (Option ℕ)) (least : Option ℕ) → IsLeast dues least → IsLeast (map reached dues) (reached least)
 least_reached dues least is = record {
   stands = stands least is.stands;
-  first = λ place moment at.
-      first (due_at dues place) moment (is.first place) (sym (get_or-map reached dues place None) ∙ at);
+  first = λ place moment at. first least (due_at dues place) moment (is.first place) (sym (get_or-map reached dues place None) ∙ at);
 }
   where
     stands : (x : Option ℕ) → IfSome x (λ m. (place : ℕ) × (due_at dues place ≡ Some m))
@@ -22,25 +20,13 @@ least_reached dues least is = record {
       where
         by : (b : Bool) → leb m last_moment ≡ b
             → IfSome (cond b (Some m) None) (λ n. (place : ℕ) × (due_at (map reached dues) place ≡ Some n))
-        by true le = (
-          h.0,
-          get_or-map reached dues h.0 None ∙ ap reached h.1 ∙ ap (λ (c : Bool). cond c (Some m) None) le,
-        )
+        by true le = (h.0, rw (get_or-map reached dues h.0 None, h.1, le) refl)
         by false le = tt
 
-    before : (x : Option ℕ) (m : ℕ) → NotAfter x m → m ≤ last_moment → NotAfter (reached x) m
-    before None m h le = absurd h
-    before (Some l) m h le = rw (le-leb l last_moment (omega (arith, h, le))) h
-
-    first : (x : Option ℕ) (m : ℕ) → ((n : ℕ) → x ≡ Some n → NotAfter least n) → reached x ≡ Some m
-        → NotAfter (reached least) m
-    first None m every at = cc
-    first (Some n) m every at = by (leb n last_moment) refl at
-      where
-        by : (b : Bool) → leb n last_moment ≡ b → cond b (Some n) None ≡ Some m → NotAfter (reached least) m
-        by true le is = subst (λ (x : Option ℕ). IfSome x (λ k. NotAfter (reached least) k)) is
-            (before least n (every n refl) (leb-true n last_moment le))
-        by false le is = cc
+    first : (l x : Option ℕ) (m : ℕ) → ((n : ℕ) → x ≡ Some n → NotAfter l n) → reached x ≡ Some m → NotAfter (reached l) m
+    first l None m every at = cc
+    first None (Some n) m every at = absurd (every n refl)
+    first (Some l) (Some n) m every at = let less = every n refl in grind (arith, nat_tests)
 
 pub returns-clause-least : goal.returns-clause-least
 returns-clause-least g c =

@@ -1,4 +1,4 @@
-use Rattle.ob_store.proofs.Cited.{◌∙◌, refl, parts_of}
+use Rattle.ob_store.proofs.Cited.{◌∙◌, refl}
 use Rattle.ob_store.proofs.KeptLaws.{kept_flags, whole_kept}
 use Rattle.ob_store.proofs.store.Store.set_flags.Goals as goal
 
@@ -7,6 +7,4 @@ invariant_of-self g c = rw c.set_flags.ensures
     (kept_flags _ _ _ c.args.flags c.self.invariant (rw (← c.self.view_is) at c.requires))
 
 pub returns : goal.returns
-returns g c = rw (← c.self.view_is)
-    (whole_kept (record (parts_of c.self.inside.parts) { tables = c.set_flags.new.self }) (invariant_of-self g c)
-    c.kept.ensures ∙ rw c.set_flags.ensures refl)
+returns g c = rw (← c.self.view_is) (whole_kept _ (invariant_of-self g c) c.kept.ensures ∙ rw c.set_flags.ensures refl)

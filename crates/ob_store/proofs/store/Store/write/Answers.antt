@@ -1,9 +1,5 @@
-use Rattle.ob_store.proofs.Cited.{w64, to_le_bytes, on_ok_weaker, parts_of, objects_text, processes_text}
-use Rattle.ob_tables.specs.Spelling.{tables_text}
-use Rattle.ob_waits.specs.Spelling.{waits_text}
-use Rattle.ob_tables.specs.SavedLimits.{limits_text}
+use Rattle.ob_store.proofs.Cited.{w64, to_le_bytes, on_ok_weaker, parts_of, objects_text, processes_text, tables_text, waits_text, limits_text, six_behind}
 use Rattle.ob_store.proofs.SavedStoreLaws.{store_again}
-use Rattle.ob_codec.proofs.SavingLaws.{six_behind}
 use Rattle.ob_store.proofs.store.Store.write.Goals as goal
 
 pub returns-clause-text : goal.returns-clause-text
