@@ -1,5 +1,5 @@
 -- What a manager may answer each time.
-use Rattle.std.proofs.Common.{◌≡◌, ◌∙◌, ℕ, ◌<◌, ◌≤◌, Bool, false, Option, Some, None, Result, Ok, ap, arith, inl, refl}
+use Rattle.std.proofs.Common.{◌≡◌, ℕ, ◌<◌, ◌≤◌, Bool, false, Option, Some, None, Result, Ok, arith}
 use Rattle.std.proofs.lemmas.Bool.Decides.{nat_tests}
 use Rattle.std.specs.Prelude.{nat_le, slice_index_or}
 use Rattle.pin_core.specs.declared.id.Id.{Id}
@@ -9,7 +9,7 @@ use Rattle.ob_rights.specs.declared.fault.Fault.TheVariants as fault
 use Rattle.ob_body.specs.declared.body.Body.{Body}
 use Rattle.ob_store.specs.Consistent.{IsConsistent}
 use Rattle.ob_store.specs.Objects.{Object}
-use Rattle.ob_store.specs.State.{State, Whole, settled}
+use Rattle.ob_store.specs.State.{Whole, settled}
 use Rattle.ob_manager.specs.declared.call.CallOf.TheVariants as calls
 use Rattle.ob_manager.specs.declared.reply.Reply.TheVariants.{Reaped}
 use Rattle.ob_manager.specs.Outcomes.{Outcome, ◌>>=◌, refuse_if}
@@ -31,16 +31,7 @@ module _ (w : Whole) (kept : IsConsistent w) (slot pins : ℕ) (o : Object) wher
   stays_held : slot < w.state.limits.slots → slice_index_or w.state.objects slot None ≡ Some o
       → slice_index_or w.state.bodies slot None ≡ None → 0 < pins → pins ≤ w.keeper.shape.max_pins
       → Step w (calls.Reap slot) (Reaped o.id (Held pins)) w
-  stays_held within is none some few = does (
-      ap (λ (b : Bool). reaped b (slice_index_or w.state.objects slot None) (slice_index_or w.state.bodies slot None))
-      (past w.state.limits.slots slot within)
-      ∙ ap (λ (x : Option Object). reaped false x (slice_index_or w.state.bodies slot None)) is
-      ∙ ap (λ (b : Option Body). reaped false (Some o) b) none
-      ∙ ap (λ (s : State). record { reply = Reaped o.id (Held pins); state = s }) kept.still)
-      (refl, some, few, inl refl)
+  stays_held within is none some few = search (arith, does, past)
 
 pub left_open : (w : Whole) → IsConsistent w → IsLeftOpen w
-left_open w kept = record {
-  memory = λ call takes ok. lacks takes ok refl refl;
-  held = λ slot pins o within is none some few. stays_held w kept slot pins o within is none some few;
-}
+left_open w kept = search (arith, lacks, stays_held)

@@ -1,12 +1,12 @@
 -- A history recounts the state, and the lanes are its parts.
-use Rattle.std.proofs.Common.{Result, Ok, Err, ◌≡◌, ◌==◌, ◌||◌, ◌<◌, ◌∙◌, ℕ, zero, suc, Bool, true, false, List, [], ◌∷◌, length, get_or, ap, arith, refl, subst, sym, not}
-use Rattle.std.proofs.lemmas.Bool.{eqb-true, or_parts}
-use Rattle.std.specs.Prelude.{IfNone, IfOk, Option, None, Some}
+use Rattle.std.proofs.lemmas.Bool.Decides.{nat_tests}
+use Rattle.std.proofs.Common.{Result, ◌≡◌, ◌<◌, ℕ, zero, suc, Bool, true, false, List, [], ◌∷◌, length, get_or, arith, refl, subst, not}
+use Rattle.std.specs.Prelude.{IfNone, IfOk, Option}
 use Rattle.std.specs.List.{list_any}
-use Rattle.pin_core.specs.Holds.{tally, weight}
+use Rattle.pin_core.specs.Holds.{tally}
 use Rattle.ob_store.specs.Consistent.{IsConsistent}
 use Rattle.ob_store.specs.State.{State, Whole, opening}
-use Rattle.ob_shared.specs.Closing.{AreWhole, has_number, has_twice, is_entry_missing}
+use Rattle.ob_shared.specs.Closing.{AreWhole, has_number, has_twice}
 use Rattle.ob_shared.specs.Journal.{Continues, IsHistoryFrom, IsHistory, IsOrigin, Replays}
 use Rattle.ob_shared.specs.Lanes.{LaneState}
 use Rattle.ob_shared.specs.declared.book.Entry.{Entry}
@@ -15,7 +15,7 @@ use Rattle.obman_theorems.proofs.Rest.{at_rest}
 use Rattle.obman_theorems.specs.Theorems.{AreOneHistory, IsRecounted}
 
 ends_kept : (w v : Whole) (entries : List Entry) → IsConsistent w → Replays w entries v → IsConsistent v
-ends_kept w v [] kept same = subst IsConsistent same kept
+ends_kept w v [] kept same = search arith
 ends_kept w v (e ∷ entries) kept replays = ends_kept replays.0 v entries replays.2 replays.3
 
 pub recounts : (from : State) (journal : List Entry) (w : Whole) → IsHistoryFrom from journal w
@@ -37,63 +37,34 @@ new_recounts saved journal w h none = recounts (opening w.state.limits) journal 
 -- lanes with one number
 none_counted : {A : Type 0} (p : A → Bool) (xs : List A) → list_any p xs ≡ false → tally p xs ≡ 0
 none_counted p [] h = refl
-none_counted p (x ∷ xs) h =
-    let both = or_parts (p x) (list_any p xs) h in
-    let here : weight (p x) ≡ 0 = ap weight both.0 in
-    let rest = none_counted p xs both.1 in
-    omega (arith, here, rest)
+none_counted p (x ∷ xs) h = grind (arith, none_counted p xs)
 
 one_counted : (n : ℕ) (lanes : List LaneState) → has_twice lanes ≡ false → list_any (has_number n) lanes ≡ true
     → tally (has_number n) lanes ≡ 1
-one_counted n [] apart some = cc (some)
-one_counted n (lane ∷ lanes) apart some = by (lane.number == n) refl (one_counted n lanes old.1)
-  where
-    old : (list_any (has_number lane.number) lanes ≡ false) × (has_twice lanes ≡ false)
-    old = or_parts (list_any (has_number lane.number) lanes) (has_twice lanes) apart
-
-    by : (b : Bool) → lane.number == n ≡ b
-        → (list_any (has_number n) lanes ≡ true → tally (has_number n) lanes ≡ 1)
-        → tally (has_number n) (lane ∷ lanes) ≡ 1
-    by true is rest =
-        let here : weight (lane.number == n) ≡ 1 = ap weight is in
-        let others : tally (has_number n) lanes ≡ 0 = none_counted (has_number n) lanes
-        (subst (λ (m : ℕ). list_any (has_number m) lanes ≡ false) (eqb-true lane.number n is) old.0) in
-        omega (arith, here, others)
-    by false is rest =
-        let here : weight (lane.number == n) ≡ 0 = ap weight is in
-        let others = rest (sym (ap (λ (b : Bool). b || list_any (has_number n) lanes) is) ∙ some) in
-        omega (arith, here, others)
+one_counted n [] apart some = cc some
+one_counted n (lane ∷ lanes) apart some =
+    grind (arith, nat_tests, none_counted (has_number n) lanes, one_counted n lanes)
 
 any_none : {A : Type 0} (p : A → Bool) (xs : List A) (i : ℕ) (d : A) → list_any p xs ≡ false → i < length xs
     → p (get_or xs i d) ≡ false
 any_none p [] i d none within = absurd (omega (arith, within))
-any_none p (x ∷ xs) zero d none within = (or_parts (p x) (list_any p xs) none).0
-any_none p (x ∷ xs) (suc i) d none within =
-    any_none p xs i d (or_parts (p x) (list_any p xs) none).1 (omega (arith, within))
+any_none p (x ∷ xs) zero d none within = grind arith
+any_none p (x ∷ xs) (suc i) d none within = grind (arith, any_none p xs i d)
 
 there : (b : Bool) → not b ≡ false → b ≡ true
-there true h = refl
-there false h = sym h
+there b h = search arith
 
 pub one_history : (given : ℕ) (lanes : List LaneState) (journal : List Entry) (w : Whole)
     → AreWhole given lanes journal → IsHistory journal w → AreOneHistory given lanes journal w
-one_history given lanes journal w whole history = record {
-  history = history;
-  recounts = recounts (opening w.state.limits) journal w history;
-  parts = whole.parts;
-  one = λ i d within. one_counted (get_or journal i d).lane lanes whole.apart (there _
-      (any_none (is_entry_missing lanes) journal i d (or_parts _ _ whole.all).1 within));
-}
+one_history given lanes journal w whole history = grind (arith, recounts (opening w.state.limits) journal w history, one_counted, any_none, there)
 
 -- what two clauses on one answer come to
 pub both_ok : {A E : Type 0} {P Q R : A → Type 0} (r : Result A E) → ((x : A) → P x → Q x → R x) → IfOk r P → IfOk r Q
     → IfOk r R
-both_ok (Ok x) f p q = f x p q
-both_ok (Err e) f p q = tt
+both_ok r f p q = search arith
 
 pub if_none : {A : Type 0} {P Q : Type 0} (r : Option A) → (P → Q) → IfNone r P → IfNone r Q
-if_none None f p = f p
-if_none (Some x) f p = tt
+if_none r f p = search arith
 
 -- of a book that began as a new manager
 pub book_history : (given : ℕ) (lanes : List LaneState) (saved : List ℕ) (journal : List Entry) (w : Whole)

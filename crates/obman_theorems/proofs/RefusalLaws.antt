@@ -1,26 +1,21 @@
 -- Each refusal is one of the call's own, or for want of memory, and what it leaves.
-use Rattle.std.proofs.Common.{◌≡◌, ℕ, Bool, true, false, List, [], ◌∷◌, Option, Some, None, Result, Ok, Err, refl, ap, ◌∙◌, sym, subst, cond, not, eqb, ltb, length, get_or, bit_or, is_ok, inl, inr}
-use Rattle.std.specs.Prelude.{ℤ, ◌⊎◌, ◌&&◌, ◌||◌}
-use Rattle.std.specs.List.{list_any, list_all}
+use Rattle.std.proofs.Common.{arith}
+use Rattle.std.proofs.Common.{◌≡◌, ℕ, Bool, true, false, List, [], ◌∷◌, Option, Some, None, Result, Ok, Err, refl, ap, sym, subst, cond, get_or, is_ok}
+use Rattle.std.specs.Prelude.{ℤ, ◌⊎◌, ◌&&◌}
 use Rattle.pin_core.specs.declared.id.Id.{Id}
 use Rattle.ob_rights.specs.declared.fault.Fault.{Fault}
 use Rattle.ob_rights.specs.declared.fault.Fault.TheVariants as fault
 use Rattle.ob_rights.specs.declared.kind.Kind.{Kind}
 use Rattle.ob_rights.specs.declared.rights.Rights.{Rights}
-use Rattle.ob_rights.specs.Rights.{within}
 use Rattle.ob_tables.specs.declared.entry.Entry.{Entry}
 use Rattle.ob_body.specs.declared.body.Body.{Body}
-use Rattle.ob_body.specs.declared.body.Body.TheVariants.{Event, Host, Mutex, Semaphore}
-use Rattle.ob_body.specs.Body.{kind_of, post_answer, unlock_answer}
-use Rattle.ob_body.specs.Mutex as mutex
-use Rattle.ob_body.specs.Semaphore as semaphore
+use Rattle.ob_body.specs.declared.body.Body.TheVariants.{Event, Mutex, Semaphore}
+use Rattle.ob_body.specs.Body.{post_answer, unlock_answer}
 use Rattle.ob_name.specs.Names.{ObjectName}
-use Rattle.ob_name.specs.Texts.{checked_base, is_backslash, is_printable, name_of, split_name}
-use Rattle.ob_name.specs.Listing.{find_name}
+use Rattle.ob_name.specs.Texts.{checked_base, name_of, split_name}
 use Rattle.ob_store.specs.Objects.{Object, opened}
 use Rattle.ob_store.specs.State.{State, Whole, settled, without_entry}
 use Rattle.ob_store.specs.Moves.{OnlyCloses}
-use Rattle.ob_store.specs.Directory.{directory_of}
 use Rattle.ob_manager.specs.Calls.{Call}
 use Rattle.ob_manager.specs.declared.call.CallOf.TheVariants as calls
 use Rattle.ob_manager.specs.Makings.{Making}
@@ -28,18 +23,17 @@ use Rattle.ob_manager.specs.declared.creating.New.{New}
 use Rattle.ob_manager.specs.declared.reply.Reply.{Reply}
 use Rattle.ob_manager.specs.declared.reply.Reply.TheVariants as reply
 use Rattle.ob_manager.specs.Outcomes.{Outcome, ◌>>=◌, or_refuse, refuse_if}
-use Rattle.ob_manager.specs.Checks.{caller, found, if_kind, same_kind}
+use Rattle.ob_manager.specs.Checks.{caller, found, if_kind}
 use Rattle.ob_manager.specs.Signaling.{host_of, if_host, modified}
 use Rattle.ob_manager.specs.Creating.{create, created, name_in, named_object, new_event, new_handle, new_host, new_mutex, new_object, new_semaphore, new_timer, own_name, room_for, semaphore_of}
-use Rattle.ob_manager.specs.Copying.{admitted, asked_rights, copied_to, copy_rights, is_stuck, is_wrong, keeps_rights, leaves, with_source, without_source}
+use Rattle.ob_manager.specs.Copying.{admitted, asked_rights, copied_to, copy_rights, is_stuck, is_wrong, leaves, with_source, without_source}
 use Rattle.ob_manager.specs.Reaping.{if_ended}
-use Rattle.ob_manager.specs.Waiting.{after_signal, all_found, deadline_in, is_zero, objects_of, pending, satisfied, shown, told_at, unsatisfied, wait_on}
+use Rattle.ob_manager.specs.Waiting.{after_signal, all_found, deadline_in, objects_of, pending, satisfied, shown, told_at, unsatisfied, wait_on}
 use Rattle.ob_manager.specs.declared.waiting.Timeout.{Timeout}
 use Rattle.ob_waits.specs.declared.wait.Mode.{Mode}
 use Rattle.ob_waits.specs.declared.wait.WaitState.{WaitState}
-use Rattle.ob_waits.specs.declared.wait.WaitState.TheVariants.{Pending, Answered}
 use Rattle.ob_manager.specs.Steps.{Step, does, closes, lacks, final, outcome_of, takes_memory}
-use Rattle.obman_theorems.specs.Refusals.{IsAmong, refusals_of, same_fault}
+use Rattle.obman_theorems.specs.Refusals.{IsAmong, refusals_of}
 use Rattle.obman_theorems.specs.Theorems.{ClosesSource, IsRefused}
 
 -- whether a part of a call refuses with these alone
@@ -67,12 +61,10 @@ andThen fs Q (Ok x) f h k = k x
 andThen fs Q (Err e) f h k = h
 
 refuse_within : (fs : List Fault) (b : Bool) (e : Fault) → IsAmong fs e → Within fs (refuse_if b e)
-refuse_within fs true e h = h
-refuse_within fs false e h = tt
+refuse_within fs b e h = search arith
 
 or_within : {A : Type 0} (fs : List Fault) (x : Option A) (e : Fault) → IsAmong fs e → Within fs (or_refuse x e)
-or_within fs None e h = h
-or_within fs (Some x) e h = tt
+or_within fs x e h = search arith
 
 caller_within : (fs : List Fault) (s : State) (t : ℕ) → IsAmong fs fault.Parameter → IsAmong fs fault.Busy
     → Within fs (caller s t)
@@ -82,16 +74,10 @@ found_within : (fs : List Fault) (s : State) (p h : ℕ) → IsAmong fs fault.Ha
 found_within fs s p h k = or_within fs _ fault.Handle k
 
 kind_within : (fs : List Fault) (k : Kind) (b : Option Body) → IsAmong fs fault.Handle → Within fs (if_kind k b)
-kind_within fs k None h = h
-kind_within fs k (Some b) h = by (same_kind (kind_of b) k)
-  where
-    by : (c : Bool) → Within fs (cond c (Ok b) (Err fault.Handle))
-    by true = tt
-    by false = h
+kind_within fs k b h = grind arith
 
 host_within : (fs : List Fault) (b : Option Body) → IsAmong fs fault.Handle → Within fs (if_host b)
-host_within fs (Some (Host h)) k = tt
-host_within fs b k = k
+host_within fs b k = grind arith
 
 host_of_within : (fs : List Fault) (s : State) (id : Id) → IsAmong fs fault.Handle → Within fs (host_of s id)
 host_of_within fs s id k = search (then_within, or_within, host_within)
@@ -102,40 +88,19 @@ modified_within fs s t h k p b there may = search (then_within, caller_within, f
 
 post_within : (fs : List Fault) (n : ℕ) (b : Body) → IsAmong fs fault.Handle → IsAmong fs fault.Posts
     → Within fs (post_answer n b)
-post_within fs n (Semaphore s) h k = by (semaphore.is_past n s)
-  where
-    by : (c : Bool) → Within fs (cond c (Err fault.Posts) (Ok s.count))
-    by true = k
-    by false = tt
-post_within fs n b h k = h
+post_within fs n b h k = grind arith
 
 unlock_within : (fs : List Fault) (t : ℕ) (b : Body) → IsAmong fs fault.Handle → IsAmong fs fault.NotOwner
     → Within fs (unlock_answer t b)
-unlock_within fs t (Mutex m) h k = by (mutex.is_owner t m.owner)
-  where
-    by : (c : Bool) → Within {A = Unit {0}} fs (cond c (Ok (tt {0})) (Err fault.NotOwner))
-    by true = tt
-    by false = k
-unlock_within fs t b h k = h
+unlock_within fs t b h k = grind arith
 
 base_within : (fs : List Fault) (name : ObjectName) → IsAmong fs fault.Parameter → IsAmong fs fault.NamePath
     → Within fs (checked_base name)
-base_within fs name h k = by (eqb (length name.base) 0) (list_any is_backslash name.base)
-  where
-    by : (a b : Bool) → Within fs (cond a (Err fault.Parameter) (cond b (Err fault.NamePath) (Ok name)))
-    by true b = h
-    by false true = k
-    by false false = tt
+base_within fs name h k = grind arith
 
 text_within : (fs : List Fault) (text : List ℕ) (session : ℕ) → IsAmong fs fault.Parameter → IsAmong fs fault.NameLong
     → IsAmong fs fault.NamePath → Within fs (name_of text session)
-text_within fs text session h l k = by (ltb 260 (length text)) (list_all is_printable text)
-  where
-    by : (a b : Bool) → Within fs (cond a (Err fault.NameLong)
-        (cond (not b) (Err fault.Parameter) (checked_base (split_name text session))))
-    by true b = l
-    by false true = base_within fs (split_name text session) h k
-    by false false = h
+text_within fs text session h l k = grind (arith, base_within fs (split_name text session))
 
 name_within : (fs : List Fault) (s : State) (p : ℕ) (text : List ℕ) → IsAmong fs fault.Parameter
     → IsAmong fs fault.NameLong → IsAmong fs fault.NamePath → Within fs (name_in s p text)
@@ -143,8 +108,7 @@ name_within fs s p text h l k = search (then_within, or_within, text_within)
 
 own_within : (fs : List Fault) (s : State) (p : ℕ) (name : Option (List ℕ)) → IsAmong fs fault.Parameter
     → IsAmong fs fault.NameLong → IsAmong fs fault.NamePath → Within fs (own_name s p name)
-own_within fs s p None h l k = tt
-own_within fs s p (Some text) h l k = then_within fs (name_in s p text) _ (name_within fs s p text h l k) (λ n. tt)
+own_within fs s p name h l k = grind (arith, then_within, name_within fs s p)
 
 handle_within : (fs : List Fault) (s : State) (p : ℕ) (id : Id) (k : Kind) (asked : Rights) (inherit : Bool)
     → IsAmong fs fault.Handle → IsAmong fs fault.Access → IsAmong fs fault.Limit
@@ -163,14 +127,12 @@ named_says : (fs : List Fault) (s : State) (p : ℕ) (m : Making) (new : New) (n
     → IsAmong fs fault.Handle → IsAmong fs fault.Access → IsAmong fs fault.Limit
     → Says fs (λ t. ⊥) (named_object s p m new name id)
 named_says fs s p m new name None h a l = object_says fs s p m new (Some name) a l
-named_says fs s p m new name (Some id) h a l =
-    andThen fs (λ t. ⊥) (new_handle s p id _ _ _) _ (handle_within fs s p id _ _ _ h a l) (λ after. tt)
+named_says fs s p m new name (Some id) h a l = search (arith, andThen, handle_within)
 
 created_says : (fs : List Fault) (s : State) (p : ℕ) (m : Making) (new : New) (name : Option ObjectName)
     → IsAmong fs fault.Handle → IsAmong fs fault.Access → IsAmong fs fault.Limit
     → Says fs (λ t. ⊥) (created s p m new name)
-created_says fs s p m new None h a l = object_says fs s p m new None a l
-created_says fs s p m new (Some name) h a l = named_says fs s p m new name (find_name name (directory_of s)) h a l
+created_says fs s p m new name h a l = grind (arith, object_says, named_says)
 
 -- what a create may be refused with
 abbrev create_refusals : List Fault
@@ -182,26 +144,19 @@ create_says : (s : State) (t : ℕ) (m : Making) (what : Result New Fault) → W
 create_says s t m what h = search (andThen, caller_within, refuse_within, own_within, created_says)
 
 counts_within : (initial most : ℕ) → Within create_refusals (semaphore_of initial most)
-counts_within initial most = by (ltb most initial) _
-  where
-    by : (c : Bool) (x : New) → Within create_refusals (cond c (Err fault.Parameter) (Ok x))
-    by true x = refl
-    by false x = tt
+counts_within initial most = grind arith
 
 semaphore_within : (initial max : ℤ) → Within create_refusals (new_semaphore initial max)
 semaphore_within initial max = search (then_within, or_within, counts_within)
 
 ended_within : (fs : List Fault) (o : Option Object) (b : Option Body) → IsAmong fs fault.Handle
     → Within fs (if_ended o b)
-ended_within fs None b h = h
-ended_within fs (Some o) None h = tt
-ended_within fs (Some o) (Some b) h = h
+ended_within fs o b h = grind arith
 
 all_within : (fs : List Fault) (s : State) (p : ℕ) (handles : List ℕ) → IsAmong fs fault.Handle
     → Within fs (all_found s p handles)
 all_within fs s p [] k = tt
-all_within fs s p (h ∷ hs) k = then_within fs (found s p h) _ (found_within fs s p h k)
-    (λ e. then_within fs (all_found s p hs) _ (all_within fs s p hs k) (λ es. tt))
+all_within fs s p (h ∷ hs) k = search (arith, then_within, found_within, all_within fs s p hs)
 
 objects_within : (fs : List Fault) (s : State) (p : ℕ) (handles : List ℕ) → IsAmong fs fault.Handle
     → IsAmong fs fault.Access → Within fs (objects_of s p handles)
@@ -209,15 +164,9 @@ objects_within fs s p handles h a = search (then_within, all_within, refuse_with
 
 unsatisfied_says : (fs : List Fault) (s : State) (t : ℕ) (mode : Mode) (timeout : Timeout) (ids : List Id)
     → IsAmong fs fault.Limit → Says fs (λ t. ⊥) (unsatisfied s t mode timeout ids)
-unsatisfied_says fs s t mode timeout ids l = by (is_zero s.clock timeout)
-  where
-    becomes : Says fs (λ t. ⊥) (pending s t mode (deadline_in s.clock timeout) ids)
-    becomes = search (andThen, refuse_within)
-
-    by : (c : Bool) → Says fs (λ t. ⊥) (cond c (Ok (record { reply = reply.Code 258; state = s }))
-        (pending s t mode (deadline_in s.clock timeout) ids))
-    by true = tt
-    by false = becomes
+unsatisfied_says fs s t mode timeout ids l =
+    let becomes : Says fs (λ t. ⊥) (pending s t mode (deadline_in s.clock timeout) ids) = search (andThen, refuse_within) in
+    grind (arith, becomes)
 
 wait_says : (fs : List Fault) (s : State) (t : ℕ) (mode : Mode) (timeout : Timeout) (ids : List Id)
     → IsAmong fs fault.Parameter → IsAmong fs fault.Limit → Says fs (λ t. ⊥) (wait_on s t mode timeout ids)
@@ -229,8 +178,7 @@ wait_says fs s t mode timeout ids p l = search (andThen, refuse_within, ready_sa
 
 shown_says : (fs : List Fault) (s : State) (n : ℕ) (stands : WaitState)
     → SaysOf fs (λ t. ⊥) (shown s n stands).state (shown s n stands).reply
-shown_says fs s n Pending = tt
-shown_says fs s n (Answered code) = tt
+shown_says fs s n stands = grind arith
 
 -- a signal with a wait
 abbrev meeting_refusals : List Fault
@@ -245,8 +193,7 @@ signal_within t e b = refl
 
 told_says : (fs : List Fault) (s : State) (name : ℕ) (stands : Option WaitState)
     → SaysOf fs (λ t. ⊥) s (told_at name stands)
-told_says fs s name (Some (Answered code)) = tt
-told_says fs s name stands = tt
+told_says fs s name stands = grind arith
 
 -- a duplicate
 
@@ -254,21 +201,11 @@ abbrev copy_refusals : List Fault
 copy_refusals = fault.Parameter ∷ fault.Busy ∷ fault.Handle ∷ fault.Access ∷ fault.Limit ∷ []
 
 asked_within : (e : Entry) (mask : Rights) (o : Option Object) → Within copy_refusals (asked_rights e mask o)
-asked_within e mask None = refl
-asked_within e mask (Some o) = by (within mask.0 (bit_or e.rights.0 o.grant.0))
-  where
-    by : (c : Bool) → Within copy_refusals (cond c (Ok mask) (Err fault.Access))
-    by true = tt
-    by false = refl
+asked_within e mask o = grind arith
 
 rights_within : (s : State) (e : Entry) (mask : Rights) (options : ℕ)
     → Within copy_refusals (copy_rights s e mask options)
-rights_within s e mask options = by (keeps_rights options)
-  where
-    by : (c : Bool)
-        → Within copy_refusals (cond c (Ok e.rights) (asked_rights e mask (get_or s.objects e.id.slot None)))
-    by true = tt
-    by false = asked_within e mask (get_or s.objects e.id.slot None)
+rights_within s e mask options = grind (arith, asked_within e mask)
 
 admitted_within : (s : State) (e : Entry) (target : ℕ) (mask : Rights) (options : ℕ)
     → Within copy_refusals (admitted s e target mask options)
@@ -277,26 +214,19 @@ admitted_within s e target mask options = search (then_within, or_within, rights
 copied_says : (s : State) (e : Entry) (target : Option ℕ) (mask : Rights) (inherit : Bool) (options : ℕ)
     → Says copy_refusals (λ t. ⊥) (copied_to s e target mask inherit options)
 copied_says s e None mask inherit options = tt
-copied_says s e (Some target) mask inherit options =
-    andThen copy_refusals (λ t. ⊥) (admitted s e target mask options) _ (admitted_within s e target mask options)
-    (λ rights. tt)
+copied_says s e (Some target) mask inherit options = search (arith, andThen, admitted_within)
 
 -- a reply that is no refusal says nothing
 no_refusal : (fs : List Fault) (Q : State → Type 0) (s t : State) (r : Reply) → SaysOf fs (λ t. ⊥) s r → SaysOf fs Q t r
-no_refusal fs Q s t (reply.Refused e) h = absurd h.1
-no_refusal fs Q s t r h = tt
+no_refusal fs Q s t r h = grind arith
 
 both : (a b : Bool) → (a && b) ≡ true → a ≡ true
-both true b h = refl
-both false b h = h
+both a b h = grind arith
 
 closed_says : (c : Bool) (s : State) (source handle : ℕ) (Q : State → Type 0) (r : Result Outcome Fault)
     → Says copy_refusals (λ t. ⊥) r → (c ≡ true → Q (settled (without_entry s source handle)))
     → Says copy_refusals Q (cond c (Ok (without_source s source handle r)) (with_source r))
-closed_says true s source handle Q (Ok o) h q = no_refusal copy_refusals Q o.state _ o.reply h
-closed_says true s source handle Q (Err e) h q = (h, q refl)
-closed_says false s source handle Q (Ok o) h q = no_refusal copy_refusals Q o.state _ o.reply h
-closed_says false s source handle Q (Err e) h q = h
+closed_says c s source handle Q r h q = grind (arith, no_refusal)
 
 outcome_says : (s : State) (call : Call) (r : Reply)
     → Says (refusals_of call) (ClosesSource s call) (outcome_of s call r)
@@ -355,8 +285,7 @@ IsOwn fs (reply.Refused e) = IsAmong fs e
 IsOwn fs r = Unit {0}
 
 same_whole : (a b : Whole) → a.state ≡ b.state → a.keeper ≡ b.keeper → a ≡ b
-same_whole a b s k = ap (λ (x : State). record { state = x; keeper = a.keeper }) s
-    ∙ ap (λ x. record { state = b.state; keeper = x }) k
+same_whole a b s k = λ i. record { state = s i; keeper = k i }
 
 -- what a refusal that the model gives says and leaves
 said : (w v : Whole) (call : Call) (e : Fault) (r : Result Outcome Fault)
@@ -365,14 +294,7 @@ said : (w v : Whole) (call : Call) (e : Fault) (r : Result Outcome Fault)
     → (is_ok r ≡ false → v.keeper ≡ w.keeper)
     → IsAmong (refusals_of call) e
     × ((v ≡ w) ⊎ (ClosesSource w.state call v.state × OnlyCloses w.keeper v.keeper))
-said w v call e (Err f) says is only same = (
-  subst (IsOwn (refusals_of call)) (ap (λ (o : Outcome). o.reply) is) says,
-  inl (same_whole v w (sym (ap (λ (o : Outcome). o.state) is)) (same refl)),
-)
-said w v call e (Ok o) says is only same =
-    let both : IsAmong (refusals_of call) e × ClosesSource w.state call v.state =
-    subst (λ (o : Outcome). SaysOf (refusals_of call) (ClosesSource w.state call) o.state o.reply) is says in
-    (both.0, inr (both.1, only))
+said w v call e r says is only same = grind (arith, same_whole)
 
 abbrev IsMemory : Reply → Type 0
 IsMemory (reply.Refused f) = f ≡ fault.Memory
@@ -380,40 +302,29 @@ IsMemory r = Unit {0}
 
 -- one of some, and so one of more
 among_more : (more e : Fault) (fs : List Fault) → IsAmong fs e → IsAmong (more ∷ fs) e
-among_more more e fs among = by (same_fault e more)
-  where
-    by : (b : Bool) → b || list_any (same_fault e) fs ≡ true
-    by true = refl
-    by false = among
+among_more more e fs among = grind arith
 
 -- a refusal of the call's own
 own : (w v : Whole) (call : Call) (e : Fault) → IsAmong (refusals_of call) e
     → (v ≡ w) ⊎ (ClosesSource w.state call v.state × OnlyCloses w.keeper v.keeper) → IsRefused w call e v
 own w v call e among leaves = record {
   own = among_more fault.Memory e (refusals_of call) among;
-  memory = λ lack. absurd (no_memory call (subst (IsAmong (refusals_of call)) lack among));
+  memory = λ lack. absurd (no_memory call (search arith));
   leaves = leaves;
 }
 
 -- a refusal for want of memory
 lack : (w v : Whole) (call : Call) (e : Fault) → e ≡ fault.Memory → takes_memory w.state call ≡ true → v ≡ w
     → IsRefused w call e v
-lack w v call e is takes same = record {
-  own = subst (IsAmong (fault.Memory ∷ refusals_of call)) (sym is) refl;
-  memory = λ again. (takes, same);
-  leaves = inl same;
-}
+lack w v call e is takes same = search arith
 
 pub refused : (w v : Whole) (call : Call) (e : Fault) → Step w call (reply.Refused e) v → IsRefused w call e v
 refused w v call e (does is keeps) =
-    let told : IsAmong (refusals_of call) e × ((v ≡ w) ⊎ (ClosesSource w.state call v.state
-    × OnlyCloses w.keeper v.keeper)) = said w v call e (outcome_of w.state call (reply.Refused e))
+    let told = said w v call e (outcome_of w.state call (reply.Refused e))
     (outcome_says w.state call (reply.Refused e)) is (ap opened keeps) (λ _. keeps) in
     own w v call e told.0 told.1
 refused w v call e (closes duplicates is only) =
-    let told : IsAmong (refusals_of call) e × ((v ≡ w) ⊎ (ClosesSource w.state call v.state
-    × OnlyCloses w.keeper v.keeper)) = said w v call e (outcome_of w.state call (reply.Refused e))
-    (outcome_says w.state call (reply.Refused e)) (ap (final w.state) is) only
-    (λ no. absurd (cc (sym (ap is_ok is) ∙ no))) in
+    let told = said w v call e (outcome_of w.state call (reply.Refused e))
+    (outcome_says w.state call (reply.Refused e)) (ap (final w.state) is) only (λ no. absurd (cc (is, no))) in
     own w v call e told.0 told.1
 refused w v call e (lacks takes ok is same) = lack w v call e (subst IsMemory (sym is) refl) takes same

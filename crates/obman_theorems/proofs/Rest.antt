@@ -1,5 +1,6 @@
 -- What a call comes to, from rest to rest.
-use Rattle.std.proofs.Common.{◌≡◌, ℕ, Bool, Option, Some, None, subst}
+use Rattle.std.proofs.Common.{arith}
+use Rattle.std.proofs.Common.{◌≡◌, ℕ, Bool, Option, subst}
 use Rattle.pin_core.specs.declared.world.Slot.{Slot}
 use Rattle.ob_body.specs.declared.body.Body.{Body}
 use Rattle.ob_store.specs.Agreement.{Agrees}
@@ -17,11 +18,10 @@ use Rattle.obman_theorems.specs.Theorems.{IsAtRest, IsMade}
 
 phase_is : (k : ℕ) (o : Option Object) (b : Option Body) (retired : Bool) (x : Slot) → Agrees k o b retired x
     → x.phase ≡ phase_in o b retired
-phase_is k None b retired x h = h.1
-phase_is k (Some o) b retired x h = h.2
+phase_is k o b retired x h = search arith
 
 pub at_rest : (w : Whole) → IsConsistent w → IsAtRest w
-at_rest w kept = record { kept = kept; phases = λ k within. phase_is k _ _ _ _ (kept.slots k within) }
+at_rest w kept = search (arith, phase_is)
 
 pub steps : (w v : Whole) (call : Call) (reply : Reply) → Step w call reply v → IsConsistent w → IsConsistent v
     → IsMade w call reply v

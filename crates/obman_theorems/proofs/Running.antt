@@ -1,11 +1,12 @@
 -- A run of a script recounts its state.
+use Rattle.std.proofs.Common.{arith}
 use Rattle.std.specs.Prelude.{OnOk}
-use Rattle.std.proofs.Common.{Bool, Result, Ok, Err, ◌≡◌, ◌∙◌, ℕ, ◌+◌, List, [], ◌∷◌, ◌++◌, ap, refl, subst}
+use Rattle.std.proofs.Common.{Bool, Result, ◌≡◌, ◌∙◌, ℕ, ◌+◌, List, [], ◌∷◌, ◌++◌, ap, refl, subst}
 use Rattle.ob_tables.specs.declared.limits.Limits.{Limits}
 use Rattle.ob_store.specs.State.{State}
 use Rattle.ob_manager.specs.Steps.{next}
 use Rattle.ob_manager.proofs.StepLaws.{step_next}
-use Rattle.ob_script.specs.Commands.{Command, Nothing, Bad, ListNames, Asks, Pin, Unpin, ShowCard}
+use Rattle.ob_script.specs.Commands.{Command, Asks}
 use Rattle.ob_script.specs.Grammar.{command_of}
 use Rattle.ob_console.specs.declared.script.RunFault.{RunFault}
 use Rattle.ob_console.specs.Runs.{AnswersAll, IsEnded, Point, Prints, Run}
@@ -19,7 +20,7 @@ abbrev Leads : (List Entry → Type 0) → State → State → Type 0
 Leads P s t = (es : List Entry) × P es × (t ≡ replay s es)
 
 further : (s t u : State) (es fs : List Entry) → t ≡ replay s es → u ≡ replay t fs → u ≡ replay s (es ++ fs)
-further s t u [] fs is then_is = then_is ∙ ap (λ (x : State). replay x fs) is
+further s t u [] fs is then_is = search arith
 further s t u (e ∷ es) fs is then_is = further (next s e.call e.reply) t u es fs is then_is
 
 stays : (p q : Point) → q.whole ≡ p.whole → Leads (λ es. es ≡ []) p.whole.state q.whole.state
@@ -27,15 +28,10 @@ stays p q is = ([], refl, ap (λ w. w.state) is)
 
 line_leads : (p : Point) (n : ℕ) (act : Command) (output : List ℕ) (q : Point) → Prints p n act output q
     → Leads (Enters act output) p.whole.state q.whole.state
-line_leads p n Nothing output q h = stays p q (ap (λ (x : Point). x.whole) h.1)
-line_leads p n Bad output q h = stays p q (ap (λ (x : Point). x.whole) h.1)
-line_leads p n ListNames output q h = stays p q (ap (λ (x : Point). x.whole) h.1)
 line_leads p n (Asks call) output q h =
     let entry : Entry = record { lane = 0; call = call; reply = h.0 } in
     (entry ∷ [], (entry, refl, refl, h.5), step_next p.whole q.whole call h.0 h.1)
-line_leads p n (Pin id) output q h = stays p q h.2
-line_leads p n (Unpin id) output q h = stays p q h.2
-line_leads p n (ShowCard id) output q h = stays p q h.1
+line_leads p n act output q h = search (arith, stays)
 
 run_leads : (more : Bool) (s : Point) (n : ℕ) (lines outputs : List (List ℕ)) (t : Point) → s.more ≡ more
     → Run s n lines outputs t → Leads (AreEntered more lines outputs) s.whole.state t.whole.state
@@ -68,5 +64,4 @@ runs more limits input output answers =
 
 pub ended_runs : (r : Result (Unit {0}) RunFault) (more : Bool) (limits : Limits) (input output : List ℕ)
     → IsEnded r more limits input output → OnOk r (IsRun more limits input output)
-ended_runs (Ok x) more limits input output h = runs more limits input output h
-ended_runs (Err fault) more limits input output h = tt
+ended_runs r more limits input output h = search (arith, runs)

@@ -1,5 +1,6 @@
 -- A state has one savestate, and managers of one state answer alike.
-use Rattle.std.proofs.Common.{◌≡◌, ◌∙◌, ℕ, List, [], ◌∷◌, ◌++◌, Ok, None, false, ap, map, refl, subst, sym}
+use Rattle.std.proofs.Common.{arith}
+use Rattle.std.proofs.Common.{◌≡◌, ◌∙◌, ℕ, List, [], ◌∷◌, ◌++◌, Ok, None, false, ap, map, refl, sym}
 use Rattle.std.proofs.Math.ListN.{get_or-map}
 use Rattle.std.specs.Prelude.{slice_index_or}
 use Rattle.std.specs.List.{range_with_len}
@@ -16,9 +17,7 @@ use Rattle.ob_tables.specs.SavedProcesses.{processes_text}
 use Rattle.ob_store.specs.SavedSlots.{rows_text}
 use Rattle.ob_store.specs.SavedStore.{begun_again, objects_in}
 use Rattle.ob_store.specs.State.{State, Whole, generation_of}
-use Rattle.ob_manager.specs.Calls.{Call}
 use Rattle.ob_manager.specs.Savestates.{load, mark, saved}
-use Rattle.ob_manager.specs.Steps.{Step}
 use Rattle.ob_manager.specs.declared.reply.Reply.{Reply}
 use Rattle.ob_manager.proofs.AlikeLaws.{answers_alike}
 use Rattle.ob_shared.specs.Journal.{Replays}
@@ -58,28 +57,20 @@ replies entries = map (λ (entry : Entry). entry.reply) entries
 
 lists_alike : (xs ys : List Entry) (a b v w : Whole) → a.state ≡ b.state → Replays a xs v → Replays b ys w
     → AreAskedAlike xs ys → (replies xs ≡ replies ys) × (v.state ≡ w.state)
-lists_alike [] [] a b v w same one other asked = (
-  refl,
-  sym (ap (λ (x : Whole). x.state) one) ∙ same ∙ ap (λ (x : Whole). x.state) other,
-)
+lists_alike [] [] a b v w same one other asked = search arith
 lists_alike (x ∷ xs) (y ∷ ys) a b v w same one other asked =
-    let here : (x.reply ≡ y.reply) × (one.0.state ≡ other.0.state) =
-    answers_alike a b one.0 other.0 x.call x.reply y.reply same one.1
-    (subst (λ (call : Call). Step b call y.reply other.0) (sym asked.0) other.1) asked.1 asked.2 asked.3 in
+    let here = answers_alike a b one.0 other.0 x.call x.reply y.reply same one.1 (search arith) asked.1 asked.2 asked.3 in
     let rest = lists_alike xs ys one.0 other.0 v w here.1 one.3 other.3 asked.4 in
-    (ap (λ (r : Reply). r ∷ replies xs) here.0 ∙ ap (λ rs. y.reply ∷ rs) rest.0, rest.1)
+    search arith
 lists_alike [] (y ∷ ys) a b v w same one other asked = absurd asked
 lists_alike (x ∷ xs) [] a b v w same one other asked = absurd asked
 
 pub alike : (a b : Whole) → a.state ≡ b.state → AreAlike a b
-alike a b same = record {
-  state = same;
-  answers = λ xs ys v w one other asked. lists_alike xs ys a b v w same one other asked;
-}
+alike a b same = search (arith, lists_alike)
 
 pub is_saved : (w : Whole) (bytes : List ℕ) → IsConsistent w → bytes ≡ saved w → load bytes ≡ Ok (begun_again w)
     → IsSaved w bytes
 is_saved w bytes kept is loads = record {
-  one = λ v also same. one_savestate v w also kept same ∙ sym is;
+  one = λ v also same. search (arith, one_savestate v w);
   loads = (begun_again w, loads, alike w (begun_again w) refl);
 }
