@@ -1,8 +1,10 @@
-ghost use Rattle.std.specs.Prelude.{◌≡◌, ◌≢◌, ℕ};
+ghost use Rattle.std.specs.Prelude.{◌≡◌, ◌≢◌, ◌↔◌, ◌<◌, ◌≤◌, ◌^◌, ℕ, IsTrue};
+ghost use Rattle.pin_core.specs.Words.{decoded};
 ghost use Rattle.pin_core.specs.declared.word.Phase.TheVariants.{Live};
 ghost use Rattle.pin_words.specs.Verdicts.{verdict_of};
+ghost use Rattle.pin_words.specs.declared.fault.Verdict.TheVariants.{Go};
 
-use pin_core::{Id, Phase, Word};
+use pin_core::{Id, LIVE_BIT, Phase, Word};
 use thiserror::Error;
 
 /// Why a pin is refused. No refusal changes what is held. They are tested in the order 1, 6, 2, 3, 5, 4.
@@ -56,6 +58,28 @@ pub(crate) fn judge(max_pins: u32, id: Id, word: Word) -> Verdict
     } else {
         Verdict::Go
     }
+}
+
+/// Whether an Id may be pinned by the word that a look found, by one comparison: the least word that lets it be is live,
+/// of its generation, with no pins.
+#[inline(always)]
+#[tactic(auto, using(crate::proofs::Bits::free_pin))]
+pub(crate) fn has_pin_free(max_pins: u32, id: Id, found: u64) -> bool
+    requires most { max_pins < 2 ^ 30 }
+    requires room { (decoded found).pins ≤ max_pins }
+    ensures { IsTrue result ↔ (verdict_of max_pins id (decoded found) ≡ Go) }
+{
+    let least = u64::from(id.generation) * (4 * LIVE_BIT) + LIVE_BIT;
+    found.wrapping_sub(least) < u64::from(max_pins)
+}
+
+/// The verdict where it may not be pinned.
+#[cold]
+#[inline(never)]
+pub(crate) fn judge_found(max_pins: u32, id: Id, found: u64) -> Verdict
+    ensures { result ≡ verdict_of max_pins id (decoded found) }
+{
+    judge(max_pins, id, Word::decode(found))
 }
 
 // Why an Id is refused where the word isn't live at its generation.

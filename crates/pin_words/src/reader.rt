@@ -7,7 +7,7 @@ ghost use Rattle.pin_core.specs.Shapes.{IsWithinLimits};
 ghost use Rattle.pin_words.specs.Places.{words_of};
 ghost use Rattle.pin_words.specs.Views.{IsReaders, reader_of};
 
-use crate::fault::{PinFault, Verdict, judge};
+use crate::fault::{PinFault, Verdict, has_pin_free, judge_found};
 use crate::pins::Words;
 use crate::places::{descr_place, place_of};
 use crate::plays::{Looks, Noting, Pinning, Releasing};
@@ -218,20 +218,21 @@ impl Reader {
             return Err(PinFault::HeldFull);
         }
         let found = self.look(id.slot);
-        match judge(self.shape.max_pins, id, Word::decode(found)) {
-            Verdict::Unborn => Err(PinFault::Unborn),
-            Verdict::Stale => Err(PinFault::Stale),
-            Verdict::PinsFull => Err(PinFault::PinsFull),
-            Verdict::Go => {
-                let seen = self.take(id, found);
-                if seen == found {
-                    Ok(())
-                } else {
-                    Err(PinFault::Busy {
-                        seen: Word::decode(seen),
-                    })
-                }
-            }
+        if !has_pin_free(self.shape.max_pins, id, found) {
+            return match judge_found(self.shape.max_pins, id, found) {
+                Verdict::Unborn => Err(PinFault::Unborn),
+                Verdict::Stale => Err(PinFault::Stale),
+                Verdict::PinsFull => Err(PinFault::PinsFull),
+                Verdict::Go => unreachable!(),
+            };
+        }
+        let seen = self.take(id, found);
+        if seen == found {
+            Ok(())
+        } else {
+            Err(PinFault::Busy {
+                seen: Word::decode(seen),
+            })
         }
     }
 
