@@ -13,7 +13,6 @@ ghost use Rattle.ob_manager.specs.Steps.{Step};
 ghost use Rattle.ob_shared.specs.Closing.{AreWhole, IsCause};
 ghost use Rattle.ob_shared.specs.Journal.{IsOrigin, Continues, replay};
 
-use crate::asked::Asked;
 use crate::closing::{CloseCause, cause_of};
 use crate::lane::Lane;
 use ob_manager::{Call, Card, Manager, Reply, Stored};
@@ -22,6 +21,7 @@ use pin_core::Id;
 use pin_words::PinKeeper;
 use std::alloc::Global;
 use std::marker::Model;
+use std::snapshot::Snapshot;
 
 /// A call of a lane, with its reply.
 #[derive(Drop)]
@@ -72,7 +72,7 @@ impl Receipt {
 /// can.
 pub(crate) struct Entered {
     lane: u32,
-    asked: Asked,
+    asked: Snapshot<Call>,
     reply: Reply,
 }
 
@@ -81,7 +81,7 @@ impl Model for Entered {
 
     ghost Value = { Entry };
 
-    ghost view = { λ entered. record { lane = entered.lane; call = entered.asked.call; reply = entered.reply } };
+    ghost view = { λ entered. record { lane = entered.lane; call = entered.asked.value; reply = entered.reply } };
 }
 
 impl Entered {
@@ -212,7 +212,7 @@ impl<K: PinKeeper> Book<K> {
         });
         Ok(Entered {
             lane,
-            asked: Asked::of(call),
+            asked: Snapshot::of(call),
             reply,
         })
     }

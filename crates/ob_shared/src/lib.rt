@@ -21,7 +21,6 @@
 #![tactic(auto)]
 
 mod act;
-mod asked;
 mod book;
 mod closing;
 mod comparing;
