@@ -9,21 +9,21 @@ left_same : (k : ℕ) (x y : List ℕ) → bytes_eq x y ≡ true → bytes_eq (d
 left_same k x y is = search (arith, bytes_eq-Decides)
 
 -- where the parts before a place are the same, a part from that place or before it up to the end decides
-pub last_decides : (x y : List ℕ) (m n : ℕ) (l : Bool) → length x ≡ length y → n ≤ m → n + 8 ≡ length x
+pub last_decides : (x y : List ℕ) (m n k : ℕ) (l : Bool) → length x ≡ length y → n ≤ m → n + k ≡ length x
     → bytes_eq x y ≡ bytes_eq (drop m x) (drop m y)
-    → bytes_eq (drop n x) (drop n y) ≡ (l && bytes_eq (drop (n + 8) x) (drop (n + 8) y)) → l ≡ bytes_eq x y
-last_decides x y m n l same low all whole last = by l last
+    → bytes_eq (drop n x) (drop n y) ≡ (l && bytes_eq (drop (n + k) x) (drop (n + k) y)) → l ≡ bytes_eq x y
+last_decides x y m n k l same low all whole last = by l last
   where
-    ends : bytes_eq (drop (n + 8) x) (drop (n + 8) y) ≡ true
+    ends : bytes_eq (drop (n + k) x) (drop (n + k) y) ≡ true
     ends = search (arith, drop_all)
 
     other : (b : Bool) → bytes_eq x y ≡ b → bytes_eq (drop n x) (drop n y) ≡ false → false ≡ b
     other true is fails = search (arith, bytes_eq-Decides)
     other false is fails = refl
 
-    by : (l : Bool) → bytes_eq (drop n x) (drop n y) ≡ (l && bytes_eq (drop (n + 8) x) (drop (n + 8) y))
+    by : (l : Bool) → bytes_eq (drop n x) (drop n y) ≡ (l && bytes_eq (drop (n + k) x) (drop (n + k) y))
         → l ≡ bytes_eq x y
-    by true is = sym (whole ∙ ap (λ (k : ℕ). bytes_eq (drop k x) (drop k y)) (omega arith) ∙ rest)
+    by true is = sym (whole ∙ ap (λ (i : ℕ). bytes_eq (drop i x) (drop i y)) (omega arith) ∙ rest)
       where
         rest : bytes_eq (drop (n + (m - n)) x) (drop (n + (m - n)) y) ≡ true
         rest = rw (← drop-drop (m - n) n x, ← drop-drop (m - n) n y)

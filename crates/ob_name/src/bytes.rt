@@ -3,7 +3,8 @@
 ghost use Rattle.std.specs.Prelude.{◌≡◌, ◌+◌, ◌*◌, ◌/◌, ◌≤◌, ◌&&◌, drop, length};
 ghost use Rattle.std.specs.Str.{bytes_eq};
 
-/// Whether two texts have the same bytes. The last eight are compared as they stand, though some of them may have been.
+/// Whether two texts have the same bytes. The last four or eight are compared as they stand, though some of them may have
+/// been.
 #[inline(always)]
 #[tactic(auto, using(crate::proofs::Overlapped::last_decides))]
 pub(crate) fn same_bytes(text: &[u8], other: &[u8]) -> bool
@@ -13,8 +14,11 @@ pub(crate) fn same_bytes(text: &[u8], other: &[u8]) -> bool
     if len != other.len() {
         return false;
     }
-    if len < 8 {
+    if len < 4 {
         return same_from(text, other, 0);
+    }
+    if len < 8 {
+        return same_four(text, other, 0) && same_four(text, other, len - 4);
     }
     same_eights(text, other, (len - 1) / 8) && same_eight(text, other, len - 8)
 }
@@ -33,6 +37,20 @@ fn same_eights(text: &[u8], other: &[u8], count: usize) -> bool
         }
     }
     true
+}
+
+/// Whether two texts have the same four bytes from a place on.
+#[inline(always)]
+fn same_four(text: &[u8], other: &[u8], at: usize) -> bool
+    requires text { at + 4 ≤ length text.now }
+    requires other { at + 4 ≤ length other.now }
+    ensures { bytes_eq (drop at text.now) (drop at other.now) ≡ result
+        && bytes_eq (drop (at + 4) text.now) (drop (at + 4) other.now) }
+{
+    (text[at] == other[at])
+        & (text[at + 1] == other[at + 1])
+        & (text[at + 2] == other[at + 2])
+        & (text[at + 3] == other[at + 3])
 }
 
 /// Whether two texts have the same eight bytes from a place on.
