@@ -1,14 +1,8 @@
 use Rattle.std.proofs.Common.{arith, ◌+◌}
 use Rattle.std.proofs.lemmas.Bool.Decides.{nat_tests}
-use Rattle.ob_name.proofs.Naming.{base_next}
+use Rattle.std.proofs.lemmas.List.{drop_more}
 use Rattle.ob_name.proofs.name.is_four.Goals as goal
 
 pub returns : goal.returns
-returns c = grind (
-  arith,
-  nat_tests,
-  base_next c.args.base.now c.args.at,
-  base_next c.args.base.now (c.args.at + 1),
-  base_next c.args.base.now (c.args.at + 2),
-  base_next c.args.base.now (c.args.at + 3),
-)
+returns c = let next = drop_more c.args.base.now in
+    grind (arith, nat_tests, next c.args.at 0, next (c.args.at + 1) 0, next (c.args.at + 2) 0, next (c.args.at + 3) 0)
