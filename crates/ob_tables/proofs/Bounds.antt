@@ -1,6 +1,5 @@
 -- Tables within their limits pass the tests of what is read.
-use Rattle.std.proofs.Common.{arith}
-use Rattle.std.proofs.Common.{◌≡◌, ℕ, suc, ◌≤◌, true, List, [], ◌∷◌, length, Option, refl}
+use Rattle.std.proofs.Common.{arith, ◌≡◌, ℕ, suc, ◌≤◌, true, List, [], ◌∷◌, length, Option, refl}
 use Rattle.std.proofs.lemmas.Bool.{le-leb}
 use Rattle.std.specs.List.{list_all}
 use Rattle.ob_tables.specs.declared.entry.Entry.{Entry}

@@ -1,7 +1,6 @@
 -- Laws of the table that a child inherits.
 use Rattle.std.proofs.lemmas.Grind.{common_steps}
-use Rattle.std.proofs.Common.{rules}
-use Rattle.std.proofs.Common.{drop, set, ◌≡◌, ℕ, zero, suc, ◌+◌, ◌<◌, ◌≤◌, List, [], ◌∷◌, ◌++◌, length, length-take-le, map, take, Option, Some, None, refl, ap, ◌∙◌, sym, arith, get_or, true, false}
+use Rattle.std.proofs.Common.{rules, drop, set, ◌≡◌, ℕ, zero, suc, ◌+◌, ◌<◌, ◌≤◌, List, [], ◌∷◌, ◌++◌, length, length-take-le, map, take, Option, Some, None, refl, ap, ◌∙◌, sym, arith, get_or, true, false}
 use Rattle.std.specs.List.{take-map}
 use Rattle.std.specs.Prelude.{is_some}
 use Rattle.std.proofs.lemmas.List.{map-append, length-map, length-append, take_more, take_all, drop_all}

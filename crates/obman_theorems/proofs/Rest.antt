@@ -1,6 +1,5 @@
 -- What a call comes to, from rest to rest.
-use Rattle.std.proofs.Common.{arith}
-use Rattle.std.proofs.Common.{◌≡◌, ℕ, Bool, Option, subst}
+use Rattle.std.proofs.Common.{arith, ◌≡◌, ℕ, Bool, Option, subst}
 use Rattle.pin_core.specs.declared.world.Slot.{Slot}
 use Rattle.ob_body.specs.declared.body.Body.{Body}
 use Rattle.ob_store.specs.Agreement.{Agrees}

@@ -1,7 +1,6 @@
 -- A run of a script recounts its state.
-use Rattle.std.proofs.Common.{arith}
+use Rattle.std.proofs.Common.{arith, Bool, Result, ◌≡◌, ◌∙◌, ℕ, ◌+◌, List, [], ◌∷◌, ◌++◌, ap, refl, subst}
 use Rattle.std.specs.Prelude.{OnOk}
-use Rattle.std.proofs.Common.{Bool, Result, ◌≡◌, ◌∙◌, ℕ, ◌+◌, List, [], ◌∷◌, ◌++◌, ap, refl, subst}
 use Rattle.ob_tables.specs.declared.limits.Limits.{Limits}
 use Rattle.ob_store.specs.State.{State}
 use Rattle.ob_manager.specs.Steps.{next}

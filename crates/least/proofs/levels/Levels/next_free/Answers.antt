@@ -1,5 +1,4 @@
-use Rattle.std.proofs.Common.{◌≡◌, sym, ℕ, List, Bool, Option, subst}
-use Rattle.std.proofs.Common.{arith}
+use Rattle.std.proofs.Common.{◌≡◌, sym, ℕ, List, Bool, Option, subst, arith}
 use Rattle.std.specs.Prelude.{◌==◌}
 use Rattle.least.specs.Bits.{bit}
 use Rattle.least.specs.From.{IsLeastFrom}

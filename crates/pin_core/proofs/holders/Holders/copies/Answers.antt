@@ -1,5 +1,4 @@
-use Rattle.std.proofs.Common.{◌∙◌, ap}
-use Rattle.std.proofs.Common.{arith}
+use Rattle.std.proofs.Common.{◌∙◌, ap, arith}
 use Rattle.std.specs.List.{count_by}
 use Rattle.pin_core.specs.Holds.{is_copy}
 use Rattle.pin_core.proofs.Groups.{copies-held}
