@@ -13,28 +13,24 @@ more command = inl refl
 -- one of two commands
 chosen : (b : Bool) (x y before after : Command) → IsAdded x y → IsAdded before after
     → IsAdded (if b then x else before) (if b then y else after)
-chosen true x y before after here there = here
-chosen false x y before after here there = there
+chosen b x y before after here there = search arith
 
 then_chosen : {A : Type 0} (b : Bool) (x before after : Option A) (f : A → Option Call)
     → IsAdded (asked (before >>= f)) (asked (after >>= f))
     → IsAdded (asked ((if b then x else before) >>= f)) (asked ((if b then x else after) >>= f))
-then_chosen true x before after f there = inr refl
-then_chosen false x before after f there = there
+then_chosen b x before after f there = search (arith, same)
 
 -- what is made of the next value
 then_added : {A : Type 0} (read : Option A) (f g : A → Option Call)
     → ((a : A) → IsAdded (asked (f a)) (asked (g a))) → IsAdded (asked (read >>= f)) (asked (read >>= g))
-then_added None f g each = inl refl
-then_added (Some a) f g each = each a
+then_added read f g each = search (arith, more)
 
 kind_added : (word : List ℕ) (f : Kind → Option Call)
     → IsAdded (asked (kind_of false word >>= f)) (asked (kind_of true word >>= f))
 kind_added word f = search (then_chosen, more)
 
 open_added : (words : List (List ℕ)) → IsAdded (asked (open_of false words)) (asked (open_of true words))
-open_added (thread ∷ kind ∷ mask ∷ words) = then_added _ _ _ (λ thread. kind_added kind _)
-open_added words = inl refl
+open_added words = search (arith, more, then_added, kind_added)
 
 -- an at-sign is no digit
 no_number : (rest : List ℕ) → number_of (64 ∷ rest) ≡ None
@@ -42,11 +38,7 @@ no_number rest = grind (arith, nat_tests)
 
 limit_added : (word : List ℕ) (f : Timeout → Option Call)
     → IsAdded (asked (limit_of false word >>= f)) (asked (limit_of true word >>= f))
-limit_added [] f = inr refl
-limit_added (first ∷ rest) f = elim (cases_eq first 64) [
-  | inl same ↦ inl (grind (arith, nat_tests, same, no_number rest))
-  | inr other ↦ inr (grind (arith, nat_tests, other))
-]
+limit_added word f = grind (arith, nat_tests, no_number)
 
 timeout_added : (word : List ℕ) (f : Timeout → Option Call)
     → IsAdded (asked (timeout_of false word >>= f)) (asked (timeout_of true word >>= f))

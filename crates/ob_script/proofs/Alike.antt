@@ -11,9 +11,7 @@ pub record Alike (a b : Call) : Type 0 where
   pub duplicates : is_duplicate a ≡ is_duplicate b
 
 carries : (a b : Call) → Alike a b → (w v : Whole) (reply : Reply) → Step w a reply v → Step w b reply v
-carries a b alike w v reply (does is keeps) = search arith
-carries a b alike w v reply (closes is gives only) = search arith
-carries a b alike w v reply (lacks takes ok is same) = search arith
+carries a b alike w v reply step = search arith
 
 flipped : (a b : Call) → Alike a b → Alike b a
 flipped a b alike = search arith
@@ -23,7 +21,5 @@ said_alike (calls.SignalAndWait thread signal Zero handle) = search arith
 said_alike call = search arith
 
 pub answered_alike : (w v : Whole) (call : Call) (reply : Reply) → Step w (as_said call) reply v ↔ Step w call reply v
-answered_alike w v call reply = (
-  carries (as_said call) call (said_alike call) w v reply,
-  carries call (as_said call) (flipped _ _ (said_alike call)) w v reply,
-)
+answered_alike w v call reply =
+    (carries _ _ (said_alike call) w v reply, carries _ _ (flipped _ _ (said_alike call)) w v reply)

@@ -1,5 +1,5 @@
 -- Where a byte is first found, in the words of lists.
-use Rattle.ob_script.proofs.Cited.{◌≡◌, ◌≢◌, Option, ℕ, ◌+◌, ◌-◌, ◌<◌, List, [], ◌∷◌, length, take, drop, Some, None, arith, ap, MatchOption, position_or_len, before_first, after_first, take_rest, drop-drop, position_or_len_is, fails_before_first, IsFirstByte, is_byte, words_of, joined}
+use Rattle.ob_script.proofs.Cited.{common_steps, ◌≡◌, ◌≢◌, Option, ℕ, ◌+◌, ◌-◌, ◌<◌, List, [], ◌∷◌, length, take, drop, Some, None, arith, ap, MatchOption, position_or_len, before_first, after_first, take_rest, drop-drop, position_or_len_is, fails_before_first, IsFirstByte, is_byte, words_of, joined}
 use Rattle.std.specs.Borrow.{Bor}
 use Rattle.std.proofs.lemmas.List.Splits.{slice_split_first, slice_split_none, length-slice_split, join_with_byte-slice_split}
 use Rattle.ob_script.specs.WordsLeft.{words_left}
@@ -12,14 +12,12 @@ first_place byte text at found = search (arith, position_or_len_is)
 -- where none is found, the first place is the length
 pub no_place : (byte : ℕ) (text : List ℕ) → IsFirstByte (is_byte byte) text None
     → position_or_len (is_byte byte) text ≡ length text
-no_place byte text none =
-    position_or_len_is (is_byte byte) text (length text) 0 (omega arith) (search arith) (λ past. absurd (omega arith))
+no_place byte text none = grind (arith, position_or_len_is (is_byte byte) text (length text) 0)
 
 -- what is behind the first place
 pub behind_first : (byte : ℕ) (text rest : List ℕ) (at : ℕ) → IsFirstByte (is_byte byte) text (Some at)
     → rest ≡ drop at text → take (length rest - 1) (drop 1 rest) ≡ after_first (is_byte byte) text
-behind_first byte text rest at found rest_is =
-    rw (take_rest, rest_is, drop-drop, (first_place byte text at found).0)
+behind_first byte text rest at found rest_is = grind (arith, common_steps, first_place byte text at found)
 
 -- the first word ends at the first space, or is the last
 pub words_first : (text : List ℕ) → position_or_len (is_byte 32) text < length text

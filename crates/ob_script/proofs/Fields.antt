@@ -1,5 +1,5 @@
 -- What stands in the line of a call is read as it was written, field by field.
-use Rattle.ob_script.proofs.Cited.{list_all-append, ◌≡◌, ℕ, zero, suc, ◌+◌, ◌≤◌, arith, refl, List, [], ◌∷◌, ◌++◌, Bool, true, false, Option, Some, None, decimal, map, codes, nat_lt, if◌then◌else◌, IsNumeral, decimal_is_IsNumeral, Id, Kind, Rights, Timeout, Zero, Infinite, Millis, Until, Making, words_of, joined, number_of, id_of, kind_of, type_of, are_handles, handles_in, ◌>>=◌, text_of_words, name_of, make_of, target_of, access_of, mode_of, limit_of, timeout_of, FitsKind, FitsMake, FitsTarget, FitsTimeout, FitHandles, label, id_word, mask_word, either_word, word_if, mask_words, text_words, make_words, kind_word, mode_word, timeout_word, target_word}
+use Rattle.ob_script.proofs.Cited.{nat_tests, list_all-append, ◌≡◌, ℕ, zero, suc, ◌+◌, ◌≤◌, arith, refl, List, [], ◌∷◌, ◌++◌, Bool, true, false, Option, Some, None, decimal, map, codes, nat_lt, if◌then◌else◌, IsNumeral, decimal_is_IsNumeral, Id, Kind, Rights, Timeout, Zero, Infinite, Millis, Until, Making, words_of, joined, number_of, id_of, kind_of, type_of, are_handles, handles_in, ◌>>=◌, text_of_words, name_of, make_of, target_of, access_of, mode_of, limit_of, timeout_of, FitsKind, FitsMake, FitsTarget, FitsTimeout, FitHandles, label, id_word, mask_word, either_word, word_if, mask_words, text_words, make_words, kind_word, mode_word, timeout_word, target_word}
 use Rattle.std.specs.Str.{bytes_eq}
 use Rattle.ob_waits.specs.declared.wait.Mode.{Mode}
 use Rattle.ob_manager.specs.Copying.{closes, keeps_rights}
@@ -35,11 +35,6 @@ pub reads_open_words : (inherit : Bool) (text : List ℕ)
     ++ (codes "name" ∷ words_of text)
 reads_open_words inherit text = search arith
 
--- the words of a duplicate behind its mask
-pub dup_words_are : (inherit is_so : Bool)
-    → AreWords (word_if inherit (codes "inherit") ++ word_if is_so (codes "close"))
-dup_words_are inherit is_so = search arith
-
 pub reads_access : (same : Bool) (mask : Rights) → mask.0 ≤ 4294967295
     → access_of (if same then codes "same" else mask_word mask) ≡ Some (
       if same then record { 0 = 0 } else mask,
@@ -57,77 +52,50 @@ options_are (suc (suc (suc more))) few = grind arith
 pub reads_target : (target : Option ℕ) → FitsTarget target → target_of (target_word target) ≡ Some target
 reads_target target fits = search (arith, reads_number)
 
-pub target_is_word : (target : Option ℕ) → is_word (target_word target) ≡ true
-target_is_word target = search (arith, decimal_word)
-
-pub access_is_word : (same : Bool) (mask : Rights) → is_word (if same then codes "same" else mask_word mask) ≡ true
-access_is_word same mask = search (arith, hex_word)
-
 pub reads_type : (object_type : ℕ) → object_type ≤ 255 → type_of (label 107 object_type) ≡ Some object_type
 reads_type object_type fits = search (arith, reads_number)
 
 pub reads_kind : (kind : Kind) → FitsKind kind → kind_of true (kind_word kind) ≡ Some kind
 reads_kind kind fits = search (arith, reads_type)
 
-pub kind_is_word : (kind : Kind) → is_word (kind_word kind) ≡ true
-kind_is_word kind = search (arith, decimal_word)
-
-pub either_is_word : (first second : List ℕ) (is_so : Bool) → is_word first ≡ true → is_word second ≡ true
-    → is_word (either_word first second is_so) ≡ true
-either_is_word first second is_so first_is second_is = search arith
-
 pub reads_mode : (mode : Mode) → mode_of (mode_word mode) ≡ Some mode
 reads_mode mode = search arith
 
-pub mode_is_word : (mode : Mode) → is_word (mode_word mode) ≡ true
-mode_is_word mode = search arith
-
 -- digits are no keyword
 not_inf : (ds : List ℕ) → IsNumeral 10 ds → bytes_eq ds (codes "inf") ≡ false
-not_inf [] is = absurd (omega arith)
+not_inf [] is = search arith
 not_inf (c ∷ cs) is = search arith
 
 -- nor begin with an at-sign
 limit_digits : (ds : List ℕ) → IsNumeral 10 ds
     → limit_of true ds ≡ (number_of ds >>= (λ millis. Some (Millis millis)))
-limit_digits [] is = absurd (omega (arith, is.0))
-limit_digits (c ∷ cs) is = search (arith, digit_is, is.1.0)
+limit_digits ds is = search (arith, digit_is)
 
 reads_millis : (n : ℕ) → n ≤ 4294967295 → timeout_of true (decimal n) ≡ Some (Millis n)
 reads_millis n fits = search (arith, not_inf, limit_digits, decimal_is_IsNumeral, reads_number)
 
 abbrev pub said_timeout : Timeout → Timeout
 said_timeout Zero = Millis 0
-said_timeout Infinite = Infinite
-said_timeout (Millis millis) = Millis millis
-said_timeout (Until due) = Until due
+said_timeout timeout = timeout
 
 pub reads_timeout : (timeout : Timeout) → FitsTimeout timeout
     → timeout_of true (timeout_word timeout) ≡ Some (said_timeout timeout)
 reads_timeout timeout fits = search (arith, reads_millis, reads_due)
 
-pub timeout_is_word : (timeout : Timeout) → is_word (timeout_word timeout) ≡ true
-timeout_is_word timeout = search (arith, decimal_word, signed_word)
-
 pub reads_handles : (handles : List ℕ) → FitHandles handles
     → (are_handles (map (label 104) handles) ≡ true) × (handles_in (map (label 104) handles) ≡ handles)
 reads_handles [] fit = (refl, refl)
-reads_handles (handle ∷ handles) fit = search (arith, reads_number, reads_handles handles fit.1)
+reads_handles (handle ∷ handles) fit = search (arith, reads_number, reads_handles handles)
 
 pub handles_are_words : (handles : List ℕ) → AreWords (map (label 104) handles)
 handles_are_words [] = tt
 handles_are_words (handle ∷ handles) = (decimal_word handle, handles_are_words handles)
 
 pub reads_id : (id : Id) → id.slot ≤ 4294967295 → id.generation ≤ 4294967295 → id_of (id_word id) ≡ Some id
-reads_id id slot_fits generation_fits =
-    search (arith, id_parts, are_digits, reads_number)
+reads_id id slot_fits generation_fits = search (arith, id_parts, are_digits, reads_number)
 
 pub id_is_word : (id : Id) → is_word (id_word id) ≡ true
 id_is_word id = search (arith, decimal_word, list_all-append)
 
--- what stands between the spaces of a line: numbers, and other words
-pub ruleset number_words = (decimal_word, hex_word, signed_word, id_is_word, timeout_is_word, handles_are_words)
-
-pub ruleset other_words = (either_is_word, kind_is_word, mode_is_word, target_is_word, access_is_word, dup_words_are)
-
-pub ruleset line_words = (number_words, other_words)
+-- what stands between the spaces of a line
+pub ruleset line_words = (decimal_word, hex_word, signed_word, id_is_word, handles_are_words)

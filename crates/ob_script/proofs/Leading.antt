@@ -12,8 +12,7 @@ value_after-append value (first ∷ digits) digit = value_after-append (value * 
 
 pub value_more : (text : List ℕ) (i : ℕ) → i < length text
     → value_of (take (i + 1) text) ≡ value_of (take i text) * 10 + (get_or text i 0 - 48)
-value_more text i within =
-    ap value_of (take_more text i 0 within) ∙ value_after-append 0 (take i text) (get_or text i 0)
+value_more text i within = search (arith, take_more text i 0, value_after-append)
 
 pub digits_more : (text : List ℕ) (i : ℕ) → i < length text → list_all is_ascii_digit (take i text) ≡ true
     → is_ascii_digit (get_or text i 0) ≡ true → list_all is_ascii_digit (take (i + 1) text) ≡ true
@@ -27,51 +26,33 @@ module _ (stop : ℕ) (text : List ℕ) (n : ℕ) (other : is_ascii_digit stop �
 
   -- where such a byte is first
   pub first_stop : (n < length text → is_byte stop (get_or text n 0) ≡ true) → position_or_len (is_byte stop) text ≡ n
-  first_stop is = position_or_len_is (is_byte stop) text n 0 within among_digits is
+  first_stop is = grind (arith, position_or_len_is (is_byte stop) text n 0, among_digits)
 
   -- the digits with which a text begins stand before it
   pub digits_before : n ≤ position_or_len (is_byte stop) text
-  digits_before = elim (cases_lt (position_or_len (is_byte stop) text) n) [
-    | inl before ↦
-        absurd (true≢false (sym (search (arith, passes_at_first))
-        ∙ among_digits (position_or_len (is_byte stop) text) before))
-    | inr past ↦ past
-  ]
+  digits_before = grind (arith, passes_at_first (is_byte stop) text 0, among_digits)
 
 -- a number behind a letter, which is no blank
-pub behind_letter : (letter : ℕ) (text digits : List ℕ) (found : Option (ℕ × Option (Bor (List ℕ)))) → letter ≢ 32
-    → 1 ≤ length text → get_or text 0 0 ≡ letter →
-    IfSome found (λ number. (word : List ℕ) × (number_of word ≡ Some number.0)
-    × (words_of digits ≡ word ∷ words_left number.1)) → digits ≡ drop 1 text →
-    IfSome found (λ number. (word : List ℕ) × (labelled letter word ≡ Some number.0)
+pub behind_letter : (letter : ℕ) (text : List ℕ) (found : Option (ℕ × Option (Bor (List ℕ)))) → letter ≢ 32
+    → 1 ≤ length text → get_or text 0 0 ≡ letter → IfSome found (λ number. (word : List ℕ)
+    × (number_of word ≡ Some number.0) × (words_of (take (length text - 1) (drop 1 text)) ≡ word ∷ words_left number.1))
+    → IfSome found (λ number. (word : List ℕ) × (labelled letter word ≡ Some number.0)
     × (words_of text ≡ word ∷ words_left number.1))
-behind_letter letter [] digits found dark some is number rest = absurd (omega arith)
-behind_letter letter (first ∷ more) digits None dark some is number rest = number
-behind_letter letter (first ∷ more) digits (Some found) dark some is (word, number, words) rest = (
-  letter ∷ word,
-  grind arith,
-  search arith,
-)
+behind_letter letter text None dark some is word = word
+behind_letter letter text (Some number) dark some is word =
+    (letter ∷ word.0, grind arith, grind (arith, nat_tests, common_steps, take_rest))
 
 -- the first word of a text ends at the first blank
 pub first_word_is : (text word : List ℕ) (more : List (List ℕ)) → words_of text ≡ word ∷ more
     → word ≡ take (position_or_len (is_byte 32) text) text
 first_word_is text word more words = search (arith, prefix_len-le-length, take_all, words_first, words_last)
 
--- a word whose digits are none, too many or too great, or that goes on with something else, is no number
-no_digits : (word : List ℕ) (n value : ℕ) → list_all is_ascii_digit (take n word) ≡ true
-    → value_of (take n word) ≡ value → n ≤ length word
-    → (n ≤ 10 → n < length word → is_ascii_digit (get_or word n 0) ≡ false)
-    → (n ≢ 0 → n ≤ 10 → value ≤ 4294967295 → n < length word) → number_of word ≡ None
-no_digits word n value digits is within stop fails = search (arith, list_all_at, take_all)
-
 -- a number is the last word, or the first
 module _ (text : List ℕ) (n value : ℕ) (digits : list_all is_ascii_digit (take n text) ≡ true)
     (is : value_of (take n text) ≡ value) where
   pub number_last : n ≡ length text → n ≢ 0 → n ≤ 10 → value ≤ 4294967295 →
       (word : List ℕ) × (number_of word ≡ Some value) × (words_of text ≡ word ∷ [])
-  number_last last some few small =
-      (text, grind (arith, nat_tests, common_steps), search (arith, take_all, first_stop, words_last))
+  number_last last some few small = (text, grind (arith, nat_tests, common_steps), search (arith, take_all, first_stop, words_last))
 
   pub number_first : n < length text → get_or text n 0 ≡ 32 → n ≢ 0 → n ≤ 10 → value ≤ 4294967295 →
       (word : List ℕ) × (number_of word ≡ Some value)
@@ -86,14 +67,10 @@ module _ (text : List ℕ) (n value : ℕ) (digits : list_all is_ascii_digit (ta
         → number_of (take (position_or_len (is_byte stop) text) text) ≡ None
     no_digits_before stop other fails =
         let least = digits_before stop text n other digits within in
-        let most = prefix_len-le-length (λ byte. not (is_byte stop byte)) text in
-        no_digits (take (position_or_len (is_byte stop) text) text) n value (grind (arith, common_steps))
-        (grind (arith, common_steps)) (grind (arith, common_steps)) (grind (arith, common_steps))
-        (grind (arith, nat_tests, common_steps, passes_at_first))
+        grind (arith, nat_tests, common_steps, list_all_at, passes_at_first, least, prefix_len-le-length)
 
     pub no_number : (n ≢ 0 → n ≤ 10 → value ≤ 4294967295 → (n < length text) × (get_or text n 0 ≢ 32))
         → (word : List ℕ) (more : List (List ℕ)) → words_of text ≡ word ∷ more → number_of word ≡ None
-    no_number fails word more words =
-        rw (first_word_is text word more words) (no_digits_before 32 refl (grind (arith, nat_tests)))
+    no_number fails word more words = search (arith, first_word_is, no_digits_before, nat_tests)
 
 pub ruleset number_laws = (number_last, number_first, no_number)

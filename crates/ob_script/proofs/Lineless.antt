@@ -10,7 +10,7 @@ use Rattle.ob_manager.specs.Outcomes.{Outcome, ◌>>=◌}
 use Rattle.ob_manager.specs.Copying.{duplicate}
 use Rattle.ob_manager.specs.Creating.{create, name_in, new_event, new_host, new_mutex, new_semaphore, new_timer, open_named, own_name}
 use Rattle.ob_manager.specs.Steps.{Step, does, closes as closes_source, lacks, KeeperAfter, final, outcome_of}
-use Rattle.ob_script.proofs.Short.{AreShort, no_feed, have_line, moment_short, handles_short, make_short, least, wide, words_short, make_few}
+use Rattle.ob_script.proofs.Short.{AreShort, no_feed, have_line, number_short, handles_short, make_short, least, wide, words_short, make_few}
 
 -- a chain of tests fails where its first part does, and where all that follows does
 first_fails : {A B : Type 0} (r : Result A Fault) (f : A → Result B Fault) → is_ok r ≡ false → is_ok (r >>= f) ≡ false
@@ -41,23 +41,22 @@ own_fails s process name is = search (arith, first_fails, nameless)
 name_short : (name : Option (List ℕ)) → is_nameable name ≡ true → AreShort 260 (name_words name)
 name_short name is = search arith
 
+-- the name in a call
+abbrev named : Call → Option (List ℕ)
+named (calls.MakeEvent thread make manual set) = make.name
+named (calls.MakeMutex thread make owned) = make.name
+named (calls.MakeSemaphore thread make initial max) = make.name
+named (calls.MakeTimer thread make manual) = make.name
+named (calls.MakeHost thread make object_type manual signaled) = make.name
+named (calls.OpenNamed thread kind mask inherit text) = Some text
+named call = None
+
 -- a call whose other words are few and short has no line for its name alone
-misnamed : (call : Call) (name : Option (List ℕ)) → can_be_said call ≡ true → length (words_for call) ≤ 15
-    → (AreShort 260 (name_words name) → AreShort 260 (words_for call)) → line_of call ≡ None → is_nameable name ≡ false
-misnamed call name can few short none = false_from_ne_true (is_nameable name) (λ is.
-    have_line 260 call can (short (name_short name is)) (omega (arith, few)) none)
-
-create_fails : (s : State) (thread : ℕ) (make : Making) (what : Result New Fault) (call : Call)
-    → can_be_said call ≡ true → FitsMake make → length (words_for call) ≤ 15
-    → (AreShort 260 (make_words make) → AreShort 260 (words_for call)) → line_of call ≡ None
-    → is_ok (create s thread make what) ≡ false
-create_fails s thread make what call can fits few short none =
-    let bad = misnamed call make.name can few (λ named. short (make_short 260 wide make fits named)) none in
-    search (arith, rest_fails, first_fails, own_fails) depth 7
-
-open_fails : (s : State) (thread : ℕ) (kind : Kind) (mask : Rights) (inherit : Bool) (text : List ℕ)
-    → is_nameable (Some text) ≡ false → is_ok (open_named s thread kind mask inherit text) ≡ false
-open_fails s thread kind mask inherit text is = search (arith, rest_fails, first_fails, nameless) depth 7
+misnamed : (call : Call) → can_be_said call ≡ true → length (words_for call) ≤ 15
+    → (AreShort 260 (name_words (named call)) → AreShort 260 (words_for call)) → line_of call ≡ None
+    → is_nameable (named call) ≡ false
+misnamed call can few short none = false_from_ne_true _ (λ is.
+    have_line 260 call can (short (name_short (named call) is)) (omega (arith, few)) none)
 
 dup_fails : (s : State) (thread source handle : ℕ) (target : Option ℕ) (mask : Rights) (inherit : Bool) (options : ℕ)
     → nat_lt options 4 ≡ false → is_ok (duplicate s thread source handle target mask inherit options) ≡ false
@@ -66,31 +65,11 @@ dup_fails s thread source handle target mask inherit options more = search arith
 -- whichever call it is
 fails : (s : State) (call : Call) (reply : Reply) → Fits call → line_of call ≡ None
     → is_ok (outcome_of s call reply) ≡ false
-fails s (calls.MakeEvent thread make manual set) reply fits none =
-    create_fails s thread make (Ok (new_event manual set)) (calls.MakeEvent thread make manual set) refl fits.1
-    (omega (arith, make_few make)) (λ rest. search (arith, words_short) depth 12) none
-fails s (calls.MakeMutex thread make owned) reply fits none =
-    create_fails s thread make (Ok (new_mutex thread owned)) (calls.MakeMutex thread make owned) refl fits.1
-    (omega (arith, make_few make)) (λ rest. search (arith, words_short) depth 12) none
-fails s (calls.MakeSemaphore thread make initial max) reply fits none =
-    create_fails s thread make (new_semaphore initial max) (calls.MakeSemaphore thread make initial max) refl fits.1
-    (omega (arith, make_few make)) (λ rest. search (arith, words_short) depth 12) none
-fails s (calls.MakeTimer thread make manual) reply fits none =
-    create_fails s thread make (Ok (new_timer manual)) (calls.MakeTimer thread make manual) refl fits.1
-    (omega (arith, make_few make)) (λ rest. search (arith, words_short) depth 12) none
-fails s (calls.MakeHost thread make object_type manual signaled) reply fits none =
-    create_fails s thread make (Ok (new_host object_type manual signaled))
-    (calls.MakeHost thread make object_type manual signaled) refl fits.1 (omega (arith, make_few make))
-    (λ rest. search (arith, words_short) depth 12) none
-fails s (calls.OpenNamed thread kind mask inherit text) reply fits none =
-    open_fails s thread kind mask inherit text
-    (misnamed (calls.OpenNamed thread kind mask inherit text) (Some text) refl (search arith)
-    (λ named. search (arith, words_short) depth 12) none)
 fails s (calls.Duplicate thread source handle target mask inherit options) reply fits none =
     dup_fails s thread source handle target mask inherit options (false_from_ne_true (nat_lt options 4) (λ few.
     have_line 22 (calls.Duplicate thread source handle target mask inherit options) few
     (search (arith, words_short) depth 12) (search arith) none))
-fails s (calls.Tick now) reply fits none = search (arith, moment_short)
+fails s (calls.Tick now) reply fits none = search (arith, number_short)
 fails s (calls.WaitFor thread mode timeout handles) reply fits none = elim (cases_lt 64 (length handles)) [
   | inl many ↦ search arith
   | inr few ↦
@@ -98,7 +77,8 @@ fails s (calls.WaitFor thread mode timeout handles) reply fits none = elim (case
       (search (arith, words_short, handles_short 22 least handles fits.2) depth 12) (search (arith, length-map)) none)
 ]
 fails s call reply fits none =
-    absurd (have_line 22 call refl (search (arith, words_short) depth 12) (omega arith) none)
+    let bad = misnamed call refl (search (arith, make_few)) (λ name. search (arith, words_short, make_short 260 wide) depth 12) none in
+    first_of (cc, search (arith, rest_fails, first_fails, own_fails, nameless) depth 7)
 
 -- what refuses leaves all as it was
 refused_of : (w v : Whole) (reply : Reply) (r : Result Outcome Fault) → is_ok r ≡ false
@@ -106,9 +86,8 @@ refused_of : (w v : Whole) (reply : Reply) (r : Result Outcome Fault) → is_ok 
     → (v ≡ w) × (fault : Fault) × (reply ≡ Refused fault)
 refused_of w v reply (Ok outcome) bad is keeps = absurd (true≢false bad)
 refused_of w v reply (Err e) bad is keeps =
-    let said : Refused e ≡ reply = ap (λ (o : Outcome). o.reply) is in
     let kept : v.keeper ≡ w.keeper = search arith in
-    (λ i. record { state = (sym is i).state; keeper = kept i }, e, sym said)
+    (λ i. record { state = (sym is i).state; keeper = kept i }, e, λ i. (sym is i).reply)
 
 pub lineless_is_refused : (w v : Whole) (call : Call) (reply : Reply) → Fits call → line_of call ≡ None
     → Step w call reply v → (v ≡ w) × (fault : Fault) × (reply ≡ Refused fault)

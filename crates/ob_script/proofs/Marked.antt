@@ -14,15 +14,12 @@ pub marks_compared : (byte : ℕ) (bytes : List ℕ) → length bytes ≡ 32
 marks_compared byte bytes long =
     rw (bitmask_splat w8 eqb bytes 32 byte long (omega arith)) (record {
       each = search (arith, bit_mask_l, get_or-map);
-      within = grind (arith, nat_tests, clear_past);
+      within = grind (arith, nat_tests, bit_mask_l, get_or_past, length-map);
     })
-  where
-    clear_past : (k : ℕ) → 32 ≤ k → bit_at (mask_l (map (is_byte byte) bytes)) k ≡ 0
-    clear_past k past = search (arith, bit_mask_l, get_or_past, length-map)
 
 module _ (text : List ℕ) (long : 32 ≤ length text) where
   from_front : (k : ℕ) → k < 32 → get_or (chunk 0 32 text) k 0 ≡ get_or text k 0
-  from_front k within = get_or-chunk 0 32 text k 0 within ∙ ap (λ n. get_or text n 0) (omega arith)
+  from_front k within = grind (arith, get_or-chunk 0 32 text k 0)
 
   set_is : (byte marks k : ℕ) → Marks (is_byte byte) (chunk 0 32 text) 32 marks → bit_at marks k ≡ 1
       → is_byte byte (get_or text k 0) ≡ true
@@ -47,9 +44,8 @@ module _ (text : List ℕ) (long : 32 ≤ length text) where
     -- the lowest bit is the first line feed
     pub line_ends : position_or_len (is_byte 10) text ≡ trailing_zeros w64 feeds
     line_ends =
-        position_or_len_is (is_byte 10) text (trailing_zeros w64 feeds) 0 (omega (arith, line_within))
-        (search (arith, clear_is, lowest))
-        (search (arith, set_is, lowest.1))
+        let is = position_or_len_is (is_byte 10) text (trailing_zeros w64 feeds) 0 in
+        grind (arith, is, clear_is 10 feeds, set_is 10 feeds, lowest, line_within, near)
 
     module _ (blanks : ℕ) (blanks_fit : blanks < 2 ^ 64)
         (are_blanks : Marks (is_byte 32) (chunk 0 32 text) 32 blanks) where
@@ -57,19 +53,11 @@ module _ (text : List ℕ) (long : 32 ≤ length text) where
       pub word_ends : position_or_len (is_byte 32) (take (trailing_zeros w64 feeds) text)
           ≡ trailing_zeros w64 (bit_or blanks feeds)
       word_ends =
-          let end = trailing_zeros w64 feeds in
-          let word = trailing_zeros w64 (bit_or blanks feeds) in
+          let fit = or_lt 64 blanks feeds blanks_fit fits in
           let both = bit_at_or blanks feeds in
-          let set_end : 1 ≤ bit_at (bit_or blanks feeds) end = omega (arith, both end, lowest.1) in
-          let first = bit_at-trailing_zeros w64 (bit_or blanks feeds) (omega arith)
-          (or_lt 64 blanks feeds blanks_fit fits) in
-          let no_later : word ≤ end = search arith in
-          let len : length (take end text) ≡ end = search (arith, length-take-le) in
-          position_or_len_is (is_byte 32) (take end text) word 0 (omega arith)
-          (λ k before. rw (get_or-take end text k 0 (omega arith))
-          (clear_is 32 blanks k are_blanks (omega (arith, near)) (omega (arith, both k, first.2 k before))))
-          (λ within. rw (get_or-take end text word 0 (omega arith))
-          (set_is 32 blanks word are_blanks (omega (arith, both word, lowest.2 word (omega arith)))))
+          let first = bit_at-trailing_zeros w64 (bit_or blanks feeds) in
+          let is = position_or_len_is (is_byte 32) (take (trailing_zeros w64 feeds) text) (trailing_zeros w64 (bit_or blanks feeds)) 0 in
+          grind (arith, near, lowest, both, first, get_or-take, length-take-le, clear_is 32 blanks, set_is 32 blanks, is)
 
 -- where a line and its first word end
 pub ruleset near_laws = (line_within, line_ends, word_ends)

@@ -8,7 +8,7 @@ use Rattle.ob_script.proofs.Fields.{reads_make, reads_make_words, reads_text, re
 -- a line of words alone
 reads_words : (call : Call) → AreWords (words_for call) → command_of_words true (words_for call) ≡ Asks (as_said call)
     → command_of_words true (read_words (words_for call)) ≡ Asks (as_said call)
-reads_words call are asks = ap (command_of_words true) (reads_all (words_for call) are) ∙ asks
+reads_words call are asks = search (arith, reads_all)
 
 -- words in front, and what is read behind them
 behind_front : (front words got : List (List ℕ)) → AreWords front → read_words words ≡ got
@@ -26,46 +26,32 @@ reads : (call : Call) → Fits call → can_be_said call ≡ true
     → command_of_words true (read_words (words_for call)) ≡ Asks (as_said call)
 reads (calls.MakeEvent thread make manual set) fits can =
     behind_front (codes "event" ∷ label 116 thread ∷ reset_word manual ∷ state_word set ∷ []) _ _
-    (search (arith, line_words) depth 12) (reads_make_words make)
-    ∙ search (arith, reads_number, reads_make)
+    (search (arith, line_words) depth 12) (reads_make_words make) ∙ search (arith, reads_number, reads_make)
 reads (calls.MakeMutex thread make owned) fits can =
     behind_front (codes "mutex" ∷ label 116 thread ∷ either_word (codes "free") (codes "owned") owned ∷ []) _ _
-    (search (arith, line_words) depth 12) (reads_make_words make)
-    ∙ search (arith, reads_number, reads_make)
+    (search (arith, line_words) depth 12) (reads_make_words make) ∙ search (arith, reads_number, reads_make)
 reads (calls.MakeSemaphore thread make initial max) fits can =
     behind_front (codes "semaphore" ∷ label 116 thread ∷ signed_decimal initial ∷ signed_decimal max ∷ []) _ _
-    (search (arith, line_words) depth 12) (reads_make_words make)
-    ∙ search (arith, reads_number, reads_signed, reads_make)
+    (search (arith, line_words) depth 12) (reads_make_words make) ∙ search (arith, reads_number, reads_signed, reads_make)
 reads (calls.MakeTimer thread make manual) fits can =
     behind_front (codes "timer" ∷ label 116 thread ∷ reset_word manual ∷ []) _ _
-    (search (arith, line_words) depth 12) (reads_make_words make)
-    ∙ search (arith, reads_number, reads_make)
+    (search (arith, line_words) depth 12) (reads_make_words make) ∙ search (arith, reads_number, reads_make)
 reads (calls.MakeHost thread make object_type manual signaled) fits can =
     behind_front (codes "host" ∷ label 116 thread ∷ label 107 object_type ∷ reset_word manual ∷ state_word signaled
-    ∷ []) _ _ (search (arith, line_words) depth 12) (reads_make_words make)
-    ∙ search (arith, reads_number, reads_type, reads_make)
+    ∷ []) _ _ (search (arith, line_words) depth 12) (reads_make_words make) ∙ search (arith, reads_number, reads_type, reads_make)
 reads (calls.OpenNamed thread kind mask inherit text) fits can =
     behind_front (codes "open" ∷ label 116 thread ∷ kind_word kind ∷ mask_word mask ∷ []) _ _
-    (search (arith, line_words) depth 12) (reads_open_words inherit text)
-    ∙ search (arith, reads_number, reads_kind, reads_mask, reads_text)
-reads (calls.Duplicate thread source handle target mask inherit options) fits can =
-    let is = options_are options can in
-    reads_words (calls.Duplicate thread source handle target mask inherit options)
-    (search (arith, line_words) depth 12) (search (arith, reads_number, reads_target, reads_access, is))
-reads (calls.Tick now) fits can =
-    let most : now ≤ 9223372036854775807 = grind arith in
-    reads_words (calls.Tick now) (search (arith, line_words)) (search (arith, reads_moment))
+    (search (arith, line_words) depth 12) (reads_open_words inherit text) ∙ search (arith, reads_number, reads_kind, reads_mask, reads_text)
 reads (calls.WaitFor thread mode timeout handles) fits can =
     let are = reads_handles handles fits.2 in
     reads_words (calls.WaitFor thread mode timeout handles) (search (arith, line_words) depth 12)
     (search (arith, reads_number, reads_mode, reads_timeout, are.0, are.1))
 reads call fits can =
     reads_words call (search (arith, line_words) depth 12)
-    (search (arith, reads_number, reads_signed, reads_due, reads_id, reads_timeout))
+    (search (arith, reads_number, reads_signed, reads_due, reads_id, reads_timeout, reads_moment, reads_target, reads_access, options_are))
 
 starts : (call : Call) → nat_lt 4096 (length (text_for call)) ≡ false
     → command_of_text true (text_for call) ≡ command_of_words true (read_words (words_for call))
-starts (calls.Spawn session) short = search arith
 starts call short = search arith
 
 -- a line drops the carriage return that is one more

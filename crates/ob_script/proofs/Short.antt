@@ -24,15 +24,12 @@ AreShort most (word ∷ words) = IsShort most word × AreShort most words
 
 joined_within : (most : ℕ) (words : List (List ℕ)) → AreShort most words → list_all no_feed (joined words) ≡ true
 joined_within most [] are = refl
-joined_within most (word ∷ []) are = are.0.within
-joined_within most (word ∷ next ∷ words) are = search (arith, list_all-append, joined_within most (next ∷ words) are.1)
+joined_within most (word ∷ words) are = search (arith, list_all-append, joined_within most words)
 
 joined_len : (most : ℕ) (words : List (List ℕ)) → AreShort most words
     → length (joined words) ≤ (most + 1) * length words
 joined_len most [] are = omega arith
-joined_len most (word ∷ []) are = omega arith
-joined_len most (word ∷ next ∷ words) are =
-    omega (arith, length-append word (32 ∷ joined (next ∷ words)), joined_len most (next ∷ words) are.1)
+joined_len most (word ∷ words) are = grind (arith, length-append, joined_len most words)
 
 -- few short words are a line
 pub have_line : (most : ℕ) (call : Call) → can_be_said call ≡ true → AreShort most (words_for call)
@@ -44,27 +41,23 @@ pub digits_within : (base n : ℕ) → 0 < base → list_all no_feed (digits bas
 digits_within base n positive = search (arith, digits_pass)
 
 few_digits : (n : ℕ) → n ≤ 4294967295 → length (decimal n) ≤ 10
-few_digits n fits = length-decimal-le 10 n (omega arith) (omega (arith, fits)) (omega (arith, fits))
+few_digits n fits = search (arith, length-decimal-le)
 
 most_digits : (n : ℕ) → n ≤ 9223372036854775808 → length (decimal n) ≤ 19
-most_digits n fits = length-decimal-le 19 n (omega arith) (omega (arith, fits)) (omega (arith, fits))
+most_digits n fits = search (arith, length-decimal-le)
 
 module _ (most : ℕ) (room : 22 ≤ most) where
-  pub number_short : (n : ℕ) → n ≤ 4294967295 → IsShort most (decimal n)
-  number_short n fits = search (arith, few_digits, digits_within)
+  pub number_short : (n : ℕ) → n ≤ 9223372036854775807 → IsShort most (decimal n)
+  number_short n fits = search (arith, most_digits, digits_within)
 
   pub label_short : (letter n : ℕ) → no_feed letter ≡ true → n ≤ 4294967295 → IsShort most (label letter n)
   label_short letter n is fits = search (arith, few_digits, digits_within)
 
   pub type_short : (object_type : ℕ) → object_type ≤ 255 → IsShort most (label 107 object_type)
-  type_short object_type fits = label_short 107 object_type refl (omega (arith, fits))
+  type_short object_type fits = search (arith, few_digits, digits_within)
 
   pub id_short : (id : Id) → id.slot ≤ 4294967295 → id.generation ≤ 4294967295 → IsShort most (id_word id)
-  id_short id slot_fits generation_fits =
-      search (arith, few_digits, digits_within, length-append, list_all-append)
-
-  pub moment_short : (n : ℕ) → n ≤ 9223372036854775807 → IsShort most (decimal n)
-  moment_short n fits = search (arith, most_digits, digits_within)
+  id_short id slot_fits generation_fits = search (arith, few_digits, digits_within, length-append, list_all-append)
 
   pub due_short : (due : ℤ) → FitsSign 9223372036854775808 due → IsShort most (signed_decimal due)
   due_short due fits = search (arith, most_digits, digits_within)
@@ -80,21 +73,16 @@ module _ (most : ℕ) (room : 22 ≤ most) where
   either_short first second is_so first_is second_is = search (arith, nat_tests)
 
   pub kind_short : (kind : Kind) → FitsKind kind → IsShort most (kind_word kind)
-  kind_short (Host object_type) fits = type_short object_type fits
-  kind_short kind fits = search arith
+  kind_short kind fits = search (arith, few_digits, digits_within)
 
   pub mode_short : (mode : Mode) → IsShort most (mode_word mode)
   mode_short mode = search arith
 
   pub timeout_short : (timeout : Timeout) → FitsTimeout timeout → IsShort most (timeout_word timeout)
-  timeout_short Zero fits = number_short 0 (omega arith)
-  timeout_short Infinite fits = search arith
-  timeout_short (Millis millis) fits = number_short millis fits
-  timeout_short (Until due) fits = search (arith, most_digits, digits_within)
+  timeout_short timeout fits = search (arith, few_digits, most_digits, digits_within)
 
   pub target_short : (target : Option ℕ) → FitsTarget target → IsShort most (target_word target)
-  target_short None fits = search arith
-  target_short (Some process) fits = label_short 112 process refl fits
+  target_short target fits = search (arith, few_digits, digits_within)
 
   pub access_short : (same : Bool) (mask : Rights) → mask.0 ≤ 4294967295
       → IsShort most (if same then codes "same" else mask_word mask)
@@ -103,7 +91,7 @@ module _ (most : ℕ) (room : 22 ≤ most) where
 
   pub handles_short : (handles : List ℕ) → FitHandles handles → AreShort most (map (label 104) handles)
   handles_short [] fit = tt
-  handles_short (handle ∷ handles) fit = (label_short 104 handle refl fit.0, handles_short handles fit.1)
+  handles_short (handle ∷ handles) fit = search (arith, label_short, handles_short handles)
 
   pub if_short : (is_so : Bool) (word : List ℕ) → is_known word ≡ true → AreShort most (word_if is_so word)
   if_short is_so word is = search (arith, nat_tests)
@@ -111,7 +99,7 @@ module _ (most : ℕ) (room : 22 ≤ most) where
   pub append_short : (front back : List (List ℕ)) → AreShort most front → AreShort most back
       → AreShort most (front ++ back)
   append_short [] back front_are back_are = back_are
-  append_short (word ∷ front) back front_are back_are = (front_are.0, append_short front back front_are.1 back_are)
+  append_short (word ∷ front) back front_are back_are = search (arith, append_short front)
 
   masks_short : (keyword : List ℕ) (mask : Option Rights) → IsShort most keyword → FitsMask mask
       → AreShort most (mask_words keyword mask)
@@ -128,7 +116,7 @@ least = omega arith
 pub wide : 22 ≤ 260
 wide = omega arith
 
--- the words of a call: numbers, keywords, and what is either
+-- the words of a call: numbers, and others
 pub ruleset numbers_short = (least, wide, number_short, label_short, type_short, id_short, due_short, signed_short)
 
 pub ruleset keywords_short = (either_short, kind_short, mode_short, if_short, append_short)

@@ -12,9 +12,6 @@ abbrev pub AreWords : List (List ℕ) → Type 0
 AreWords [] = Unit {0}
 AreWords (word ∷ words) = (is_word word ≡ true) × AreWords words
 
-no_spaces : (word : List ℕ) → is_word word ≡ true → All (λ byte. is_byte 32 byte ≡ false) word
-no_spaces word is = λ k d within. not-true _ (AllPass-from_list_all (λ byte. not (byte == 32)) word is k d within)
-
 -- the words of a text that some words are
 abbrev pub read_words : List (List ℕ) → List (List ℕ)
 read_words [] = []
@@ -22,17 +19,15 @@ read_words (word ∷ words) = words_of (joined (word ∷ words))
 
 pub reads_next : (word : List ℕ) (words : List (List ℕ)) → is_word word ≡ true
     → read_words (word ∷ words) ≡ word ∷ read_words words
-reads_next word [] is = search (arith, no_spaces, slice_split_none)
-reads_next word (next ∷ words) is = search (arith, no_spaces, slice_split_at)
+reads_next word words is = search (arith, not-true, AllPass-from_list_all, slice_split_none, slice_split_at)
 
 pub reads_front : (front words : List (List ℕ)) → AreWords front
     → read_words (front ++ words) ≡ front ++ read_words words
 reads_front [] words are = refl
-reads_front (word ∷ front) words are = search (arith, reads_next, reads_front front words are.1)
+reads_front (word ∷ front) words are = search (arith, reads_next, reads_front front)
 
 pub reads_all : (words : List (List ℕ)) → AreWords words → read_words words ≡ words
-reads_all [] are = refl
-reads_all (word ∷ words) are = search (arith, reads_next, reads_all words are.1)
+reads_all words are = rw append-nil at (reads_front words [] are)
 
 -- digits have no space
 pub hex_word : (n : ℕ) → is_word (digits 16 false n) ≡ true
@@ -47,5 +42,4 @@ signed_word z = search (arith, decimal_word)
 -- words that each have a space before them
 pub said_joined : (words : List (List ℕ)) → said words ≡ joined words
 said_joined [] = refl
-said_joined (word ∷ []) = append-nil word
-said_joined (word ∷ next ∷ words) = search (arith, said_joined (next ∷ words))
+said_joined (word ∷ words) = search (arith, append-nil, said_joined words)

@@ -1,5 +1,5 @@
 -- No line of a call and its answer has a line feed.
-use Rattle.ob_script.proofs.Cited.{false, Some, None, ◌≡◌, ℕ, zero, suc, arith, refl, List, [], ◌∷◌, ◌++◌, take, Bool, true, Option, IfSome, decimal, list_all, list_all-append, Id, Call, Reply, ended, line_of}
+use Rattle.ob_script.proofs.Cited.{◌-◌, false, Some, None, ◌≡◌, ℕ, zero, suc, arith, refl, List, [], ◌∷◌, ◌++◌, take, Bool, true, Option, IfSome, decimal, list_all, list_all-append, Id, Call, Reply, ended, line_of}
 use Rattle.pin_words.specs.declared.pin_keeper.Reclaim.{Reclaim}
 use Rattle.ob_manager.specs.declared.reply.Reply.TheVariants.{Reaped}
 use Rattle.ob_script.specs.Printed.{printed_id, printed_reclaim, printed_reply}
@@ -22,14 +22,12 @@ reclaim_has : (outcome : Reclaim) → HasNone (printed_reclaim outcome)
 reclaim_has outcome = search (arith, join, number)
 
 pub reply_has : (reply : Reply) → HasNone (printed_reply reply)
-reply_has (Reaped id outcome) = search (arith, join, id_has, reclaim_has)
-reply_has reply = search (arith, join, number, id_has) depth 9
+reply_has reply = search (arith, join, number, id_has, reclaim_has) depth 9
 
 -- lines and comments
 begins : (n : ℕ) (text : List ℕ) → HasNone text → HasNone (take n text)
 begins zero text has = refl
-begins (suc n) [] has = refl
-begins (suc n) (byte ∷ text) has = search (arith, begins n text)
+begins (suc n) text has = search (arith, begins n)
 
 pub comment_has : (text : List ℕ) → HasNone text → HasNone (comment text)
 comment_has text has = begins 4094 text has
@@ -46,4 +44,4 @@ asks_has true (Some line) has = has
 asks_has false (Some line) has = comment_has line has
 
 pub asking_has : (again : Bool) (call : Call) → HasNone (asking again (line_of call))
-asking_has again call = asks_has again (line_of call) (line_has call)
+asking_has again call = search (arith, asks_has, line_has)

@@ -10,11 +10,7 @@ writes_none before whole = record { done = []; grown = sym (append-nil before); 
 -- some bytes, and then some of what was missing
 pub writes_then : {a b c whole missing left : List ℕ} → Writes a b whole missing → Writes b c missing left
     → Writes a c whole left
-writes_then one two = record {
-  done = one.done ++ two.done;
-  grown = rw (two.grown, one.grown, append_assoc);
-  part = rw (append_assoc, two.part, one.part);
-}
+writes_then one two = record { done = one.done ++ two.done; grown = search (arith, append_assoc); part = search (arith, append_assoc) }
 
 -- more is to be written
 writes_add : {a b whole missing : List ℕ} (more : List ℕ) → Writes a b whole missing
@@ -29,7 +25,7 @@ writes_more before after later whole missing count writes grown = writes_then wr
 
 -- all is written
 pub writes_all : (before after whole : List ℕ) → Writes before after whole [] → after ≡ before ++ whole
-writes_all before after whole writes = rw (writes.grown, ← writes.part, append-nil)
+writes_all before after whole writes = search (arith, append-nil, writes.grown, writes.part)
 
 -- what is missing need not be said
 pub writes_begun : (before after whole missing : List ℕ) → Writes before after whole missing → Begins before after whole
@@ -47,8 +43,7 @@ writes_pending before pending old more is = record { done = []; grown = sym (app
 -- what was pending is written, and an answer is pending
 pub writes_flushed : (before after old more pending : List ℕ) → after ≡ before ++ old → pending ≡ more
     → Writes before after (old ++ more) pending
-writes_flushed before after old more pending grown is =
-    record { done = old; grown = grown; part = λ i. old ++ is i }
+writes_flushed before after old more pending grown is = record { done = old; grown = grown; part = search arith }
 
 -- one after another
 pub writes_on : (a b c first second pending more left : List ℕ) → Writes a b (first ++ second) pending

@@ -5,9 +5,4 @@ use Rattle.ob_script.proofs.ReadBack.{line_is_read}
 use Rattle.ob_script.proofs.law.law_of_lines.Goals as goal
 
 pub returns : goal.returns
-returns c = record {
-  read = line_is_read;
-  alike = answered_alike;
-  lineless = lineless_is_refused;
-  added = line_is_added;
-}
+returns c = record { read = line_is_read; alike = answered_alike; lineless = lineless_is_refused; added = line_is_added }

@@ -1,28 +1,24 @@
-use Rattle.ob_script.proofs.Cited.{rules, ◌+◌, arith, take_rest}
+use Rattle.ob_script.proofs.Cited.{rules, arith, refl}
 use Rattle.ob_script.proofs.Objects.{first_object, no_generation, no_slot}
 use Rattle.ob_script.proofs.numbers.leading_id.Goals as goal
 
 pub returns-then-count-eq0-clause-none : goal.returns-then-count-eq0-clause-none
 returns-then-count-eq0-clause-none c =
     let found = c.leading_digits-slot.ensures in
-    no_slot _ _ _ _ c.in-115.len_at_least (search rules) (take_rest c.args.text.now 1) found.digits found.value
-    found.within found.stop (search arith)
+    no_slot _ _ _ c.in-115.len_at_least (search rules) refl found.digits _ found.value found.within found.stop (search arith)
 
 pub returns-then-count-rest-clause-none : goal.returns-then-count-rest-clause-none
 returns-then-count-rest-clause-none c =
     let found = c.leading_digits-slot.ensures in
-    no_slot _ _ _ _ c.in-115.len_at_least (search rules) (take_rest c.args.text.now 1) found.digits found.value
-    found.within found.stop (search rules)
+    no_slot _ _ _ c.in-115.len_at_least (search rules) refl found.digits _ found.value found.within found.stop (search rules)
 
 pub returns-in_default-leading_number-clause-none : goal.returns-in_default-leading_number-clause-none
 returns-in_default-leading_number-clause-none c =
-    let found = c.leading_digits-slot in
-    no_generation _ _ _ _ c.in-115.len_at_least (search rules) (take_rest c.args.text.now 1) found.ensures.digits
-    (search rules) (search rules) (take_rest _ (found.result.1 + 1)) c.in_default-leading_number.ensures.none
+    no_generation _ _ _ c.in-115.len_at_least (search rules) refl c.leading_digits-slot.ensures.digits (search rules)
+    (search rules) c.in_default-leading_number.ensures.none
 
 pub returns-clause-some : goal.returns-clause-some
 returns-clause-some c =
-    let found = c.leading_digits-slot in
-    first_object _ _ _ _ _ _ _ c.in-115.len_at_least (search rules) (take_rest c.args.text.now 1)
-    found.ensures.digits found.ensures.value (search rules) (search rules) (search rules) (search rules)
-    (search rules) (take_rest _ (found.result.1 + 1)) c.in-Some.ensures.some
+    let found = c.leading_digits-slot.ensures in
+    first_object _ _ _ c.in-115.len_at_least (search rules) refl found.digits _ _ _ found.value (search rules)
+    (search rules) (search rules) (search rules) (search rules) c.in-Some.ensures.some
