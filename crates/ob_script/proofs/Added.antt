@@ -1,5 +1,5 @@
 -- The lines that `--more` adds are bad without it, and each other line is what it is without it.
-use Rattle.ob_script.proofs.Cited.{arith, ◌≡◌, ◌⊎◌, inl, inr, ℕ, List, [], ◌∷◌, Bool, true, false, Option, Some, None, refl, if◌then◌else◌, cases_eq, nat_tests, Kind, Timeout, Call, Command, Bad, kind_of, labelled, number_of, ◌>>=◌, asked, command_of, command_of_words, limit_of, mode_of, open_of, timeout_of, wait_of}
+use Rattle.ob_script.proofs.Cited.{arith, ◌≡◌, ◌⊎◌, inl, inr, ℕ, List, [], ◌∷◌, Bool, true, false, Option, refl, if◌then◌else◌, nat_tests, Kind, Timeout, Call, Command, Bad, kind_of, labelled, ◌>>=◌, asked, command_of, command_of_words, limit_of, mode_of, open_of, timeout_of, wait_of}
 
 abbrev IsAdded : Command → Command → Type 0
 IsAdded before after = (before ≡ Bad) ⊎ (after ≡ before)
@@ -32,13 +32,9 @@ kind_added word f = search (then_chosen, more)
 open_added : (words : List (List ℕ)) → IsAdded (asked (open_of false words)) (asked (open_of true words))
 open_added words = search (arith, more, then_added, kind_added)
 
--- an at-sign is no digit
-no_number : (rest : List ℕ) → number_of (64 ∷ rest) ≡ None
-no_number rest = grind (arith, nat_tests)
-
 limit_added : (word : List ℕ) (f : Timeout → Option Call)
     → IsAdded (asked (limit_of false word >>= f)) (asked (limit_of true word >>= f))
-limit_added word f = grind (arith, nat_tests, no_number)
+limit_added word f = grind (arith, nat_tests)
 
 timeout_added : (word : List ℕ) (f : Timeout → Option Call)
     → IsAdded (asked (timeout_of false word >>= f)) (asked (timeout_of true word >>= f))

@@ -1,7 +1,7 @@
 -- A call is answered as its line is.
 use Rattle.ob_script.proofs.Cited.{Zero, ◌≡◌, ◌↔◌, arith, Reply, Call, as_said}
 use Rattle.ob_manager.specs.declared.call.CallOf.TheVariants as calls
-use Rattle.ob_manager.specs.Steps.{Step, does, closes, lacks, is_duplicate, outcome_of, takes_memory}
+use Rattle.ob_manager.specs.Steps.{Step, is_duplicate, outcome_of, takes_memory}
 use Rattle.ob_store.specs.State.{State, Whole}
 
 -- calls that come to the same are answered alike

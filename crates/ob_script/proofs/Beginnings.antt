@@ -1,5 +1,5 @@
 -- A list of which the beginning is kept.
-use Rattle.ob_script.proofs.Cited.{common_steps, arith, ◌≡◌, ℕ, ◌≤◌, List, ◌++◌, [], ap, sym, ◌∙◌, length, take, append-nil, take_all, take_at}
+use Rattle.ob_script.proofs.Cited.{arith, ◌≡◌, ℕ, ◌≤◌, List, ◌++◌, [], length, take, append-nil, take_all, take_at}
 
 -- where so many stand as are kept, it is no matter what comes behind them
 pub full_part : (items rest others : List ℕ) → length items ≡ 65 → take 65 (items ++ rest) ≡ take 65 (items ++ others)

@@ -1,5 +1,5 @@
 -- Where a byte is first found, in the words of lists.
-use Rattle.ob_script.proofs.Cited.{common_steps, ◌≡◌, ◌≢◌, Option, ℕ, ◌+◌, ◌-◌, ◌<◌, List, [], ◌∷◌, length, take, drop, Some, None, arith, ap, MatchOption, position_or_len, before_first, after_first, take_rest, drop-drop, position_or_len_is, fails_before_first, IsFirstByte, is_byte, words_of, joined}
+use Rattle.ob_script.proofs.Cited.{common_steps, ◌≡◌, ◌≢◌, Option, ℕ, ◌+◌, ◌-◌, ◌<◌, List, [], ◌∷◌, length, take, drop, Some, None, arith, ap, MatchOption, position_or_len, before_first, after_first, take_rest, position_or_len_is, fails_before_first, IsFirstByte, is_byte, words_of, joined}
 use Rattle.std.specs.Borrow.{Bor}
 use Rattle.std.proofs.lemmas.List.Splits.{slice_split_first, slice_split_none, length-slice_split, join_with_byte-slice_split}
 use Rattle.ob_script.specs.WordsLeft.{words_left}

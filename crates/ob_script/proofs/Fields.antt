@@ -1,5 +1,5 @@
 -- What stands in the line of a call is read as it was written, field by field.
-use Rattle.ob_script.proofs.Cited.{nat_tests, list_all-append, ◌≡◌, ℕ, zero, suc, ◌+◌, ◌≤◌, arith, refl, List, [], ◌∷◌, ◌++◌, Bool, true, false, Option, Some, None, decimal, map, codes, nat_lt, if◌then◌else◌, IsNumeral, decimal_is_IsNumeral, Id, Kind, Rights, Timeout, Zero, Infinite, Millis, Until, Making, words_of, joined, number_of, id_of, kind_of, type_of, are_handles, handles_in, ◌>>=◌, text_of_words, name_of, make_of, target_of, access_of, mode_of, limit_of, timeout_of, FitsKind, FitsMake, FitsTarget, FitsTimeout, FitHandles, label, id_word, mask_word, either_word, word_if, mask_words, text_words, make_words, kind_word, mode_word, timeout_word, target_word}
+use Rattle.ob_script.proofs.Cited.{list_all-append, ◌≡◌, ℕ, zero, suc, ◌+◌, ◌≤◌, arith, refl, List, [], ◌∷◌, ◌++◌, Bool, true, false, Option, Some, None, decimal, map, codes, nat_lt, if◌then◌else◌, IsNumeral, decimal_is_IsNumeral, Id, Kind, Rights, Timeout, Zero, Millis, Making, words_of, joined, number_of, id_of, kind_of, type_of, are_handles, handles_in, ◌>>=◌, text_of_words, name_of, make_of, target_of, access_of, mode_of, limit_of, timeout_of, FitsKind, FitsMake, FitsTarget, FitsTimeout, FitHandles, label, id_word, mask_word, word_if, mask_words, text_words, make_words, kind_word, mode_word, timeout_word, target_word}
 use Rattle.std.specs.Str.{bytes_eq}
 use Rattle.ob_waits.specs.declared.wait.Mode.{Mode}
 use Rattle.ob_manager.specs.Copying.{closes, keeps_rights}

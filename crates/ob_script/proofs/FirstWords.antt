@@ -1,5 +1,5 @@
 -- The first word of a line is that of its text, unless the text is shorter.
-use Rattle.ob_script.proofs.Cited.{◌≡◌, ℕ, zero, suc, ◌+◌, ◌-◌, ◌<◌, ◌≤◌, List, [], ◌∷◌, length, take, drop, Bool, cond, min, arith, position_or_len, common_steps, take_rest, is_byte, text_of, words_of}
+use Rattle.ob_script.proofs.Cited.{◌≡◌, ℕ, zero, suc, ◌+◌, ◌-◌, ◌<◌, ◌≤◌, List, [], ◌∷◌, length, take, drop, Bool, min, arith, position_or_len, common_steps, is_byte, text_of, words_of}
 use Rattle.ob_script.proofs.Cuts.{words_first, words_last}
 
 -- the first place of a front is that of the whole, or its end

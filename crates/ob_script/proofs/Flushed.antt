@@ -1,5 +1,5 @@
 -- What is written once all that was pending is.
-use Rattle.ob_script.proofs.Cited.{arith, ◌≡◌, ℕ, List, [], ◌++◌, Result, Ok, Err, append-nil, OnOk, OnErr, Writes, Begins}
+use Rattle.ob_script.proofs.Cited.{◌≡◌, ℕ, List, [], ◌++◌, Result, Ok, Err, append-nil, OnOk, OnErr, Writes, Begins}
 use Rattle.ob_script.specs.declared.output.NotWritten.{NotWritten}
 use Rattle.ob_script.specs.Pending.{IsWritten}
 use Rattle.ob_script.proofs.Written.{writes_then}

@@ -1,5 +1,5 @@
 -- The digits with which a text begins, and the word that they are.
-use Rattle.ob_script.proofs.Cited.{◌≡◌, ◌≢◌, ℕ, ◌+◌, ◌-◌, ◌*◌, ◌<◌, ◌≤◌, not, List, ◌++◌, [], ◌∷◌, Option, Some, None, true, false, length, take, drop, get_or, arith, refl, ap, sym, ◌∙◌, inl, inr, IfSome, list_all, position_or_len, is_ascii_digit, cases_lt, true≢false, nat_tests, common_steps, take_all, take_more, take_rest, list_all_at, passes_at_first, position_or_len_is, prefix_len-le-length, is_byte, labelled, number_of, value_after, value_of, words_of}
+use Rattle.ob_script.proofs.Cited.{◌≡◌, ◌≢◌, ℕ, ◌+◌, ◌-◌, ◌*◌, ◌<◌, ◌≤◌, List, ◌++◌, [], ◌∷◌, Option, Some, None, true, false, length, take, drop, get_or, arith, refl, IfSome, list_all, position_or_len, is_ascii_digit, nat_tests, common_steps, take_all, take_more, take_rest, list_all_at, passes_at_first, position_or_len_is, prefix_len-le-length, is_byte, labelled, number_of, value_after, value_of, words_of}
 use Rattle.std.specs.Borrow.{Bor}
 use Rattle.ob_script.specs.WordsLeft.{words_left}
 use Rattle.ob_script.proofs.Cuts.{words_first, words_last}

@@ -1,14 +1,12 @@
 -- A call without a line is refused, and changes nothing.
-use Rattle.ob_script.proofs.Cited.{◌≡◌, ℕ, ◌≤◌, arith, refl, ap, sym, ◌∙◌, List, [], ◌∷◌, length, Bool, true, false, not, ◌&&◌, Option, Some, None, Result, Ok, Err, nat_lt, is_ok, true≢false, inl, inr, list_all, cases_lt, false_from_ne_true, length-map, Kind, Rights, Call, Reply, Making, Fits, FitsMake, name_words, make_words, words_for, can_be_said, line_of}
+use Rattle.ob_script.proofs.Cited.{◌≡◌, ℕ, arith, refl, sym, List, [], ◌∷◌, length, Bool, true, false, not, ◌&&◌, Option, Some, None, Result, Ok, Err, nat_lt, is_ok, true≢false, inl, inr, list_all, cases_lt, false_from_ne_true, length-map, Call, Reply, Fits, name_words, line_of}
 use Rattle.ob_rights.specs.declared.fault.Fault.{Fault}
 use Rattle.ob_name.specs.Texts.{is_printable}
 use Rattle.ob_store.specs.State.{State, Whole}
 use Rattle.ob_manager.specs.declared.call.CallOf.TheVariants as calls
-use Rattle.ob_manager.specs.declared.creating.New.{New}
 use Rattle.ob_manager.specs.declared.reply.Reply.TheVariants.{Refused}
 use Rattle.ob_manager.specs.Outcomes.{Outcome, ◌>>=◌}
-use Rattle.ob_manager.specs.Copying.{duplicate}
-use Rattle.ob_manager.specs.Creating.{create, name_in, new_event, new_host, new_mutex, new_semaphore, new_timer, open_named, own_name}
+use Rattle.ob_manager.specs.Creating.{name_in, own_name}
 use Rattle.ob_manager.specs.Steps.{Step, does, closes as closes_source, lacks, KeeperAfter, final, outcome_of}
 use Rattle.ob_script.proofs.Short.{AreShort, no_feed, have_line, number_short, handles_short, make_short, least, wide, words_short, make_few}
 
@@ -51,24 +49,13 @@ named (calls.MakeHost thread make object_type manual signaled) = make.name
 named (calls.OpenNamed thread kind mask inherit text) = Some text
 named call = None
 
--- a call whose other words are few and short has no line for its name alone
-misnamed : (call : Call) → can_be_said call ≡ true → length (words_for call) ≤ 15
-    → (AreShort 260 (name_words (named call)) → AreShort 260 (words_for call)) → line_of call ≡ None
-    → is_nameable (named call) ≡ false
-misnamed call can few short none = false_from_ne_true _ (λ is.
-    have_line 260 call can (short (name_short (named call) is)) (omega (arith, few)) none)
-
-dup_fails : (s : State) (thread source handle : ℕ) (target : Option ℕ) (mask : Rights) (inherit : Bool) (options : ℕ)
-    → nat_lt options 4 ≡ false → is_ok (duplicate s thread source handle target mask inherit options) ≡ false
-dup_fails s thread source handle target mask inherit options more = search arith
-
 -- whichever call it is
 fails : (s : State) (call : Call) (reply : Reply) → Fits call → line_of call ≡ None
     → is_ok (outcome_of s call reply) ≡ false
 fails s (calls.Duplicate thread source handle target mask inherit options) reply fits none =
-    dup_fails s thread source handle target mask inherit options (false_from_ne_true (nat_lt options 4) (λ few.
+    let more : nat_lt options 4 ≡ false = false_from_ne_true _ (λ few.
     have_line 22 (calls.Duplicate thread source handle target mask inherit options) few
-    (search (arith, words_short) depth 12) (search arith) none))
+    (search (arith, words_short) depth 12) (search arith) none) in search arith
 fails s (calls.Tick now) reply fits none = search (arith, number_short)
 fails s (calls.WaitFor thread mode timeout handles) reply fits none = elim (cases_lt 64 (length handles)) [
   | inl many ↦ search arith
@@ -77,7 +64,8 @@ fails s (calls.WaitFor thread mode timeout handles) reply fits none = elim (case
       (search (arith, words_short, handles_short 22 least handles fits.2) depth 12) (search (arith, length-map)) none)
 ]
 fails s call reply fits none =
-    let bad = misnamed call refl (search (arith, make_few)) (λ name. search (arith, words_short, make_short 260 wide) depth 12) none in
+    let bad = false_from_ne_true (is_nameable (named call)) (λ is. let name = name_short (named call) is in
+    have_line 260 call refl (search (arith, words_short, make_short 260 wide) depth 12) (search (arith, make_few)) none) in
     first_of (cc, search (arith, rest_fails, first_fails, own_fails, nameless) depth 7)
 
 -- what refuses leaves all as it was
@@ -93,7 +81,5 @@ pub lineless_is_refused : (w v : Whole) (call : Call) (reply : Reply) → Fits c
     → Step w call reply v → (v ≡ w) × (fault : Fault) × (reply ≡ Refused fault)
 lineless_is_refused w v call reply fits none (does is keeps) =
     refused_of w v reply (outcome_of w.state call reply) (fails w.state call reply fits none) is keeps
-lineless_is_refused w v call reply fits none (closes_source is gives only) =
-    absurd (true≢false (rw gives at (fails w.state call reply fits none)))
-lineless_is_refused w v call reply fits none (lacks takes ok is same) =
-    absurd (true≢false (sym ok ∙ fails w.state call reply fits none))
+lineless_is_refused w v call reply fits none (closes_source is gives only) = absurd (cc (fails w.state call reply fits none))
+lineless_is_refused w v call reply fits none (lacks takes ok is same) = absurd (cc (fails w.state call reply fits none))

@@ -1,5 +1,5 @@
 -- What marks on the first bytes of a text say of it.
-use Rattle.ob_script.proofs.Cited.{length-take-le, nat_tests, ◌≡◌, ℕ, ◌<◌, ◌≤◌, ◌%◌, ◌^◌, List, true, false, length, take, get_or, map, replicate, cond, eqb, arith, ap, ◌∙◌, w8, w64, bit_or, position_or_len, get_or-map, get_or_past, get_or-take, length-map, position_or_len_is, is_byte}
+use Rattle.ob_script.proofs.Cited.{length-take-le, nat_tests, ◌≡◌, ℕ, ◌<◌, ◌≤◌, ◌%◌, ◌^◌, List, true, false, length, take, get_or, map, replicate, cond, eqb, arith, w8, w64, bit_or, position_or_len, get_or-map, get_or_past, get_or-take, length-map, position_or_len_is, is_byte}
 use Rattle.std.specs.Int.{bit_at, trailing_zeros}
 use Rattle.std.specs.Simd.Lanes.{mask_l, top, zip2, chunk}
 use Rattle.std.proofs.lemmas.Nat.{or_lt}

@@ -1,5 +1,5 @@
 -- A number is read as it was written.
-use Rattle.ob_script.proofs.Cited.{nat_le, ◌≡◌, ℕ, zero, suc, ◌+◌, ◌-◌, ◌*◌, ◌/◌, ◌%◌, ◌^◌, ◌<◌, ◌≤◌, arith, refl, List, [], ◌∷◌, length, Bool, true, false, pow-suc, Some, ℤ, pos, negsuc, decimal, digits_onto, digit_glyph, signed_decimal, digit_value, is_ascii_digit, is_ascii_hexdigit, list_all, AllDigits, IsNumeral, digits_value_after, and_from, cond_both, nat_tests, digits_is_IsNumeral, decimal_is_IsNumeral, length-decimal-le, Rights, FitsSign, number_of, value_of, value_after, signed_of, up_to, long_of, moment_of, due_of, mask_of, ◌>>=◌, mask_word}
+use Rattle.ob_script.proofs.Cited.{nat_le, ◌≡◌, ℕ, zero, suc, ◌+◌, ◌-◌, ◌*◌, ◌/◌, ◌^◌, ◌<◌, ◌≤◌, arith, refl, List, [], ◌∷◌, length, Bool, true, false, pow-suc, Some, ℤ, decimal, digits_onto, digit_glyph, signed_decimal, digit_value, is_ascii_digit, is_ascii_hexdigit, list_all, AllDigits, IsNumeral, digits_value_after, and_from, cond_both, nat_tests, digits_is_IsNumeral, decimal_is_IsNumeral, length-decimal-le, Rights, FitsSign, number_of, value_after, signed_of, up_to, long_of, moment_of, due_of, mask_of, ◌>>=◌, mask_word}
 use Rattle.std.specs.Fmt.{digits}
 
 -- a decimal digit is its value behind the digit 0, and no other byte that has a meaning

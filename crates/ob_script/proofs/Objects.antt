@@ -1,5 +1,5 @@
 -- The object with which a text begins.
-use Rattle.ob_script.proofs.Cited.{take_rest, ◌-◌, ◌≡◌, ◌≢◌, ℕ, suc, ◌+◌, ◌<◌, ◌≤◌, List, ◌++◌, [], ◌∷◌, Option, Some, None, true, false, length, take, drop, get_or, arith, refl, ap, ◌∙◌, inl, inr, not, list_all, position_or_len, is_ascii_digit, cases_lt, nat_tests, common_steps, drop_all, prefix_len-le-length, is_byte, Id, id_of, labelled, number_of, value_of, words_of, ◌>>=◌}
+use Rattle.ob_script.proofs.Cited.{take_rest, ◌-◌, ◌≡◌, ◌≢◌, ℕ, suc, ◌+◌, ◌<◌, ◌≤◌, List, ◌++◌, [], ◌∷◌, Option, Some, None, true, false, length, take, drop, get_or, arith, refl, not, list_all, position_or_len, is_ascii_digit, nat_tests, common_steps, prefix_len-le-length, is_byte, Id, id_of, number_of, value_of, words_of, ◌>>=◌}
 use Rattle.std.proofs.Math.Seq.{take-append_seam, drop-append-add}
 use Rattle.ob_script.proofs.Cuts.{words_some}
 use Rattle.ob_script.proofs.Leading.{digits_before, first_stop, first_word_is, no_digits_before}

@@ -1,5 +1,5 @@
 -- The grammar reads the line of a call as that call, with the lines that `--more` adds.
-use Rattle.ob_script.proofs.Cited.{◌≡◌, ℕ, ◌≤◌, arith, ap, ◌∙◌, List, [], ◌∷◌, ◌++◌, length, Bool, true, false, Some, None, IfSome, codes, nat_lt, signed_decimal, nat_tests, common_steps, Call, Asks, command_of, command_of_text, command_of_words, text_of, Fits, label, mask_word, either_word, kind_word, words_for, text_for, ended, can_be_said, is_line, line_of, as_said, said}
+use Rattle.ob_script.proofs.Cited.{◌≡◌, ℕ, arith, ◌∙◌, List, [], ◌∷◌, ◌++◌, length, Bool, true, false, Some, None, IfSome, codes, nat_lt, signed_decimal, nat_tests, common_steps, Call, Asks, command_of, command_of_text, command_of_words, text_of, Fits, label, mask_word, either_word, kind_word, words_for, text_for, ended, can_be_said, is_line, line_of, as_said, said}
 use Rattle.ob_manager.specs.declared.call.CallOf.TheVariants as calls
 use Rattle.ob_script.proofs.Numerals.{reads_due, reads_mask, reads_moment, reads_number, reads_signed}
 use Rattle.ob_script.proofs.Spaces.{said_joined, AreWords, read_words, reads_front, reads_all}
@@ -60,8 +60,7 @@ drops_return text = grind (arith, nat_tests, common_steps)
 
 reads_line : (call : Call) → Fits call → can_be_said call ≡ true → nat_lt 4096 (length (text_for call)) ≡ false
     → command_of true (ended (text_for call)) ≡ Asks (as_said call)
-reads_line call fits can short =
-    ap (command_of_text true) (drops_return (text_for call)) ∙ starts call short ∙ reads call fits can
+reads_line call fits can short = rw (drops_return, starts call short) (reads call fits can)
 
 pub line_is_read : (call : Call) → Fits call
     → IfSome (line_of call) (λ line. command_of true line ≡ Asks (as_said call))

@@ -1,6 +1,5 @@
 -- A call whose name and handles are few enough has a line.
-use Rattle.ob_script.proofs.Cited.{Some, ◌≡◌, ℕ, ◌+◌, ◌*◌, ◌<◌, ◌≤◌, arith, refl, List, [], ◌∷◌, ◌++◌, length, Bool, true, false, not, ◌&&◌, ◌==◌, Option, None, decimal, map, codes, if◌then◌else◌, ℤ, length-append, digits, signed_decimal, list_all, nat_le, nat_tests, length-decimal-le, list_all-append, Id, Kind, Rights, Timeout, Zero, Infinite, Millis, Until, Making, Call, joined, FitsKind, FitsMake, FitsMask, FitsSign, FitsTarget, FitsTimeout, FitHandles, label, id_word, mask_word, either_word, word_if, mask_words, name_words, make_words, kind_word, mode_word, timeout_word, target_word, words_for, can_be_said, line_of}
-use Rattle.ob_rights.specs.declared.kind.Kind.TheVariants.{Host}
+use Rattle.ob_script.proofs.Cited.{◌≡◌, ℕ, ◌+◌, ◌*◌, ◌<◌, ◌≤◌, arith, refl, List, [], ◌∷◌, ◌++◌, length, Bool, true, false, not, ◌&&◌, ◌==◌, Option, None, decimal, map, codes, if◌then◌else◌, ℤ, length-append, digits, signed_decimal, list_all, nat_le, nat_tests, length-decimal-le, list_all-append, Id, Kind, Rights, Timeout, Making, Call, joined, FitsKind, FitsMake, FitsMask, FitsSign, FitsTarget, FitsTimeout, FitHandles, label, id_word, mask_word, either_word, word_if, mask_words, name_words, make_words, kind_word, mode_word, timeout_word, target_word, words_for, can_be_said, line_of}
 use Rattle.ob_waits.specs.declared.wait.Mode.{Mode}
 use Rattle.ob_script.proofs.Numerals.{digits_pass, hex_few}
 

@@ -1,5 +1,5 @@
 -- Words that are joined by spaces are read as they were.
-use Rattle.ob_script.proofs.Cited.{◌≡◌, ℕ, ℤ, arith, refl, List, [], ◌∷◌, ◌++◌, Bool, true, false, not, ◌==◌, All, decimal, append-nil, not-true, digits, signed_decimal, list_all, AllPass-from_list_all, is_byte, words_of, joined, said}
+use Rattle.ob_script.proofs.Cited.{◌≡◌, ℕ, ℤ, arith, refl, List, [], ◌∷◌, ◌++◌, Bool, true, false, not, ◌==◌, decimal, append-nil, not-true, digits, signed_decimal, list_all, AllPass-from_list_all, words_of, joined, said}
 use Rattle.std.proofs.lemmas.List.Splits.{slice_split_at, slice_split_none}
 use Rattle.ob_script.proofs.Numerals.{digits_pass}
 

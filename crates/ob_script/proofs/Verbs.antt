@@ -1,5 +1,5 @@
 -- A verb without words behind it is bad, whichever it is.
-use Rattle.ob_script.proofs.Cited.{arith, ◌≡◌, ℕ, List, [], ◌∷◌, Bool, true, false, refl, if◌then◌else◌, Command, Bad, command_of_words}
+use Rattle.ob_script.proofs.Cited.{arith, ◌≡◌, ℕ, List, [], ◌∷◌, Bool, if◌then◌else◌, Command, Bad, command_of_words}
 
 skips : (b : Bool) (rest : Command) → rest ≡ Bad → (if b then Bad else rest) ≡ Bad
 skips b rest bad = search arith

@@ -1,28 +1,17 @@
 -- No line of a call and its answer has a line feed.
-use Rattle.ob_script.proofs.Cited.{◌-◌, false, Some, None, ◌≡◌, ℕ, zero, suc, arith, refl, List, [], ◌∷◌, ◌++◌, take, Bool, true, Option, IfSome, decimal, list_all, list_all-append, Id, Call, Reply, ended, line_of}
-use Rattle.pin_words.specs.declared.pin_keeper.Reclaim.{Reclaim}
-use Rattle.ob_manager.specs.declared.reply.Reply.TheVariants.{Reaped}
-use Rattle.ob_script.specs.Printed.{printed_id, printed_reclaim, printed_reply}
+use Rattle.ob_script.proofs.Cited.{false, Some, None, ◌≡◌, ℕ, zero, suc, arith, refl, List, take, Bool, true, Option, IfSome, decimal, list_all, list_all-append, Call, Reply, ended, line_of}
+use Rattle.ob_script.specs.Printed.{printed_reply}
 use Rattle.ob_script.proofs.Short.{digits_within, no_feed}
 use Rattle.ob_script.specs.Telling.{asking, comment}
 
 abbrev pub HasNone : List ℕ → Type 0
 HasNone text = list_all no_feed text ≡ true
 
-join : (front back : List ℕ) → HasNone front → HasNone back → HasNone (front ++ back)
-join front back front_has back_has = search (arith, list_all-append)
-
 number : (n : ℕ) → HasNone (decimal n)
 number n = digits_within 10 n (omega arith)
 
-id_has : (id : Id) → HasNone (printed_id id)
-id_has id = search (arith, join, number)
-
-reclaim_has : (outcome : Reclaim) → HasNone (printed_reclaim outcome)
-reclaim_has outcome = search (arith, join, number)
-
 pub reply_has : (reply : Reply) → HasNone (printed_reply reply)
-reply_has reply = search (arith, join, number, id_has, reclaim_has) depth 9
+reply_has reply = search (arith, list_all-append, number) depth 9
 
 -- lines and comments
 begins : (n : ℕ) (text : List ℕ) → HasNone text → HasNone (take n text)
@@ -33,7 +22,7 @@ pub comment_has : (text : List ℕ) → HasNone text → HasNone (comment text)
 comment_has text has = begins 4094 text has
 
 ended_has : (text : List ℕ) → HasNone text → HasNone (ended text)
-ended_has text has = search (arith, join)
+ended_has text has = search (arith, list_all-append)
 
 line_has : (call : Call) → IfSome (line_of call) HasNone
 line_has call = search (arith, ended_has)

@@ -1,6 +1,6 @@
+use Rattle.std.proofs.Common.{arith}
 use Rattle.ob_script.proofs.Cuts.{behind_first}
 use Rattle.ob_script.proofs.words.cut_far.Goals as goal
 
 pub returns-clause-behind : goal.returns-clause-behind
-returns-clause-behind c = behind_first c.args.byte c.args.text.now c.split_at.result.1.now c.in_ok-at.at
-    c.in_ok-at.ensures c.split_at.ensures.back
+returns-clause-behind c = search (arith, behind_first)
