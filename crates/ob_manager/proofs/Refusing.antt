@@ -1,11 +1,10 @@
 -- A refusal that isn't for want of memory is the model's.
-use Rattle.std.proofs.Common.{◌≡◌, ◌≢◌, Bool, false, ℕ, List, Result, Ok, Err, arith, cond, not, ltb, length}
+use Rattle.std.proofs.Common.{◌≡◌, ◌≢◌, Bool, false, ℕ, List, Result, Ok, Err, arith}
 use Rattle.std.specs.Prelude.{IfErr}
-use Rattle.std.specs.List.{list_all}
 use Rattle.ob_name.specs.declared.name.NameRef.{NameRef}
 use Rattle.ob_name.specs.Names.{ObjectName}
 use Rattle.ob_name.specs.Refs.{parsed_name}
-use Rattle.ob_name.specs.Texts.{checked_base, is_printable, name_of, split_name}
+use Rattle.ob_name.specs.Texts.{checked_base, name_of}
 use Rattle.ob_rights.specs.declared.fault.Fault.{Fault}
 use Rattle.ob_rights.specs.declared.fault.Fault.TheVariants as fault
 use Rattle.ob_manager.specs.Outcomes.{Refuses}
@@ -20,12 +19,11 @@ wants (Ok x) = false
 wants (Err e) = is_memory e
 
 -- a name never does
+base_wants : (name : ObjectName) → wants (checked_base name) ≡ false
+base_wants name = grind arith
+
 pub text_wants : (text : List ℕ) (session : ℕ) → wants (name_of text session) ≡ false
-text_wants text session = by (ltb 260 (length text)) (list_all is_printable text) (split_name text session)
-  where
-    by : (a b : Bool) (name : ObjectName) → wants (cond a (Err fault.NameLong)
-        (cond (not b) (Err fault.Parameter) (checked_base name))) ≡ false
-    by a b name = grind arith
+text_wants text session = search (arith, base_wants)
 
 pub name_known : (r : Result NameRef Fault) (text : List ℕ) (session : ℕ) → parsed_name r ≡ name_of text session
     → IfErr r (λ e. e ≢ fault.Memory)

@@ -23,11 +23,10 @@ use Rattle.ob_manager.specs.Savestates.{behind_mark, data_behind, data_mark, is_
 pub loads_again : (w : Whole) → store_at (store_text w ++ []) ≡ Ok (begun_again w, [])
     → load (saved w) ≡ Ok (begun_again w)
 loads_again w again =
-    let store = ap store_at (sym (append-nil (store_text w))) ∙ again in
     rw (
       unsealed_again (to_le_bytes w64 mark ++ store_text w),
       u64_codec.again mark (store_text w) (omega arith),
-      store,
+      ap store_at (sym (append-nil (store_text w))) ∙ again,
     ) refl
 
 -- the same with what a host keeps
@@ -35,13 +34,12 @@ pub kept_again : (d : HostData) (w : Whole) → DataFits d → is_empty d ≡ fa
     → store_at (store_text w ++ []) ≡ Ok (begun_again w, [])
     → load_with (sealed (to_le_bytes w64 data_mark ++ (data_text d ++ store_text w))) ≡ Ok (begun_again w, d)
 kept_again d w fits some again =
-    let store = ap store_at (sym (append-nil (store_text w))) ∙ again in
     rw (
       unsealed_again (to_le_bytes w64 data_mark ++ (data_text d ++ store_text w)),
       u64_codec.again data_mark (data_text d ++ store_text w) (omega arith),
       data_codec.again d (store_text w) fits,
       some,
-      store,
+      ap store_at (sym (append-nil (store_text w))) ∙ again,
     ) refl
 
 -- a savestate in which it keeps nothing is read alike, whatever reads its number and its store
@@ -68,29 +66,9 @@ abbrev IsBack : ℕ → List ℕ → HostData × List ℕ → Type 0
 IsBack n bytes y = AreBytes y.1
     × ((w : Whole) → y.1 ≡ store_text w → saved_with y.0 w ≡ sealed (to_le_bytes w64 n ++ bytes))
 
-data_told : (d : HostData) (w : Whole) (bytes rest : List ℕ) → is_empty d ≡ false → bytes ≡ data_text d ++ rest
-    → rest ≡ store_text w → saved_with d w ≡ sealed (to_le_bytes w64 data_mark ++ bytes)
-data_told d w bytes rest some is last = rw (some, is, last) refl
-
 behind_takes : (n : ℕ) (bytes : List ℕ) (y : HostData × List ℕ) → AreBytes bytes → data_behind n bytes ≡ Ok y
     → IsBack n bytes y
-behind_takes n bytes y are e = by (eqb n data_mark) (eqb n mark) refl refl e
-  where
-    by : (a b : Bool) → eqb n data_mark ≡ a → eqb n mark ≡ b
-        → cond a (data_at bytes >>= λ (x : HostData × List ℕ). kept_some x.0 x.1)
-        (cond b (Ok (no_data, bytes)) (Err Value)) ≡ Ok y → IsBack n bytes y
-    by true b is other e =
-        let x = bind_ok (data_at bytes) (λ (x : HostData × List ℕ). kept_some x.0 x.1) y e in
-        let k = guard_ok (is_empty x.0.0) Value x.0 y x.2 in
-        let t = (data_codec.takes bytes x.0.0 x.0.1 are x.1).0 in
-        subst (IsBack n bytes) k.1 (
-          t.rest_fits,
-          λ w last.
-              rw (eqb-true n data_mark is) (data_told x.0.0 w bytes x.0.1 k.0 t.parts last),
-        )
-    by false true is other e =
-        subst (IsBack n bytes) (ok_is (no_data, bytes) y e) (are, λ w last. rw (eqb-true n mark other, last) refl)
-    by false false is other e = absurd cc
+behind_takes n bytes y are e = grind (arith, nat_tests, data_codec.takes bytes y.0 y.1 are)
 
 pub with_takes : (bytes : List ℕ) (w : Whole) (d : HostData) → AreBytes bytes → load_with bytes ≡ Ok (w, d)
     → bytes ≡ saved_with d w

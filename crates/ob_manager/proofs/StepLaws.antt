@@ -20,16 +20,15 @@ use Rattle.ob_manager.specs.declared.reply.Reply.{Reply}
 use Rattle.ob_manager.specs.declared.waiting.Timeout.{Timeout}
 use Rattle.ob_manager.specs.Outcomes.{Outcome, ◌>>=◌, or_refuse, refuse_if}
 use Rattle.ob_manager.specs.Checks.{caller}
-use Rattle.ob_manager.specs.Creating.{created, name_in, new_handle, new_object, new_semaphore, own_name}
+use Rattle.ob_manager.specs.Creating.{create, created, name_in, new_handle, new_object, new_semaphore, own_name}
 use Rattle.ob_manager.specs.Waiting.{after_signal, all_found, give_and_wait}
-use Rattle.ob_manager.specs.Steps.{Step, does, closes, lacks, final, is_lack, is_memory, next, outcome_of}
+use Rattle.ob_manager.specs.Steps.{Step, final, is_lack, is_memory, next, outcome_of}
 use Rattle.ob_manager.proofs.Refusing.{text_wants, wants}
 
 -- parts of calls, none of which refuses for want of memory
 then_wants : {A B : Type 0} (r : Result A Fault) (f : A → Result B Fault) → wants r ≡ false
     → ((x : A) → wants (f x) ≡ false) → wants (r >>= f) ≡ false
-then_wants (Ok x) f h k = k x
-then_wants (Err e) f h k = h
+then_wants r f h k = search arith
 
 refuse_wants : (b : Bool) (e : Fault) → is_memory e ≡ false → wants (refuse_if b e) ≡ false
 refuse_wants b e h = grind arith
@@ -74,8 +73,7 @@ module _ (s : State) where
 
   fair_then : {A : Type 0} (r : Result A Fault) (f : A → Result Outcome Fault) → wants r ≡ false
       → ((x : A) → IsFair (f x)) → IsFair (r >>= f)
-  fair_then (Ok x) f h k = k x
-  fair_then (Err e) f h k = λ i. (h i, s.limits)
+  fair_then r f h k = search arith
 
   handle_fair : (p : ℕ) (id : Id) (k : Kind) (asked : Rights) (inherit : Bool) (reply : Reply) → is_lack reply ≡ false
       → IsFair (new_handle s p id k asked inherit >>= λ after. Ok (record { reply = reply; state = after }))
@@ -91,34 +89,22 @@ module _ (s : State) where
       → IsFair (give_and_wait s t timeout waited signaled after)
   given_fair t timeout waited signaled after = grind arith
 
-  ruleset of_making = (fair_then, caller_wants, refuse_wants, own_wants, semaphore_wants, created_fair)
+  create_fair : (t : ℕ) (m : Making) (what : Result New Fault) → wants what ≡ false → IsFair (create s t m what)
+  create_fair t m what h = search (fair_then, caller_wants, refuse_wants, own_wants, created_fair)
 
   outcome_fair : (call : Call) (reply : Reply) → IsFair (outcome_of s call reply)
-  outcome_fair (calls.MakeEvent t m manual set) reply = search of_making
-  outcome_fair (calls.MakeMutex t m owned) reply = search of_making
-  outcome_fair (calls.MakeSemaphore t m initial max) reply = search of_making
-  outcome_fair (calls.MakeTimer t m manual) reply = search of_making
-  outcome_fair (calls.MakeHost t m object_type manual signaled) reply = search of_making
   outcome_fair (calls.OpenNamed t k mask inherit text) reply =
       search (fair_then, caller_wants, name_wants, or_wants, handle_fair)
   outcome_fair (calls.SignalAndWait t signal timeout h) reply =
       search (fair_then, caller_wants, or_wants, refuse_wants, signal_wants, given_fair) depth 8
-  outcome_fair call reply = grind (arith, all_wants s, threads_limits)
+  outcome_fair call reply = grind (arith, all_wants s, threads_limits, create_fair, semaphore_wants)
 
 -- what a step says that isn't for want of memory
 pub said : (w v : Whole) (call : Call) (reply : Reply)
     → final w.state (outcome_of w.state call reply) ≡ record { reply = reply; state = v.state }
     → (is_lack reply ≡ false) × (v.state.limits ≡ w.state.limits)
-said w v call reply is =
-    let fair = sym (ap told is) ∙ outcome_fair w.state call reply in (λ i. (fair i).0, λ i. (fair i).1)
+said w v call reply is = grind (arith, outcome_fair w.state call reply)
 
 -- the state that a call comes to
-said_next : (w v : Whole) (call : Call) (reply : Reply)
-    → final w.state (outcome_of w.state call reply) ≡ record { reply = reply; state = v.state }
-    → v.state ≡ next w.state call reply
-said_next w v call reply is = rw ((said w v call reply is).0, is) refl
-
 pub step_next : (w v : Whole) (call : Call) (reply : Reply) → Step w call reply v → v.state ≡ next w.state call reply
-step_next w v call reply (does is keeps) = said_next w v call reply is
-step_next w v call reply (closes duplicates is keeps) = said_next w v call reply (ap (final w.state) is)
-step_next w v call reply (lacks takes ok refused same) = rw (refused, same) refl
+step_next w v call reply step = grind (arith, said w v call reply)

@@ -48,14 +48,10 @@ module _ (s : State) (p : ℕ) where
   from_start hs = grind (arith, from_rest)
 
   -- as many entries as handles, each with an object
-  many_found : (hs : List ℕ) (es : List Entry) → all_found s p hs ≡ Ok es → length es ≡ length hs
-  many_found [] es is = grind arith
-  many_found (h ∷ hs) es is = grind (arith, many_found hs)
-
-  pub all_there : (hs : List ℕ) (es : List Entry) → all_found s p hs ≡ Ok es → (i : ℕ) → i < length es
-      → 0 < handles_of s (get_or (map id_of es) i nowhere)
-  all_there [] es is i lt = grind arith
-  all_there (h ∷ hs) es is i lt = grind (arith, found_counts s.tables p h, all_there hs)
+  pub all_there : (hs : List ℕ) (es : List Entry) → all_found s p hs ≡ Ok es → (length es ≡ length hs)
+      × ((i : ℕ) → i < length es → 0 < handles_of s (get_or (map id_of es) i nowhere))
+  all_there [] es is = grind arith
+  all_there (h ∷ hs) es is = grind (arith, found_counts s.tables p h, all_there hs)
 
   -- the objects of a list that is to be waited for
   pub record AreAsked (ids : List Id) : Type 0 where
@@ -64,33 +60,18 @@ module _ (s : State) (p : ℕ) where
     pub is_there : (i : ℕ) → i < length ids → 0 < handles_of s (get_or ids i nowhere)
 
   pub asked : (mode : Mode) (hs : List ℕ) (ids : List Id) → Ok ids ≡ listed s p mode hs → AreAsked ids
-  asked mode hs ids is = by (is_misshapen (may_repeat s.limits mode) hs) (all_found s p hs) refl refl is
-    where
-      by : (b : Bool) (r : Result (List Entry) Fault) → is_misshapen (may_repeat s.limits mode) hs ≡ b
-          → all_found s p hs ≡ r → Ok ids ≡ (refuse_if b fault.Parameter >>= λ _. r >>= λ es.
-          refuse_if (list_any lacks_synchronize es) fault.Access >>= λ _. Ok (map id_of es)) → AreAsked ids
-      by true r shape all is = absurd (cc)
-      by false (Err e) shape all is = absurd (cc)
-      by false (Ok es) shape all is =
-          let same : map id_of es ≡ ids = grind arith in
-          let many : length (map id_of es) ≡ length hs = length-map es id_of ∙ many_found hs es all in
-          rw (← same) (record {
-            not_empty = grind (arith, nat_tests, many, shape);
-            at_most = grind (arith, nat_tests, many, shape);
-            is_there = λ i lt. all_there hs es all i (omega (arith, length-map es id_of));
-          })
+  asked mode hs ids is = grind (arith, nat_tests, all_there hs, length-map)
 
   -- a wait of a caller is a wait for what is listed
   pub waits_listed : (t : ℕ) (mode : Mode) (timeout : Timeout) (hs : List ℕ) → caller s t ≡ Ok p
       → wait s t mode timeout hs ≡ (listed s p mode hs >>= wait_on s t mode timeout)
-  waits_listed t mode timeout hs own = rw own (grind arith)
+  waits_listed t mode timeout hs own = grind arith
 
 -- objects of which none stands twice, in slots of their own
 apart : (ids : List Id) → has_twice same_id ids ≡ false → (i j : ℕ) → i < j → j < length ids
     → same_id (get_or ids i nowhere) (get_or ids j nowhere) ≡ false
-apart (x ∷ xs) none zero (suc j) lt in' = grind (arith, list_any_at (same_id x) xs j nowhere)
-apart (x ∷ xs) none (suc i) (suc j) lt in' = grind (arith, apart xs)
-apart ids none i j lt in' = absurd (omega (arith, lt, in'))
+apart [] none i j lt in' = absurd (omega arith)
+apart (x ∷ xs) none i j lt in' = grind (arith, list_any_at (same_id x) xs, apart xs)
 
 pub waitable : (s : State) (mode : Mode) (ids : List Id) → IsNamed s.objects s.tables s.waits
     → ((i : ℕ) → i < length ids → 0 < handles_of s (get_or ids i nowhere)) → (mode ≡ All → 0 < length ids)
@@ -99,10 +80,7 @@ waitable s mode ids named there some few none = record {
   not_empty = some;
   at_most = few;
   once = λ all. record {
-    apart = λ i j lt in' same.
-        (let first = named.entries _ (there i (omega arith)) in
-        let one = one_there s.objects _ _ first (named.entries _ (there j in')) same in
-        cc (rw one at (apart ids (rw all at none) i j lt in'), same_id-same (get_or ids j nowhere)));
+    apart = λ i j lt in'. grind (arith, nat_tests, apart ids (rw all at none) i j lt, named.entries, there i, there j);
   };
 }
 

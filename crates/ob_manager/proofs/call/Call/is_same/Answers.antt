@@ -1,5 +1,4 @@
-use Rattle.std.proofs.Common.{arith, ◌≡◌, ◌⊎◌, inl, inr, ◌∙◌, ◌==◌, ◌&&◌, Option, List, ℕ, false, true, Bool, refl, sym}
-use Rattle.std.specs.Option.{option_eq}
+use Rattle.std.proofs.Common.{arith, ◌≡◌, ◌⊎◌, inl, inr, ◌∙◌, ◌==◌, ◌&&◌, List, ℕ, false, true, Bool, refl, sym}
 use Rattle.std.specs.Cmp.Lexicographic.{pointwise, pointwise_decides}
 use Rattle.std.specs.Cmp.{unsigned_Decides}
 use Rattle.std.proofs.lemmas.Bool.{and_parts, cases_Bool}
@@ -32,13 +31,8 @@ text_is a b = elim (cases_Bool (pointwise ◌==◌ a b)) [
 text_itself : (a : List ℕ) → pointwise ◌==◌ a a ≡ true
 text_itself a = (pointwise_decides unsigned_Decides a a).1 refl
 
-name_is : (a b : Option (List ℕ)) → option_eq (pointwise ◌==◌) a b ≡ true → a ≡ b
-name_is a b e = grind (arith, text_is)
-
 making_is : (a b : Making) → (of_making.ghosts).eq a b ≡ true → a ≡ b
-making_is a b e =
-    let name : a.name ≡ b.name = name_is a.name b.name (grind (arith, nat_tests, e)) in
-    grind (arith, nat_tests, e, name)
+making_is a b e = grind (arith, nat_tests, text_is)
 
 apart : (before behind : Bool) (a b : Making) → (before && ((of_making.ghosts).eq a b && behind)) ≡ true
     → (before ≡ true) × (a ≡ b) × (behind ≡ true)
@@ -47,21 +41,13 @@ apart before behind a b e =
     let parts = and_parts ((of_making.ghosts).eq a b) behind rest.1 in (rest.0, making_is a b parts.0, parts.1)
 
 same : (call other : Call) → equal call other ≡ true → call ≡ other
-same (calls.MakeEvent thread make manual set) (calls.MakeEvent thread' make' manual' set') e =
-    grind (arith, nat_tests, apart (thread == thread') _ make make' e)
-same (calls.MakeMutex thread make owned) (calls.MakeMutex thread' make' owned') e =
-    grind (arith, nat_tests, apart (thread == thread') _ make make' e)
-same (calls.MakeSemaphore thread make initial max) (calls.MakeSemaphore thread' make' initial' max') e =
-    grind (arith, nat_tests, apart (thread == thread') _ make make' e)
-same (calls.MakeTimer thread make manual) (calls.MakeTimer thread' make' manual') e =
-    grind (arith, nat_tests, apart (thread == thread') _ make make' e)
-same (calls.MakeHost thread make object_type manual signaled)
-    (calls.MakeHost thread' make' object_type' manual' signaled') e =
-    grind (arith, nat_tests, apart (thread == thread') _ make make' e)
-same (calls.OpenNamed thread kind mask inherit text) (calls.OpenNamed thread' kind' mask' inherit' text') e =
-    grind (arith, nat_tests, text_is text text')
-same (calls.WaitFor thread mode timeout handles) (calls.WaitFor thread' mode' timeout' handles') e =
-    grind (arith, nat_tests, text_is handles handles')
+same (calls.MakeEvent t a _ _) (calls.MakeEvent t' b _ _) e = grind (arith, nat_tests, apart (t == t') _ a b e)
+same (calls.MakeMutex t a _) (calls.MakeMutex t' b _) e = grind (arith, nat_tests, apart (t == t') _ a b e)
+same (calls.MakeSemaphore t a _ _) (calls.MakeSemaphore t' b _ _) e = grind (arith, nat_tests, apart (t == t') _ a b e)
+same (calls.MakeTimer t a _) (calls.MakeTimer t' b _) e = grind (arith, nat_tests, apart (t == t') _ a b e)
+same (calls.MakeHost t a _ _ _) (calls.MakeHost t' b _ _ _) e = grind (arith, nat_tests, apart (t == t') _ a b e)
+same (calls.OpenNamed _ _ _ _ a) (calls.OpenNamed _ _ _ _ b) e = grind (arith, nat_tests, text_is a b)
+same (calls.WaitFor _ _ _ a) (calls.WaitFor _ _ _ b) e = grind (arith, nat_tests, text_is a b)
 same (calls.Spawn _) (calls.Spawn _) e = grind (arith, nat_tests)
 same (calls.Child _ _) (calls.Child _ _) e = grind (arith, nat_tests)
 same (calls.StartThread _) (calls.StartThread _) e = grind (arith, nat_tests)
