@@ -1,24 +1,22 @@
 -- What is sealed is unsealed again, so a state that is read again loads from its savestate.
-use Rattle.std.proofs.Common.{◌≡◌, ℕ, Bool, cond, eqb, subst, List, [], ◌++◌, true, false, Result, Ok, Err, ap, sym, ◌∙◌, refl, arith}
+use Rattle.std.proofs.Common.{◌≡◌, ℕ, List, [], ◌++◌, true, false, Result, Ok, ap, sym, ◌∙◌, refl, arith}
 use Rattle.std.specs.Int.{w64, to_le_bytes}
-use Rattle.std.proofs.lemmas.Bool.{eqb-true}
 use Rattle.std.proofs.lemmas.Bool.Decides.{nat_tests}
 use Rattle.std.proofs.lemmas.List.{append-nil, nil_from_length}
 use Rattle.ob_codec.proofs.SealLaws.{front-fits, unsealed_again, unsealed_takes}
 use Rattle.ob_codec.specs.Codecs.{u64_codec}
 use Rattle.ob_codec.specs.declared.fault.ReadFault.{ReadFault}
 use Rattle.ob_codec.specs.declared.fault.TextFault.{TextFault}
-use Rattle.ob_codec.specs.declared.fault.TextFault.TheVariants.{Value}
 use Rattle.ob_codec.specs.Reading.{◌>>=◌, Fails, Read, as_at, both_at, number_at, whole_at, where_at}
 use Rattle.ob_codec.specs.Sealing.{sealed, unsealed}
 use Rattle.ob_codec.specs.Spelling.{AreBytes}
-use Rattle.ob_codec.specs.Steps.{bind_ok, guard_ok, ok_is, whole_ok}
+use Rattle.ob_codec.specs.Steps.{bind_ok, ok_is, whole_ok}
 use Rattle.ob_store.specs.SavedStore.{begun_again, store_at, store_text}
 use Rattle.ob_store.specs.State.{Whole}
 use Rattle.ob_store.proofs.SavedStoreLaws.{store_takes}
-use Rattle.ob_manager.specs.HostData.{DataFits, HostData, data_at, data_text, is_empty, no_data}
+use Rattle.ob_manager.specs.HostData.{DataFits, HostData, data_text, is_empty, no_data}
 use Rattle.ob_manager.specs.HostDataLaws.{data_codec}
-use Rattle.ob_manager.specs.Savestates.{behind_mark, data_behind, data_mark, is_mark, kept_some, load, load_with, mark, saved, saved_with, whole_with_at}
+use Rattle.ob_manager.specs.Savestates.{behind_mark, data_behind, data_mark, is_mark, load, load_with, mark, saved, saved_with, whole_with_at}
 
 pub loads_again : (w : Whole) → store_at (store_text w ++ []) ≡ Ok (begun_again w, [])
     → load (saved w) ≡ Ok (begun_again w)

@@ -1,6 +1,6 @@
 -- The model never refuses for want of memory, so what a reply says of a step is unambiguous; and no call changes the
 -- limits.
-use Rattle.std.proofs.Common.{◌≡◌, ℕ, zero, suc, Bool, false, List, [], ◌∷◌, Option, Result, Ok, Err, refl, sym, ap, ◌∙◌, arith, cond}
+use Rattle.std.proofs.Common.{◌≡◌, ℕ, zero, suc, Bool, false, List, [], ◌∷◌, Option, Result, Ok, refl, arith, cond}
 use Rattle.std.specs.Prelude.{ℤ}
 use Rattle.pin_core.specs.declared.id.Id.{Id}
 use Rattle.ob_rights.specs.declared.fault.Fault.{Fault}

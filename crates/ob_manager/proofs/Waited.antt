@@ -1,5 +1,5 @@
 -- What a wait's tests say of its objects.
-use Rattle.std.proofs.Common.{◌≡◌, ℕ, ◌<◌, ◌≤◌, List, [], ◌∷◌, ◌++◌, length, Result, Ok, Err, refl, ◌∙◌, zero, suc, arith, get_or, map, Bool, true, false, cond}
+use Rattle.std.proofs.Common.{◌≡◌, ℕ, ◌<◌, ◌≤◌, List, [], ◌∷◌, ◌++◌, length, Result, Ok, Err, refl, arith, get_or, map, Bool, true, false, cond}
 use Rattle.std.proofs.lemmas.Bool.Decides.{nat_tests}
 use Rattle.std.specs.Prelude.{◌||◌}
 use Rattle.std.specs.List.{list_any}
@@ -10,7 +10,7 @@ use Rattle.pin_core.specs.declared.id.Id.{Id}
 use Rattle.ob_rights.specs.declared.fault.Fault.{Fault}
 use Rattle.ob_rights.specs.declared.fault.Fault.TheVariants as fault
 use Rattle.ob_tables.specs.declared.entry.Entry.{Entry}
-use Rattle.ob_tables.proofs.Counting.{found_counts, same_id-same}
+use Rattle.ob_tables.proofs.Counting.{found_counts}
 use Rattle.ob_waits.specs.declared.wait.Mode.{Mode}
 use Rattle.ob_waits.specs.declared.wait.Mode.TheVariants.{All}
 use Rattle.ob_waits.specs.Rules.{IsWaitable}
@@ -18,12 +18,11 @@ use Rattle.ob_waits.specs.Waits.{nowhere}
 use Rattle.ob_store.specs.Kept.{IsNamed}
 use Rattle.ob_store.specs.Owners.{owns_at}
 use Rattle.ob_store.specs.State.{State, handles_of}
-use Rattle.ob_store.proofs.NamedLaws.{one_there}
 use Rattle.ob_manager.specs.declared.waiting.Timeout.{Timeout}
 use Rattle.ob_manager.specs.Checks.{caller, found}
 use Rattle.ob_manager.specs.Rising.{listed}
-use Rattle.ob_manager.specs.Outcomes.{◌>>=◌, refuse_if}
-use Rattle.ob_manager.specs.Waiting.{all_found, has_twice, have_room, id_of, is_for_one_twice, is_misshapen, lacks_synchronize, may_repeat, objects_of, wait, wait_on}
+use Rattle.ob_manager.specs.Outcomes.{◌>>=◌}
+use Rattle.ob_manager.specs.Waiting.{all_found, has_twice, have_room, id_of, is_for_one_twice, lacks_synchronize, objects_of, wait, wait_on}
 
 -- the objects of handles one by one, after those that were collected
 abbrev pub objects_from : State → ℕ → List Id → Bool → List ℕ → Result (List Id) Fault
