@@ -26,9 +26,8 @@ rest_set xs ys x n same = drop-set-lt (n + 1) xs n x (omega arith) ∙ drop_more
 module _ {X Y : Type 0} (f : X → Y) where
   put_one : (xs : List X) (ys : List Y) (i : ℕ) (d : X) → i < length xs → length xs ≤ length ys
       → slice_set (map f (take i xs) ++ drop i ys) i (f (get_or xs i d)) ≡ map f (take (suc i) xs) ++ drop (suc i) ys
-  put_one (x ∷ xs) (y ∷ ys) zero d lt le = refl
-  put_one (x ∷ xs) (y ∷ ys) (suc i) d lt le = ap (λ zs. f x ∷ zs) (put_one xs ys i d (omega arith) (omega arith))
-  put_one xs ys i d lt le = absurd (omega (arith, lt, le))
+  put_one [] ys i d lt le = absurd (omega arith)
+  put_one (x ∷ xs) ys i d lt le = grind (arith, put_one xs)
 
   pub put_more : (xs : List X) (ys zs : List Y) (i : ℕ) (d : X) → i < length xs → length xs ≤ length ys
       → zs ≡ map f (take i xs) ++ drop i ys

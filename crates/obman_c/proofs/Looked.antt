@@ -39,13 +39,10 @@ pub due_next : {s : State} {status before after : ℕ} {found : Option ℕ} → 
 due_next {found = found} least told = record { found = found; least = least; told = told }
 
 -- a number from 1 on is told as it is, and none as 0
-at_or_zero : (from : ℕ) (found : Option ℕ) → IfSome found (λ n. from + 1 ≤ n) → number_at (or_zero found) ≡ found
-at_or_zero from found above = grind arith
-
 pub numbered : (from : ℕ) {number : ℕ} {test : ℕ → Bool} (found : Option ℕ) → number ≡ or_zero found
     → IsLeastFrom (from + 1) test found
     → IsLeastFrom (from + 1) test (number_at number)
-numbered from found told least = rw (told, at_or_zero from found least.above) least
+numbered from found told least = grind arith
 
 -- a wait that is pending is told with its objects
 pub waited : {wait : Option Wait} {status thread : ℕ} {mode : Mode} {ids : List Id} {deadline : Option ℕ}

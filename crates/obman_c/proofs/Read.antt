@@ -85,5 +85,4 @@ every (x ∷ held) = omega (arith, every held)
 -- with a copy less there are fewer
 pub fewer : (id : Id) (held : List Id) → 0 < tally (same_id id) held
     → length (drop_last (same_id id) held) < length held
-fewer id held some =
-    omega (arith, every, count-drop_last (λ _. true) (same_id id) true held (λ x e. refl) some)
+fewer id held some = omega (arith, every, count-drop_last (λ _. true) (same_id id) true held (λ x e. refl) some)

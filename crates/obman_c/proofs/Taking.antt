@@ -27,9 +27,7 @@ use Rattle.obman_c.specs.Telling.{reaping_in}
 pub answered : (w v : Whole) (wait code : ℕ) (reply : Reply)
     → state_at (slice_index_or w.state.waits (wait_number w.state wait) None) ≡ Some (Answered code)
     → Step w (calls.WaitResult wait) reply v → reply ≡ Code code
-answered w v wait code reply is (does comes keeps) = sym (ap (λ (o : Outcome). o.reply) (rw is at comes))
-answered w v wait code reply is (closes it comes keeps) = cc
-answered w v wait code reply is (lacks takes ok fault same) = cc
+answered w v wait code reply is step = grind arith
 
 ended_there : (object : Option Object) (body : Option Body) (id : Id) → id_in object ≡ Some id
     → is_closing object body ≡ true → if_ended object body ≡ Ok id
@@ -39,13 +37,8 @@ ended_there object body id there ended = grind arith
 pub reaped : (w v : Whole) (id : Id) (reply : Reply) → IsConsistent w → IsThere w.state.objects id
     → is_closing_at w.state id.slot ≡ true → Step w (calls.Reap id.slot) reply v
     → reply ≡ Reaped id (reclaim_in reply)
-reaped w v id reply consistent there ended (does comes keeps) =
-    let few : nat_le w.state.limits.slots id.slot ≡ false =
-    grind (arith, nat_tests, there_within w.state.objects id there, consistent.sizes.0) in
-    let told = rw (few, ended_there _ _ id there ended) at comes in
-    sym (ap (λ (o : Outcome). o.reply) told)
-reaped w v id reply consistent there ended (closes is comes keeps) = cc
-reaped w v id reply consistent there ended (lacks takes ok fault same) = cc
+reaped w v id reply consistent there ended step =
+    grind (arith, nat_tests, there_within w.state.objects id there, consistent.sizes.0, ended_there)
 
 -- and so it is told, whatever stood at the place
 pub told_as : {reply : Reply} {id : Id} {outcome : Reclaim} {told : Reaping} (before : Reaping)

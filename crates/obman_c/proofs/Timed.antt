@@ -29,8 +29,7 @@ reached_here x due is = grind (arith, nat_tests)
 either : (xs ys : List (Option ℕ)) (place due : ℕ) → get_or (xs ++ ys) place None ≡ Some due
     → (get_or xs place None ≡ Some due) ⊎ ((k : ℕ) × (get_or ys k None ≡ Some due))
 either [] ys place due is = inr (place, is)
-either (x ∷ xs) ys zero due is = inl is
-either (x ∷ xs) ys (suc place) due is = either xs ys place due is
+either (x ∷ xs) ys place due is = grind (arith, either xs ys)
 
 -- a moment that is due is after now
 pub due_after : (w : Whole) (due : ℕ) → IsConsistent w → IsLeast (dues_of w.state) (Some due)
@@ -50,21 +49,12 @@ due_after w due consistent least =
 -- a tick that goes neither back nor past the last moment is made
 pub goes : (w v : Whole) (now : ℕ) (reply : Reply) → w.state.clock ≤ now → now ≤ last_moment
     → Step w (calls.Tick now) reply v → (reply ≡ Ticked now) × (v.state.clock ≡ now)
-goes w v now reply later last (does comes keeps) =
-    let passes : (nat_lt now w.state.clock || nat_lt last_moment now) ≡ false = grind (arith, nat_tests) in
-    let told = rw passes at comes in
-    (sym (ap (λ (o : Outcome). o.reply) told), sym (ap (λ (o : Outcome). o.state.clock) told))
-goes w v now reply later last (closes is comes keeps) = absurd (cc is)
-goes w v now reply later last (lacks takes ok fault same) = absurd (cc takes)
+goes w v now reply later last step = grind (arith, nat_tests)
 
 -- a tick past the last moment is refused
 pub past_last : (w v : Whole) (now : ℕ) (reply : Reply) → last_moment < now → Step w (calls.Tick now) reply v
     → reply ≡ Refused fault.Parameter
-past_last w v now reply past (does comes keeps) =
-    let fails : (nat_lt now w.state.clock || nat_lt last_moment now) ≡ true = grind (arith, nat_tests) in
-    sym (ap (λ (o : Outcome). o.reply) (rw fails at comes))
-past_last w v now reply past (closes is comes keeps) = absurd (cc is)
-past_last w v now reply past (lacks takes ok fault same) = absurd (cc takes)
+past_last w v now reply past step = grind (arith, nat_tests)
 
 pub advances : {old between new : OwnedManager} {moment status : ℕ} {reply : Reply} → moment ≤ last_moment
     → Serves moment old between
@@ -76,8 +66,7 @@ advances {between = between} last served all still made told = record {
   served = served;
   told = tells made told;
   all = λ _. all;
-  refused = λ fails. ⊎_elim (λ same. same)
-      (λ before. absurd (fails (told ∙ ap status_of (goes _ _ _ _ (omega (arith, before)) last made.step).0))) still;
+  refused = λ fails. grind (arith, goes, made.step);
 }
 
 pub advances_none : {old new : OwnedManager} {moment status : ℕ} {reply : Reply} → last_moment < moment
