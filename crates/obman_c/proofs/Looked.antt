@@ -1,5 +1,5 @@
 -- What a walk found, as C is told of it.
-use Rattle.std.proofs.Common.{◌≡◌, ◌+◌, ◌≤◌, ℕ, Bool, false, List, length, Option, Some, IfSome, arith}
+use Rattle.std.proofs.Common.{◌≡◌, ◌+◌, ℕ, Bool, false, List, length, Option, Some, IfSome, arith}
 use Rattle.std.specs.Option.{option_map}
 use Rattle.least.specs.Dues.{IsLeast}
 use Rattle.least.specs.From.{IsLeastFrom}

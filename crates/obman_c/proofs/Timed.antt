@@ -1,6 +1,6 @@
 -- What is due is still to come, and a tick to it is made.
-use Rattle.std.proofs.Common.{◌≡◌, ◌<◌, ◌≤◌, ◌∙◌, ℕ, zero, suc, true, false, List, [], ◌∷◌, Option, Some, None, ◌++◌, map, get_or, sym, ap, arith, inl, inr, refl, ⊎_elim}
-use Rattle.std.specs.Prelude.{nat_lt, ◌||◌, ◌⊎◌}
+use Rattle.std.proofs.Common.{◌≡◌, ◌<◌, ◌≤◌, ◌∙◌, ℕ, List, [], ◌∷◌, Option, Some, None, ◌++◌, map, get_or, sym, ap, arith, inl, inr, refl}
+use Rattle.std.specs.Prelude.{◌⊎◌}
 use Rattle.std.proofs.Math.ListN.{get_or-map}
 use Rattle.std.proofs.lemmas.Bool.Decides.{nat_tests}
 use Rattle.least.specs.Dues.{IsLeast}
@@ -14,8 +14,7 @@ use Rattle.ob_rights.specs.declared.fault.Fault.TheVariants as fault
 use Rattle.ob_manager.specs.declared.call.CallOf.TheVariants as calls
 use Rattle.ob_manager.specs.declared.reply.Reply.{Reply}
 use Rattle.ob_manager.specs.declared.reply.Reply.TheVariants.{Ticked, Refused}
-use Rattle.ob_manager.specs.Outcomes.{Outcome}
-use Rattle.ob_manager.specs.Steps.{Step, does, closes, lacks}
+use Rattle.ob_manager.specs.Steps.{Step}
 use Rattle.obman_c_base.specs.Made.{Makes}
 use Rattle.obman_c_base.specs.declared.owned.OwnedManager.{OwnedManager}
 use Rattle.obman_c.specs.Telling.{status_of}
@@ -35,16 +34,15 @@ either (x ∷ xs) ys place due is = grind (arith, either xs ys)
 pub due_after : (w : Whole) (due : ℕ) → IsConsistent w → IsLeast (dues_of w.state) (Some due)
     → (w.state.clock < due) × (due ≤ last_moment)
 due_after w due consistent least =
-    let place = least.stands.0 in
     let timers = map slot_due w.state.bodies in
     let waits = map deadline_of w.state.waits in
-    let here = reached_here (get_or (timers ++ waits) place None) due
-    (sym (get_or-map reached (timers ++ waits) place None) ∙ least.stands.1) in
-    let later : w.state.clock < due = elim (either timers waits place due here.0) [
-      | inl e ↦ rw (← get_or-map slot_due w.state.bodies place None, e) at (consistent.formed.later place)
-      | inr e ↦ rw (← get_or-map deadline_of w.state.waits e.0 None, e.1) at (consistent.ahead.each e.0)
-    ] in
-    (later, here.1)
+    let here = reached_here _ due (sym (get_or-map reached (timers ++ waits) least.stands.0 None) ∙ least.stands.1) in (
+      elim (either timers waits least.stands.0 due here.0) [
+        | inl e ↦ rw (← get_or-map slot_due w.state.bodies least.stands.0 None, e) at (consistent.formed.later least.stands.0)
+        | inr e ↦ rw (← get_or-map deadline_of w.state.waits e.0 None, e.1) at (consistent.ahead.each e.0)
+      ],
+      here.1,
+    )
 
 -- a tick that goes neither back nor past the last moment is made
 pub goes : (w v : Whole) (now : ℕ) (reply : Reply) → w.state.clock ≤ now → now ≤ last_moment
