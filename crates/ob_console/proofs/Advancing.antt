@@ -1,5 +1,5 @@
 -- A console advances line by line, and what it has written is the beginning of an answer to its input.
-use Rattle.ob_console.proofs.Cited.{◌≡◌, ℕ, ◌+◌, List, [], ◌∷◌, ◌++◌, length, Some, refl, subst, arith, concat, append_assoc, append-nil, length-append, Command, command_of, line_end, Point, Prints, Run, IsWithin, AnswersLines, AnswersPart, last_line, ConsoleState, IsReady, Session, Advances, Finishes}
+use Rattle.ob_console.proofs.Cited.{IsOutput, Option, ◌≡◌, ℕ, ◌+◌, List, [], ◌∷◌, ◌++◌, length, Some, refl, subst, arith, concat, append_assoc, append-nil, length-append, Command, command_of, line_end, Point, Prints, Run, IsWithin, AnswersLines, AnswersPart, last_line, ConsoleState, IsReady, Session, Advances, Finishes}
 use Rattle.std.proofs.lemmas.List.Folds.{concat-append}
 use Rattle.ob_script.specs.PartialLines.{capped, extended_line, command_of_partial_line}
 use Rattle.ob_script.proofs.Texts.{command_of_capped, more_capped}
@@ -31,17 +31,9 @@ line_advances old new act bytes output within is prints counted held first input
 -- a part of a line comes
 pub part_advances : (old new : ConsoleState) (bytes : List ℕ) → IsWithin bytes → new.point ≡ old.point
     → new.lines ≡ old.lines → new.held ≡ extended_line old.held bytes → Advances old bytes [] new
-part_advances old new bytes within state_is lines_is held_is first input before session = record {
-  lines = session.lines;
-  rest = session.rest ++ bytes;
-  pins = session.pins;
-  outputs = session.outputs;
-  splits = splits_more input session.lines session.rest bytes within session.splits;
-  run = search arith;
-  whole = search (arith, append-nil);
-  counted = search arith;
-  held = search (arith, more_capped);
-}
+part_advances old new bytes within state_is lines_is held_is first input before session =
+    let more = splits_more input session.lines session.rest bytes within session.splits in
+    search (arith, append-nil, more_capped, more)
 
 -- one advance after another
 pub advances_on : (a b c : ConsoleState) (bytes second output more : List ℕ) → Advances a bytes output b
@@ -59,13 +51,8 @@ session_begins console ready = search (arith, splits_nothing)
 -- the complete lines are answered
 pub answers_lines : (first : Point) (input output : List ℕ) (console : ConsoleState)
     → Session first input output console → AnswersLines first input output
-answers_lines first input output console session = record {
-  lines = session.lines;
-  rest = session.rest;
-  splits = session.splits;
-  last = console.point;
-  answers = search arith;
-}
+answers_lines first input output console session =
+    record { lines = session.lines; rest = session.rest; splits = session.splits; last = console.point; answers = search arith }
 
 -- whatever comes, the output is the beginning of an answer
 pub answers_part : (first : Point) (input output done missing more : List ℕ) (console : ConsoleState)
@@ -90,6 +77,11 @@ pub finishes_empty : (console : ConsoleState) → console.held ≡ Some [] → F
 finishes_empty console held first input before session = search (arith, append-nil)
 
 -- a last line without a line feed
+last_is : (held : Option (List ℕ)) (rest : List ℕ) → held ≡ capped rest → (held ≡ Some [] → ⊥)
+    → last_line rest ≡ rest ∷ []
+last_is held [] is some = absurd (some is)
+last_is held (byte ∷ rest) is some = refl
+
 pub finishes_line : (old : ConsoleState) (last : Point) (output : List ℕ) → (old.held ≡ Some [] → ⊥)
     → Prints old.point (old.lines + 1) (command_of_partial_line old.point.more old.held) output last
     → Finishes old output last

@@ -30,20 +30,12 @@ Rests (Err fault) k = Unit {0}
 rests : (w : Whole) (call : Call) → AsksNoSlot call
     → (takes_memory w.state call ≡ true) ⊎ Rests (outcome_of w.state call (Refused fault.Memory)) w.keeper
 rests w (calls.Reap slot) none = absurd (none (λ slot. ⊥))
-rests w call _ = elim (cases_Bool (takes_memory w.state call)) [
-  | inl takes ↦ inl takes
-  | inr other ↦ inr (search arith)
-]
+rests w call _ = search (arith, cases_Bool (takes_memory w.state call))
 
 replied : (w : Whole) (call : Call) (reply : Reply) (next : Whole) → AsksNoSlot call → Step w call reply next
     → CanAnswer w call
-replied w call reply next none step = record {
-  reply = reply;
-  next = next;
-  step = step;
-  looks = none _;
-  spares = λ held. none _;
-}
+replied w call reply next none step =
+    record { reply = reply; next = next; step = step; looks = none _; spares = λ held. none _ }
 
 answered : (w : Whole) (call : Call) (outcome : Result Outcome Fault) → AsksNoSlot call
     → ((reply : Reply) → outcome_of w.state call reply ≡ outcome)
@@ -51,16 +43,12 @@ answered : (w : Whole) (call : Call) (outcome : Result Outcome Fault) → AsksNo
 answered w call (Err fault) none is rests = replied w call (Refused fault) w none (search arith)
 answered w call (Ok outcome) none is (inl takes) = replied w call (Refused fault.Memory) w none (search arith)
 answered w call (Ok outcome) none is (inr rests) =
-    replied w call outcome.reply (record w { state = outcome.state }) none
-    (does (ap (final w.state) (is outcome.reply)) rests)
+    replied w call outcome.reply (record w { state = outcome.state }) none (search (arith, is outcome.reply))
 
 -- the word of the slot, with one pin
 abbrev pinned_word : KeeperState → ℕ → Word
-pinned_word k slot = record {
-  generation = (slot_of k.slots slot).generation;
-  phase = (slot_of k.slots slot).phase;
-  pins = 1;
-}
+pinned_word k slot =
+    record { generation = (slot_of k.slots slot).generation; phase = (slot_of k.slots slot).phase; pins = 1 }
 
 -- the keeper finds that
 abbrev found_pinned : KeeperState → ℕ → KeeperState
@@ -68,9 +56,7 @@ found_pinned k slot = with_looks k (look slot (encoded (pinned_word k slot)) ∷
 
 finds_pinned : (k : KeeperState) (slot : ℕ) → 0 < k.shape.max_pins
     → ReclaimsFound k slot (reclaim.Held 1) (found_pinned k slot)
-finds_pinned k slot pins =
-    let is : decoded (encoded (pinned_word k slot)) ≡ pinned_word k slot = search arith in
-    (encoded (pinned_word k slot), search (arith, is), search (arith, is), search (arith, is))
+finds_pinned k slot pins = (encoded (pinned_word k slot), search arith, search arith, search arith)
 
 -- a slot that is reaped may be pinned
 held_back : (w : Whole) (slot : ℕ) (ended : Result Id Fault) → 0 < w.keeper.shape.max_pins
@@ -78,20 +64,12 @@ held_back : (w : Whole) (slot : ℕ) (ended : Result Id Fault) → 0 < w.keeper.
       reply = Reaped id outcome;
       state = settled (after_reclaim w.state slot outcome);
     })))) → CanAnswer w (calls.Reap slot)
-held_back w slot (Err fault) pins is = record {
-  reply = Refused fault;
-  next = w;
-  step = does (ap (final w.state) (is reclaim.Freed)) refl;
-  looks = tt;
-  spares = λ held. tt;
-}
-held_back w slot (Ok id) pins is = record {
-  reply = Reaped id (reclaim.Held 1);
-  next = record { state = settled w.state; keeper = found_pinned w.keeper id.slot };
-  step = search arith;
-  looks = finds_pinned w.keeper id.slot pins;
-  spares = λ held. tt;
-}
+held_back w slot (Err fault) pins is =
+    record { reply = Refused fault; next = w; step = search (arith, is reclaim.Freed); looks = tt; spares = λ held. tt }
+held_back w slot (Ok id) pins is =
+    let next : Whole = record { state = settled w.state; keeper = found_pinned w.keeper id.slot } in
+    let looks = finds_pinned w.keeper id.slot pins in
+    record { reply = Reaped id (reclaim.Held 1); next = next; step = search arith; looks = looks; spares = λ held. tt }
 
 pub can_answer : (w : Whole) (call : Call) → 0 < w.keeper.shape.max_pins → CanAnswer w call
 can_answer w (calls.Reap slot) pins =

@@ -22,11 +22,7 @@ use Rattle.ob_console.proofs.Found.{card_found, met_found}
 -- there is no such slot
 pub no_slot : (s : State) (held : List Id) (looks : List Look) (id : Id) → s.limits.slots ≤ id.slot
     → Pins s held looks id (Err fault.NoSuchSlot) held looks
-no_slot s held looks id out = record {
-  no_slot = λ _. (refl, refl);
-  full = λ inside _. absurd (omega arith);
-  tried = λ inside _. absurd (omega arith);
-}
+no_slot s held looks id out = search arith
 
 -- what the reading of the descriptor leaves as it is
 told_looks : (tried : Result (Unit {0}) PinFault) (m r : ReaderView) (id : Id) (res : Result Descr PinFault)
@@ -37,18 +33,12 @@ told_looks tried m r id res told = grind arith
 refused : (e : PinFault) (tried : Result (Unit {0}) PinFault) (m r : ReaderView) (id : Id)
     (res : Result Descr PinFault) (held : List Id)
     → tried ≡ Err e → m.held ≡ held → Told tried m id res r → (res ≡ Err e) × (r.held ≡ held)
-refused e tried m r id res held is same told = let t = rw is at told in (t.0, rw t.1 same)
+refused e tried m r id res held is same told = search arith
 
 -- a try begins with a look, which is no later than a word before which the try's looks are
 begins_with : (vd : Verdict) (r : ReaderView) (id : Id) (n : ℕ) (tried : Result (Unit {0}) PinFault) (m : ReaderView)
     → FollowsLook vd r id n tried m → (more : List Look) × (m.looks ≡ more ++ (look id.slot n ∷ r.looks))
-begins_with Go r id n tried m a = (
-  look id.slot a.0 ∷ [],
-  elim (cases_eq a.0 n) [
-    | inl same ↦ let b = a.2 same in rw b.1
-    | inr other ↦ let b = a.3 other in rw b.1
-  ],
-)
+begins_with Go r id n tried m a = (look id.slot a.0 ∷ [], grind (arith, cases_eq a.0 n))
 begins_with vd r id n tried m a = ([], rw a.1)
 
 looked_before : (more looks : List Look) (slot n k : ℕ) → Behind (more ++ (look slot n ∷ looks)) slot k → NoLater n k
@@ -72,22 +62,12 @@ judged : (vd : Verdict) (Found : ℕ → Type 0) (w : Whole) (r m r3 r4 : Reader
     → IsMet w.keeper r3 id.slot r4 → Judged vd Found n w.state r.held id res r3.held
 judged Go Found w r m r3 r4 id n tried res second consistent inside a told met = elim (cases_eq a.0 n) [
   | inl same ↦
-      let b = a.2 same in
-      let t = rw b.0 at told in
+      let t = rw (a.2 same).0 at told in
       let found = met_found w r3 r4 id consistent inside (rw t.2 t.3) met in
-      inl (record {
-        made = record { id = found.object.id; descr = found.object.descr; grant = found.object.grant };
-        is_there = card_found w.state r3 id found;
-        told = rw ((subst (λ (z : ReaderView). Show id found.object.descr z.notes) t.2 found.shown).0 refl) at t.1;
-        more = rw (t.2, b.1);
-      })
-  | inr other ↦
-      let b = a.3 other in
-      let t = refused _ tried m r3 id res r.held b.0 (ap (λ (z : ReaderView). z.held) b.1) told in
-      inr (record { seen = a.0; found = second a.0 b.1; other = other; told = t.0; same = t.1 })
+      inl (search (arith, a.2 same, card_found w.state r3 id found, found.shown))
+  | inr other ↦ search (arith, refused, a.3 other)
 ]
-judged vd Found w r m r3 r4 id n tried res second consistent inside a told met =
-    refused _ tried m r3 id res r.held a.0 (ap (λ (z : ReaderView). z.held) a.1) told
+judged vd Found w r m r3 r4 id n tried res second consistent inside a told met = search (arith, refused)
 
 pub pins : (w : Whole) (r r1 r3 r4 : ReaderView) (id : Id) (res : Result Descr PinFault) → IsConsistent w
     → r.shape ≡ shape_of w.state.limits → id.slot < w.state.limits.slots

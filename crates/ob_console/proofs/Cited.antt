@@ -1,7 +1,7 @@
 -- What the proofs of this crate cite from elsewhere, passed on.
 pub use Rattle.ob_console.specs.Pinning.{Finds, IsWord, Judged, Pins, phase_in, phase_at, shown_of, SparesHeld}
 pub use Rattle.ob_console.specs.Retelling.{AnswersOtherwise, FitsEntry, Retells, RetellsTo, answer, is_line, script_of}
-pub use Rattle.ob_console.specs.Runs.{Point, Prints, Run, IsWithin, AnswersLines, AnswersPart, last_line, Looks, Spares, with_ends, Splits, AnswersTo, IsCut, IsEnded, IsOpening, IsWholeEnded, AnswersAll, IsLooked, point}
+pub use Rattle.ob_console.specs.Runs.{Point, Prints, Run, IsWithin, AnswersLines, AnswersPart, last_line, Looks, Spares, with_ends, Splits, AnswersTo, IsCut, IsEnded, IsOpening, IsWholeEnded, AnswersAll, IsLooked, IsOutput, point}
 pub use Rattle.ob_console.specs.Sessions.{ConsoleState, IsReady, Session, Advances, Finishes, IsFed, IsCutShort, Ends, Enacts, Evaluation}
 pub use Rattle.ob_manager.specs.Outcomes.{Outcome, ◌>>=◌, refuse_if}
 pub use Rattle.ob_manager.specs.Reaping.{IfReap, if_ended, reap, IfReaped}
@@ -29,6 +29,7 @@ pub use Rattle.pin_words.specs.declared.pin_keeper.Reclaim.{Reclaim}
 pub use Rattle.pin_words.specs.declared.view.ReaderView.{ReaderView}
 pub use Rattle.std.proofs.Common.{◌≡◌, ℕ, ◌+◌, List, [], ◌∷◌, ◌++◌, length, Some, refl, subst, arith, ◌⊎◌, inl, inr, ◌<◌, true, None, Result, Ok, Err, ap, ◌≤◌, Bool, Option, sym, ◌∙◌, get_or, All, if◌then◌else◌, suc, ◌-◌, take, false, ◌==◌, true≢false, position, ◌*◌, rules}
 pub use Rattle.std.proofs.lemmas.Bool.{cases_Bool, cases_eq, eqb-false, not-true, cases_lt, and_right, or_parts}
+pub use Rattle.std.proofs.lemmas.Bool.Decides.{nat_tests}
 pub use Rattle.std.proofs.lemmas.Grind.{flat_map-append}
 pub use Rattle.std.proofs.lemmas.List.{append_assoc, append-nil, length-append, take-append-drop, drop_more, length-take, length-drop, get_or-take, length-take-le, take_all, take_more}
 pub use Rattle.std.proofs.lemmas.List.Elements.{All-cons, All-nil, All-tail, All-append, All-head, All-more}

@@ -13,13 +13,8 @@ cut_whole text within =
 
 -- nothing is fed yet
 pub fed_nothing : (console : ConsoleState) (block taken : List ℕ) → IsFed console console block block taken taken
-fed_nothing console block taken = record {
-  front = [];
-  printed = [];
-  whole = refl;
-  advances = advances_none console;
-  written = search (arith, append-nil);
-}
+fed_nothing console block taken =
+    record { front = []; printed = []; whole = refl; advances = advances_none console; written = search (arith, append-nil) }
 
 module _ {old now new : ConsoleState} {block rest before taken later : List ℕ} (output : List ℕ)
     (fed : IsFed old now block rest before taken) (within : position_or_len (is_byte 10) rest < length rest)

@@ -15,54 +15,36 @@ line_before byte bytes is lines rest splits = search arith
 byte_before : (byte : ℕ) (bytes : List ℕ) → byte ≢ 10 → (lines : List (List ℕ)) (rest : List ℕ)
     → Splits bytes lines rest → HasLines (byte ∷ bytes)
 byte_before byte bytes other [] rest splits = search arith
-byte_before byte bytes other (line ∷ lines) rest splits = record {
-  lines = (byte ∷ line) ∷ lines;
-  rest = rest;
-  splits = record {
-    whole = ap (λ more. byte ∷ more) splits.whole;
-    each = All-cons IsWithin (byte ∷ line) lines
-        (All-cons (λ b. b ≢ 10) byte line other (All-head IsWithin line lines splits.each))
-        (All-tail IsWithin line lines splits.each);
-    open_ended = splits.open_ended;
-  };
-}
+byte_before byte bytes other (line ∷ lines) rest splits =
+    let first = All-cons (λ b. b ≢ 10) byte line other (All-head IsWithin line lines splits.each) in
+    let each = All-cons IsWithin (byte ∷ line) lines first (All-tail IsWithin line lines splits.each) in
+    record { lines = (byte ∷ line) ∷ lines; rest = rest; splits = search (arith, each) }
 
 pub has_lines : (input : List ℕ) → HasLines input
 has_lines [] = search arith
-has_lines (byte ∷ bytes) =
-    let more = has_lines bytes in
-    elim (cases_eq byte 10) [
-      | inl is ↦ search (arith, line_before, more.splits)
-      | inr other ↦ search (arith, byte_before)
-    ]
+has_lines (byte ∷ bytes) = let more = has_lines bytes in elim (cases_eq byte 10) [
+  | inl is ↦ search (arith, line_before, more.splits)
+  | inr other ↦ search (arith, byte_before)
+]
 
 -- more of the open line
 pub splits_more : (input : List ℕ) (lines : List (List ℕ)) (rest bytes : List ℕ) → IsWithin bytes
     → Splits input lines rest → Splits (input ++ bytes) lines (rest ++ bytes)
-splits_more input lines rest bytes within splits = record {
-  whole = search (arith, append_assoc);
-  each = splits.each;
-  open_ended = All-append (λ b. b ≢ 10) rest bytes splits.open_ended within;
-}
+splits_more input lines rest bytes within splits =
+    search (arith, All-append (λ b. b ≢ 10) rest bytes splits.open_ended within, append_assoc)
 
 -- the lines of what comes behind, where the open line goes on
 pub splits_on : (input : List ℕ) (lines : List (List ℕ)) (rest bytes : List ℕ) (later : List (List ℕ)) (last : List ℕ)
     → Splits input lines rest → Splits (rest ++ bytes) later last → Splits (input ++ bytes) (lines ++ later) last
-splits_on input lines rest bytes later last splits more = record {
-  whole = search (arith, append_assoc, flat_map-append);
-  each = All-append IsWithin lines later splits.each more.each;
-  open_ended = more.open_ended;
-}
+splits_on input lines rest bytes later last splits more =
+    search (arith, All-append IsWithin lines later splits.each more.each, append_assoc, flat_map-append)
 
 -- one line is complete
 pub splits_one : (rest bytes : List ℕ) → IsWithin rest → IsWithin bytes
     → Splits (rest ++ (bytes ++ line_end)) ((rest ++ bytes) ∷ []) []
-splits_one rest bytes within_rest within = record {
-  whole = search (arith, append_assoc);
-  each = All-cons IsWithin (rest ++ bytes) []
-      (All-append (λ b. b ≢ 10) rest bytes within_rest within) (All-nil IsWithin);
-  open_ended = All-nil (λ b. b ≢ 10);
-}
+splits_one rest bytes within_rest within =
+    let line : IsWithin (rest ++ bytes) = All-append (λ b. b ≢ 10) rest bytes within_rest within in
+    search (arith, All-cons, All-nil, append_assoc, line)
 
 -- nothing has no line
 pub splits_nothing : Splits [] [] []

@@ -32,9 +32,8 @@ pub row_begun : (rows : Rows) (row : ObjectName × Id) (left : Rows) (a b c firs
     IsListed rows (row ∷ left) a b first pending → Begins b c (pending ++ printed_row row)
     → Begins a c (first ++ printed_names rows)
 row_begun rows row left a b c first pending one two =
-    let done = one.done ++ row ∷ [] in
     subst (λ back. Begins a c back) (search (arith, append_assoc, flat_map-append))
-    (begins_more a c (first ++ printed_first rows done) (flat_map printed_row left)
+    (begins_more a c (first ++ printed_first rows (one.done ++ row ∷ [])) (flat_map printed_row left)
     (search (arith, printed_next, begins_on, one.written)))
 
 -- the sink fails at the first line

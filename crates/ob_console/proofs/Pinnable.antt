@@ -1,5 +1,5 @@
 -- Every pin may be answered, in any state and whatever is held.
-use Rattle.ob_console.proofs.Cited.{◌≡◌, ℕ, suc, List, [], ◌∷◌, length, slice_index_or, refl, inl, inr, arith, cases_lt, count_by-le-length, Result, Err, Id, tally, decoded, encoded, is_of_slot, look, State, Finds, Judged, Pins, phase_at}
+use Rattle.ob_console.proofs.Cited.{IsWord, ◌≡◌, ℕ, suc, List, [], ◌∷◌, length, slice_index_or, refl, inl, inr, arith, cases_lt, count_by-le-length, Result, Err, Id, tally, decoded, encoded, is_of_slot, look, State, Finds, Judged, Pins, phase_at}
 use Rattle.pin_core.specs.declared.descr.Descr.{Descr}
 use Rattle.pin_core.specs.declared.word.Word.{Word}
 use Rattle.pin_core.proofs.Counts.{tally-count}
@@ -22,10 +22,8 @@ some_word s held slot = record {
 -- where the word lets it be pinned, it may be busy
 can_judge : (verdict : Verdict) (Found : ℕ → Type 0) (n : ℕ) (s : State) (held : List Id) (id : Id) → Found (suc n)
     → (answer : Result Descr PinFault) × Judged verdict Found n s held id answer held
-can_judge Unborn Found n s held id later = (Err fault.Unborn, (refl, refl))
-can_judge Stale Found n s held id later = (Err fault.Stale, (refl, refl))
-can_judge PinsFull Found n s held id later = (Err fault.PinsFull, (refl, refl))
 can_judge Go Found n s held id later = (Err (fault.Busy (decoded (suc n))), search arith)
+can_judge verdict Found n s held id later = (_, (refl, refl))
 
 -- an answer, with which no copy more is held
 pub can_pin : (s : State) (held : List Id) (looks : List Look) (id : Id)
@@ -38,29 +36,11 @@ can_pin s held looks id = elim (cases_lt id.slot s.limits.slots) [
         let read : decoded n ≡ some_word s held id.slot = search arith in
         let found : List Look = look id.slot (suc n) ∷ look id.slot n ∷ looks in
         let judged = can_judge (verdict_of s.limits.max_pins id (decoded n)) (Finds id.slot looks found) n s held id
-        ([], look id.slot n ∷ [], refl) in (
-          judged.0,
-          found,
-          record {
-            no_slot = λ out. absurd (omega arith);
-            full = λ _ many. absurd (omega arith);
-            tried = λ _ _. (
-              n,
-              (look id.slot (suc n) ∷ [], [], refl),
-              rw read (record { generation = refl; phase = refl; pins = omega arith; room = λ few. few }),
-              judged.1,
-            );
-          },
-        )
-    | inr many ↦ (
-      Err fault.HeldFull,
-      looks,
-      record {
-        no_slot = λ out. absurd (omega arith);
-        full = λ _ _. (refl, refl);
-        tried = λ _ few. absurd (omega arith);
-      },
-    )
+        ([], look id.slot n ∷ [], refl) in
+        let word : IsWord s held id.slot (decoded n) = search (arith, few, read) in
+        let finds : Finds id.slot looks found n = (look id.slot (suc n) ∷ [], [], refl) in
+        (judged.0, found, search (arith, finds, judged.1, word))
+    | inr many ↦ (Err fault.HeldFull, looks, search arith)
   ]
   | inr out ↦ (Err fault.NoSuchSlot, looks, no_slot s held looks id out)
 ]

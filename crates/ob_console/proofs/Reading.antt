@@ -64,13 +64,10 @@ module _ {first : Point} {console : ConsoleState} {given_before given taken_befo
       -- writing fails at the end
       pub ending_fails : Begins taken later (console.pending.bytes ++ printed)
           → HasRun (AnswersPart first) given_before more taken_before later
-      ending_fails begins = (
-        reading.input,
-        reading.output ++ begins.1.done,
-        read ∙ append-nil given ∙ reading.read,
-        search (arith, append_assoc),
-        record { missing = begins.0; last = last; answers = search (arith, append_assoc) },
-      )
+      ending_fails begins =
+          let part : AnswersPart first reading.input (reading.output ++ begins.1.done) =
+          record { missing = begins.0; last = last; answers = search (arith, append_assoc) } in
+          search (arith, append-nil, append_assoc, part)
 
 -- a whole script came as one block
 pub reading_whole : {old new : ConsoleState} {script taken later : List ℕ} → IsReady old → new.pending.bytes ≡ []

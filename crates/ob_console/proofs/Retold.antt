@@ -1,6 +1,5 @@
 -- A run of a journal's script, with the lines that `--more` adds, prints what its entries were answered.
-use Rattle.ob_console.proofs.Cited.{◌≡◌, ◌⊎◌, inl, inr, ℕ, suc, ◌+◌, ◌-◌, ◌≤◌, arith, refl, ap, sym, subst, ◌∙◌, List, [], ◌∷◌, ◌++◌, length, take, length-take, All, Bool, true, false, ◌==◌, Option, Some, None, append-nil, true≢false, and_right, cases_Bool, not-true, or_parts, ◌≢◌, slice_index, ◌||◌, concat, flat_map-append, All-tail, Reclaim, IsConsistent, State, Whole, opening, settled, Reply, Refused, Outcome, IfReap, reap, Step, does, closes, lacks, final, is_lack, outcome_of, reclaim_in, Entry, printed, printed_reply, Nothing, command_of, command_of_text, AnswersAll, AnswersTo, Point, Prints, Run, last_line, with_ends, asking, comment, is_held, is_held_slot, is_repeatable, AnswersOtherwise, FitsEntry, Retells, RetellsTo, answer, is_line, script_of}
-use Rattle.std.proofs.lemmas.Bool.Decides.{nat_tests}
+use Rattle.ob_console.proofs.Cited.{All-head, nat_tests, ◌≡◌, ◌⊎◌, inl, inr, ℕ, suc, ◌+◌, ◌-◌, ◌≤◌, arith, refl, ap, sym, subst, ◌∙◌, List, [], ◌∷◌, ◌++◌, length, take, length-take, All, Bool, true, false, ◌==◌, Option, Some, None, append-nil, true≢false, and_right, cases_Bool, not-true, or_parts, ◌≢◌, slice_index, ◌||◌, concat, flat_map-append, All-tail, Reclaim, IsConsistent, State, Whole, opening, settled, Reply, Refused, Outcome, IfReap, reap, Step, does, closes, lacks, final, is_lack, outcome_of, reclaim_in, Entry, printed, printed_reply, Nothing, command_of, command_of_text, AnswersAll, AnswersTo, Point, Prints, Run, last_line, with_ends, asking, comment, is_held, is_held_slot, is_repeatable, AnswersOtherwise, FitsEntry, Retells, RetellsTo, answer, is_line, script_of}
 use Rattle.ob_rights.specs.declared.fault.Fault.TheVariants as fault
 use Rattle.ob_manager.specs.Calls.{Call}
 use Rattle.ob_manager.specs.declared.call.CallOf.TheVariants as calls
@@ -29,8 +28,7 @@ comment_is_nothing more text =
 -- what a call comes to depends on its answer only where a slot is taken back
 same_outcome : (s : State) (call : Call) (a b : Reply) → IfReap call (λ slot. reclaim_in a ≡ reclaim_in b)
     → outcome_of s call a ≡ outcome_of s call b
-same_outcome s (calls.Reap slot) a b same = ap (reap s slot) same
-same_outcome s call a b same = refl
+same_outcome s call a b same = grind arith
 
 -- memory was wanting, or the answer is what the call comes to
 told : (w v : Whole) (call : Call) (reply : Reply) → Step w call reply v
@@ -38,15 +36,12 @@ told : (w v : Whole) (call : Call) (reply : Reply) → Step w call reply v
       reply = reply;
       state = v.state;
     })
-told w v call reply (does is keeps) = inr is
-told w v call reply (closes duplicates gives only) = inr (ap (final w.state) gives)
-told w v call reply (lacks takes ok refused same) = inl refused
+told w v call reply step = grind arith
 
 -- what cannot be made again left the state
 held_next : (s : State) (call : Call) (reply : Reply) → settled s ≡ s → is_held call reply ≡ true
     → (final s (outcome_of s call reply)).state ≡ s
-held_next s (calls.Reap slot) reply still held = grind arith
-held_next s call reply still held = absurd (true≢false (sym held))
+held_next s call reply still held = grind arith
 
 unrepeatable : (w v : Whole) (call : Call) (reply : Reply) → settled w.state ≡ w.state
     → is_repeatable call reply ≡ false → Step w call reply v → v.state ≡ w.state
@@ -73,7 +68,7 @@ module _ (w u : Whole) (p q : Point) (number : ℕ) (entry : Entry) (output : Li
   First = ((output ≡ answer entry) × (q.whole.state ≡ u.state)) ⊎ AnswersOtherwise entry output
 
   silent : u.state ≡ w.state → is_line entry ≡ false → (output ≡ []) × (q ≡ p) → First
-  silent same none prints = inl (rw none prints.0, rw (prints.1, same) level)
+  silent same none prints = search arith
 
   answered : (found : Reply) → output ≡ printed found → is_line entry ≡ true
       → is_repeatable entry.call entry.reply ≡ true → Step p.whole entry.call found q.whole → First
@@ -140,9 +135,7 @@ retold entries w v p q number outputs kept replays fits level more run = absurd 
 told_over : (Behind : Type 0) (entries : List Entry) (output : List ℕ) → RetellsTo entries output Behind
     → Retells entries output
 told_over Behind [] output h = h.0
-told_over Behind (entry ∷ entries) output (one, rest, is, inl same) =
-    (one, rest, is, inl (same.0, told_over Behind entries rest same.1))
-told_over Behind (entry ∷ entries) output (one, rest, is, inr departs) = (one, rest, is, inr departs)
+told_over Behind (entry ∷ entries) output h = grind (arith, told_over Behind entries h.1)
 
 -- the script's text is its lines
 text_is : (journal : List Entry) → script_of journal ≡ with_ends (lines_in journal)

@@ -15,19 +15,13 @@ refused s thread mode timeout handles long = search arith
 
 beginning_waits : (s : State) (thread : ℕ) (mode : Mode) (timeout : Timeout) (handles : List ℕ)
     → wait s thread mode timeout (take 65 handles) ≡ wait s thread mode timeout handles
-beginning_waits s thread mode timeout handles = elim (cases_lt 64 (length handles)) [
-  | inl long ↦
-      let part : 64 < length (take 65 handles) = omega (arith, length-take-le 65 handles (omega arith)) in
-      search (arith, refused)
-  | inr few ↦ rw (take_all 65 handles (omega arith))
-]
+beginning_waits s thread mode timeout handles =
+    grind (arith, cases_lt 64 (length handles), length-take-le 65 handles, refused, take_all 65 handles)
 
 step_of_beginning : (w : Whole) (thread : ℕ) (mode : Mode) (timeout : Timeout) (handles : List ℕ) (reply : Reply)
     (v : Whole) → Step w (calls.WaitFor thread mode timeout (take 65 handles)) reply v
     → Step w (calls.WaitFor thread mode timeout handles) reply v
-step_of_beginning w thread mode timeout handles reply v (does comes keeps) = search (arith, beginning_waits)
-step_of_beginning w thread mode timeout handles reply v (closes is comes keeps) = search arith
-step_of_beginning w thread mode timeout handles reply v (lacks takes there lack same) = search (arith, beginning_waits)
+step_of_beginning w thread mode timeout handles reply v step = search (arith, beginning_waits)
 
 prints_whole : (p : Point) (number : ℕ) (act : Command) (output : List ℕ) (q : Point)
     → Prints p number (shortened act) output q → Prints p number act output q

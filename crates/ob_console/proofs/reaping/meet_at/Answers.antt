@@ -3,7 +3,7 @@ use Rattle.ob_console.proofs.Sparing.{spares}
 use Rattle.ob_console.proofs.reaping.meet_at.Goals as goal
 
 pub returns-in-Some-clause-spares : goal.returns-in-Some-clause-spares
-returns-in-Some-clause-spares c = λ before reply step.
+returns-in-Some-clause-spares c before reply step =
     let there = c.in-Some.ensures.is_there in
     let inside = rw (c.slot_of_held-slot.ensures.slot, c.same_shape.ensures) at c.slot_of_held-slot.ensures.inside in
     rw there.0 at (spares before c.args.manager.now c.args.reader.now.view c.meet.new.reader.view c.in-Some.id reply

@@ -26,4 +26,4 @@ pub loop-i-preserved : goal.loop-i-preserved
 loop-i-preserved g c = grind (arith, length-take-le, reading_on, reading_same)
 
 pub returns-clause-answers : goal.returns-clause-answers
-returns-clause-answers g c = reading_fails c.loop-i.invariant.reading
+returns-clause-answers g c = search (arith, reading_fails)

@@ -19,5 +19,4 @@ loop-end-preserved g c =
     }
 
 pub returns-clause-ok : goal.returns-clause-ok
-returns-clause-ok g c = fed_rest (rw (← c.self.view_is) at c.loop-end.invariant.fed)
-    (search (arith, part_advances, rest_within, c.in_default.ensures.none)) refl
+returns-clause-ok g c = search (arith, fed_rest, part_advances, rest_within, c.in_default.ensures.none, ← c.self.view_is)

@@ -3,11 +3,8 @@ use Rattle.ob_console.proofs.Advancing.{finishes_empty, finishes_line}
 use Rattle.ob_console.proofs.console.Console.last_line.Goals as goal
 
 pub returns-then-is_empty-clause-finishes : goal.returns-then-is_empty-clause-finishes
-returns-then-is_empty-clause-finishes g c = rw (← c.self.view_is) (
-  [],
-  finishes_empty _ (c.is_empty.ensures.0 c.if-is_empty.true),
-  search (arith, append-nil),
-)
+returns-then-is_empty-clause-finishes g c =
+    rw (← c.self.view_is) ([], search (arith, finishes_empty), search (arith, append-nil))
 
 pub returns-clause-finishes : goal.returns-clause-finishes
 returns-clause-finishes g c =

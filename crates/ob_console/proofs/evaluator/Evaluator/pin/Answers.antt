@@ -1,4 +1,4 @@
-use Rattle.ob_console.proofs.Cited.{◌++◌, refl, line_end, printed_pin, put_written}
+use Rattle.ob_console.proofs.Cited.{arith, ◌++◌, refl, line_end, printed_pin, put_written}
 use Rattle.ob_console.proofs.evaluator.Evaluator.pin.Goals as goal
 
 pub returns-clause-prints : goal.returns-clause-prints
