@@ -1,5 +1,5 @@
 -- A console advances line by line, and what it has written is the beginning of an answer to its input.
-use Rattle.ob_console.proofs.Cited.{IsOutput, Option, ◌≡◌, ℕ, ◌+◌, List, [], ◌∷◌, ◌++◌, length, Some, refl, subst, arith, concat, append_assoc, append-nil, length-append, Command, command_of, line_end, Point, Prints, Run, IsWithin, AnswersLines, AnswersPart, last_line, ConsoleState, IsReady, Session, Advances, Finishes}
+use Rattle.ob_console.proofs.Cited.{◌≡◌, ℕ, ◌+◌, List, [], ◌∷◌, ◌++◌, length, Some, refl, subst, arith, concat, append_assoc, append-nil, length-append, Command, command_of, line_end, Point, Prints, Run, IsWithin, AnswersLines, AnswersPart, last_line, ConsoleState, IsReady, Session, Advances, Finishes}
 use Rattle.std.proofs.lemmas.List.Folds.{concat-append}
 use Rattle.ob_script.specs.PartialLines.{capped, extended_line, command_of_partial_line}
 use Rattle.ob_script.proofs.Texts.{command_of_capped, more_capped}
@@ -77,14 +77,8 @@ pub finishes_empty : (console : ConsoleState) → console.held ≡ Some [] → F
 finishes_empty console held first input before session = search (arith, append-nil)
 
 -- a last line without a line feed
-last_is : (held : Option (List ℕ)) (rest : List ℕ) → held ≡ capped rest → (held ≡ Some [] → ⊥)
-    → last_line rest ≡ rest ∷ []
-last_is held [] is some = absurd (some is)
-last_is held (byte ∷ rest) is some = refl
-
 pub finishes_line : (old : ConsoleState) (last : Point) (output : List ℕ) → (old.held ≡ Some [] → ⊥)
-    → Prints old.point (old.lines + 1) (command_of_partial_line old.point.more old.held) output last
-    → Finishes old output last
+    → Prints old.point (old.lines + 1) (command_of_partial_line old.point.more old.held) output last → Finishes old output last
 finishes_line old last output some prints first input before session =
     let of_line : Prints old.point (1 + length session.lines) (command_of old.point.more session.rest) output last =
     search (arith, command_of_capped) in

@@ -1,5 +1,5 @@
 -- Every call may be answered, in any state whose slots may be pinned at all, and whatever a reader holds.
-use Rattle.ob_console.proofs.Cited.{◌≡◌, ◌⊎◌, inl, inr, ℕ, ◌<◌, List, ◌∷◌, true, None, Result, Ok, Err, refl, ap, arith, nat_le, slice_index_or, cases_Bool, Id, decoded, encoded, slot_of, Reclaim, look, Whole, settled, Reply, Reaped, Refused, Outcome, ◌>>=◌, refuse_if, IfReap, if_ended, reap, Step, does, outcome_of, takes_memory, final, KeeperAfter, Looks, Spares}
+use Rattle.ob_console.proofs.Cited.{◌≡◌, ◌⊎◌, inl, inr, ℕ, ◌<◌, List, ◌∷◌, true, None, Result, Ok, Err, refl, arith, nat_le, slice_index_or, cases_Bool, Id, encoded, slot_of, Reclaim, look, Whole, settled, Reply, Reaped, Refused, Outcome, ◌>>=◌, refuse_if, IfReap, if_ended, reap, Step, outcome_of, takes_memory, KeeperAfter, Looks, Spares}
 use Rattle.pin_core.specs.declared.word.Word.{Word}
 use Rattle.pin_words.specs.declared.pin_keeper.Reclaim.TheVariants as reclaim
 use Rattle.pin_words.specs.Keepers.{KeeperState, ReclaimsFound, with_looks}
@@ -32,8 +32,7 @@ rests : (w : Whole) (call : Call) → AsksNoSlot call
 rests w (calls.Reap slot) none = absurd (none (λ slot. ⊥))
 rests w call _ = search (arith, cases_Bool (takes_memory w.state call))
 
-replied : (w : Whole) (call : Call) (reply : Reply) (next : Whole) → AsksNoSlot call → Step w call reply next
-    → CanAnswer w call
+replied : (w : Whole) (call : Call) (reply : Reply) (next : Whole) → AsksNoSlot call → Step w call reply next → CanAnswer w call
 replied w call reply next none step =
     record { reply = reply; next = next; step = step; looks = none _; spares = λ held. none _ }
 
@@ -54,8 +53,7 @@ pinned_word k slot =
 abbrev found_pinned : KeeperState → ℕ → KeeperState
 found_pinned k slot = with_looks k (look slot (encoded (pinned_word k slot)) ∷ k.looks)
 
-finds_pinned : (k : KeeperState) (slot : ℕ) → 0 < k.shape.max_pins
-    → ReclaimsFound k slot (reclaim.Held 1) (found_pinned k slot)
+finds_pinned : (k : KeeperState) (slot : ℕ) → 0 < k.shape.max_pins → ReclaimsFound k slot (reclaim.Held 1) (found_pinned k slot)
 finds_pinned k slot pins = (encoded (pinned_word k slot), search arith, search arith, search arith)
 
 -- a slot that is reaped may be pinned

@@ -1,5 +1,5 @@
 -- A try to pin between two meetings.
-use Rattle.ob_console.proofs.Cited.{◌≡◌, ℕ, ◌<◌, ◌≤◌, Bool, List, [], ◌∷◌, ◌++◌, Option, slice_index_or, sym, refl, ap, subst, ◌∙◌, inl, inr, arith, Result, Err, cases_eq, Id, decoded, slot_of, opening_slot, ReaderView, look, reader_looked, IsConsistent, IsMet, State, Whole, generation_of, shape_of, Finds, IsWord, Judged, Pins, phase_in, phase_at}
+use Rattle.ob_console.proofs.Cited.{◌≡◌, ℕ, ◌<◌, ◌≤◌, Bool, List, [], ◌∷◌, ◌++◌, Option, slice_index_or, sym, refl, ap, ◌∙◌, inl, inr, arith, Result, Err, cases_eq, Id, decoded, slot_of, opening_slot, ReaderView, look, reader_looked, IsConsistent, IsMet, State, Whole, generation_of, shape_of, Finds, IsWord, Judged, Pins, phase_in, phase_at}
 use Rattle.std.proofs.Math.ListN.{get_or-map}
 use Rattle.pin_core.specs.declared.descr.Descr.{Descr}
 use Rattle.pin_core.specs.declared.word.Phase.{Phase}
@@ -9,7 +9,7 @@ use Rattle.pin_words.specs.declared.fault.Verdict.TheVariants.{Go}
 use Rattle.pin_words.specs.declared.fault.PinFault.{PinFault}
 use Rattle.pin_words.specs.declared.fault.PinFault.TheVariants as fault
 use Rattle.pin_words.specs.declared.view.Look.{Look}
-use Rattle.pin_words.specs.Plays.{Show, NoLater, Behind, TellsReader}
+use Rattle.pin_words.specs.Plays.{NoLater, Behind, TellsReader}
 use Rattle.pin_words.specs.Shown.{word_age}
 use Rattle.pin_words.specs.Tries.{FollowsLook}
 use Rattle.pin_words.specs.Verdicts.{verdict_of}
@@ -30,9 +30,8 @@ told_looks : (tried : Result (Unit {0}) PinFault) (m r : ReaderView) (id : Id) (
 told_looks tried m r id res told = grind arith
 
 -- a try that was refused holds nothing more
-refused : (e : PinFault) (tried : Result (Unit {0}) PinFault) (m r : ReaderView) (id : Id)
-    (res : Result Descr PinFault) (held : List Id)
-    → tried ≡ Err e → m.held ≡ held → Told tried m id res r → (res ≡ Err e) × (r.held ≡ held)
+refused : (e : PinFault) (tried : Result (Unit {0}) PinFault) (m r : ReaderView) (id : Id) (res : Result Descr PinFault)
+    (held : List Id) → tried ≡ Err e → m.held ≡ held → Told tried m id res r → (res ≡ Err e) × (r.held ≡ held)
 refused e tried m r id res held is same told = search arith
 
 -- a try begins with a look, which is no later than a word before which the try's looks are
@@ -70,27 +69,17 @@ judged Go Found w r m r3 r4 id n tried res second consistent inside a told met =
 judged vd Found w r m r3 r4 id n tried res second consistent inside a told met = search (arith, refused)
 
 pub pins : (w : Whole) (r r1 r3 r4 : ReaderView) (id : Id) (res : Result Descr PinFault) → IsConsistent w
-    → r.shape ≡ shape_of w.state.limits → id.slot < w.state.limits.slots
-    → IsMet w.keeper r id.slot r1 → Attempts r1 id res r3 → IsMet w.keeper r3 id.slot r4
-    → Pins w.state r.held r.looks id res r4.held r4.looks
+    → r.shape ≡ shape_of w.state.limits → id.slot < w.state.limits.slots → IsMet w.keeper r id.slot r1 → Attempts r1 id res r3
+    → IsMet w.keeper r3 id.slot r4 → Pins w.state r.held r.looks id res r4.held r4.looks
 pins w r r1 r3 r4 id res consistent shape inside met1 attempts met2 = rw met2.2.1 (record {
   no_slot = λ out. absurd (omega arith);
-  full = λ _ many.
-      let f = trial.tries.full fits many in
+  full = λ _ many. let f = trial.tries.full fits many in
       refused _ trial.tried trial.middle r3 id res r.held f.0 (ap (λ (z : ReaderView). z.held) f.1) trial.told;
-  tried = λ _ few.
-      let t = trial.tries.tried fits few in
-      let by = by_word t.0 t.1 t.2 in (t.0, by.0, by.1, by.2);
+  tried = λ _ few. let t = trial.tries.tried fits few in let by = by_word t.0 t.1 t.2 in (t.0, by.0, by.1, by.2);
 })
   where
-    n1 : ℕ
-    n1 = met1.2.0
-
-    n2 : ℕ
-    n2 = met2.2.0
-
     seen : ReaderView
-    seen = reader_looked r id.slot n1
+    seen = reader_looked r id.slot met1.2.0
 
     trial : Attempts seen id res r3
     trial = rw met1.2.1 at attempts
@@ -111,7 +100,7 @@ pins w r r1 r3 r4 id res consistent shape inside met1 attempts met2 = rw met2.2.
     generation = rw consistent.generations (get_or-map generation_of w.keeper.slots id.slot opening_slot)
 
     Found : ℕ → Type 0
-    Found = Finds id.slot r.looks (look id.slot n2 ∷ r3.looks)
+    Found = Finds id.slot r.looks (look id.slot met2.2.0 ∷ r3.looks)
 
     by_word : (n : ℕ) → TellsReader seen id.slot n
         → FollowsLook (verdict_of r.shape.max_pins id (decoded n)) seen id n trial.tried trial.middle
@@ -120,21 +109,17 @@ pins w r r1 r3 r4 id res consistent shape inside met1 attempts met2 = rw met2.2.
     by_word n tells a =
         let verdict = verdict_of r.shape.max_pins id (decoded n) in
         let first = begins_with verdict seen id n trial.tried trial.middle a in
-        let high = looked_before first.0 seen.looks id.slot n n2 (rw (looks, first.1) at met2.2.2.looks) in
-        let both = between n1 n n2 here.generation here.phase
+        let high = looked_before first.0 seen.looks id.slot n met2.2.0 (rw (looks, first.1) at met2.2.2.looks) in
+        let both = between met1.2.0 n met2.2.0 here.generation here.phase
         (rw met1.1.slots at met1.2.3.generation) (rw met1.1.slots at met1.2.3.phase)
         (rw met2.1.slots at met2.2.3.generation) (rw met2.1.slots at met2.2.3.phase) (tells.looks.0 refl).0 high.0 in
         let second : (k : ℕ) → trial.middle ≡ reader_looked (reader_looked seen id.slot n) id.slot k → Found k =
         λ k is. (
-          look id.slot n2 ∷ [],
-          look id.slot n ∷ look id.slot n1 ∷ [],
-          ap (λ ls. look id.slot n2 ∷ ls) (looks ∙ ap (λ (z : ReaderView). z.looks) is),
+          look id.slot met2.2.0 ∷ [],
+          look id.slot n ∷ look id.slot met1.2.0 ∷ [],
+          ap (λ ls. look id.slot met2.2.0 ∷ ls) (looks ∙ ap (λ (z : ReaderView). z.looks) is),
         ) in (
-          (
-            look id.slot n2 ∷ first.0,
-            look id.slot n1 ∷ [],
-            ap (λ ls. look id.slot n2 ∷ ls) (looks ∙ first.1),
-          ),
+          (look id.slot met2.2.0 ∷ first.0, look id.slot met1.2.0 ∷ [], ap (λ ls. look id.slot met2.2.0 ∷ ls) (looks ∙ first.1)),
           record {
             generation = both.0 ∙ sym generation;
             phase = both.1 ∙ sym phase;

@@ -1,5 +1,5 @@
 -- The lines of a journal's script are those into which its text is cut.
-use Rattle.ob_console.proofs.Cited.{All-head, nat_tests, ◌≡◌, ℕ, arith, refl, ap, sym, List, [], ◌∷◌, ◌++◌, length, length-append, All, ◌≢◌, flat_map, eqb-false, not-true, append_assoc, All-cons, All-nil, All-tail, AllPass-from_list_all, IsWithin, with_ends, Entry, printed_reply, comment, is_repeatable, lines_for}
+use Rattle.ob_console.proofs.Cited.{◌≡◌, ℕ, arith, refl, ap, sym, List, [], ◌∷◌, ◌++◌, length, length-append, All, ◌≢◌, flat_map, eqb-false, not-true, append_assoc, All-cons, All-nil, All-tail, AllPass-from_list_all, IsWithin, with_ends, Entry, printed_reply, comment, is_repeatable, lines_for}
 use Rattle.ob_script.proofs.Within.{HasNone, asking_has, comment_has, reply_has}
 
 -- each entry by its lines

@@ -5,8 +5,7 @@ use Rattle.ob_manager.specs.Counting.{card}
 use Rattle.ob_manager.specs.declared.card.Card.{Card}
 
 pub met_found : (w : Whole) (r r' : ReaderView) (id : Id) → IsConsistent w → id.slot < w.state.limits.slots
-    → 0 < tally (same_id id) r.held → IsMet w.keeper r id.slot r'
-    → IsFound id r (slice_index_or w.state.objects id.slot None)
+    → 0 < tally (same_id id) r.held → IsMet w.keeper r id.slot r' → IsFound id r (slice_index_or w.state.objects id.slot None)
 met_found w r r' id consistent inside held met =
     let there = met.2.3.held id held refl in search arith
 

@@ -1,6 +1,5 @@
 -- Runs go on.
-use Rattle.ob_console.proofs.Cited.{◌≡◌, ℕ, ◌+◌, ◌<◌, List, [], ◌∷◌, ◌++◌, length, refl, ap, subst, arith, if◌then◌else◌, drop_last, same_id, directory_of, shown_of, Command, Nothing, Bad, ListNames, Asks, Pin, Unpin, ShowCard, command_of, printed, printed_card, printed_names, printed_pin, printed_unpin, bad_line, line_end, Point, Prints, Run}
-use Rattle.ob_console.specs.Pinning.{is_held}
+use Rattle.ob_console.proofs.Cited.{◌≡◌, ℕ, ◌+◌, ◌<◌, List, [], ◌∷◌, ◌++◌, length, refl, subst, arith, Command, Asks, Pin, Unpin, ShowCard, command_of, Point, Prints, Run}
 use Rattle.ob_manager.proofs.TableLaws.{step_shape}
 use Rattle.ob_console.proofs.Answerable.{can_answer}
 use Rattle.ob_console.proofs.Pinnable.{can_pin}

@@ -1,5 +1,5 @@
 -- Any input is lines and the beginning of one more.
-use Rattle.ob_console.proofs.Cited.{arith, ◌≡◌, ◌≢◌, ℕ, List, [], ◌∷◌, ◌++◌, ap, inl, inr, cases_eq, append_assoc, All-append, All-nil, All-cons, All-head, All-tail, flat_map-append, line_end, Splits, IsWithin}
+use Rattle.ob_console.proofs.Cited.{arith, ◌≡◌, ◌≢◌, ℕ, List, [], ◌∷◌, ◌++◌, inl, inr, cases_eq, append_assoc, All-append, All-nil, All-cons, All-head, All-tail, flat_map-append, line_end, Splits, IsWithin}
 
 -- an input has lines and a rest
 pub record HasLines (input : List ℕ) : Type 0 where

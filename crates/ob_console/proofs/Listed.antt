@@ -18,9 +18,8 @@ printed_next : (rows done : Rows) (row : ObjectName × Id)
 printed_next rows done row = search (arith, append_assoc, flat_map-append)
 
 -- the row is written or pending
-pub row_written : (rows : Rows) (row : ObjectName × Id) (left : Rows) (a b c first pending rest : List ℕ) →
-    IsListed rows (row ∷ left) a b first pending → Writes b c (pending ++ printed_row row) rest
-    → IsListed rows left a c first rest
+pub row_written : (rows : Rows) (row : ObjectName × Id) (left : Rows) (a b c first pending rest : List ℕ)
+    → IsListed rows (row ∷ left) a b first pending → Writes b c (pending ++ printed_row row) rest → IsListed rows left a c first rest
 row_written rows row left a b c first pending rest one two = record {
   done = one.done ++ row ∷ [];
   whole = append_assoc one.done (row ∷ []) left ∙ one.whole;
@@ -28,9 +27,8 @@ row_written rows row left a b c first pending rest one two = record {
 }
 
 -- the sink fails at a row
-pub row_begun : (rows : Rows) (row : ObjectName × Id) (left : Rows) (a b c first pending : List ℕ) →
-    IsListed rows (row ∷ left) a b first pending → Begins b c (pending ++ printed_row row)
-    → Begins a c (first ++ printed_names rows)
+pub row_begun : (rows : Rows) (row : ObjectName × Id) (left : Rows) (a b c first pending : List ℕ)
+    → IsListed rows (row ∷ left) a b first pending → Begins b c (pending ++ printed_row row) → Begins a c (first ++ printed_names rows)
 row_begun rows row left a b c first pending one two =
     subst (λ back. Begins a c back) (search (arith, append_assoc, flat_map-append))
     (begins_more a c (first ++ printed_first rows (one.done ++ row ∷ [])) (flat_map printed_row left)

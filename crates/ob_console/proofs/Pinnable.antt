@@ -4,7 +4,7 @@ use Rattle.pin_core.specs.declared.descr.Descr.{Descr}
 use Rattle.pin_core.specs.declared.word.Word.{Word}
 use Rattle.pin_core.proofs.Counts.{tally-count}
 use Rattle.pin_words.specs.declared.fault.Verdict.{Verdict}
-use Rattle.pin_words.specs.declared.fault.Verdict.TheVariants.{Unborn, Stale, PinsFull, Go}
+use Rattle.pin_words.specs.declared.fault.Verdict.TheVariants.{Go}
 use Rattle.pin_words.specs.declared.fault.PinFault.{PinFault}
 use Rattle.pin_words.specs.declared.fault.PinFault.TheVariants as fault
 use Rattle.pin_words.specs.Verdicts.{verdict_of}

@@ -1,5 +1,5 @@
 -- A run between two reads, and how it ends.
-use Rattle.ob_console.proofs.Cited.{arith, ◌≡◌, ℕ, Bool, List, [], ◌++◌, Result, Ok, Err, refl, ◌∙◌, IsErrOf, append_assoc, append-nil, Point, AnswersTo, AnswersLines, AnswersPart, IsCut, IsEnded, IsOpening, IsWholeEnded, Writes, Begins, ConsoleState, IsReady, Session, IsFed, IsCutShort, Finishes, Ends}
+use Rattle.ob_console.proofs.Cited.{arith, ◌≡◌, ℕ, Bool, List, [], ◌++◌, Result, Ok, Err, refl, IsErrOf, append_assoc, append-nil, Point, AnswersTo, AnswersLines, AnswersPart, IsCut, IsEnded, IsOpening, IsWholeEnded, Writes, Begins, ConsoleState, IsReady, Session, IsFed, IsCutShort, Finishes, Ends}
 use Rattle.ob_tables.specs.declared.limits.Limits.{Limits}
 use Rattle.ob_console.specs.declared.script.RunFault.{RunFault}
 use Rattle.ob_console.specs.declared.script.RunFault.TheVariants.{Memory, Read, Write}
@@ -43,15 +43,12 @@ module _ {first : Point} {console : ConsoleState} {given_before given taken_befo
     pub writing_fails : {new : ConsoleState} {block : List ℕ} → more ≡ given ++ block
         → IsCutShort console new block taken later → HasRun (AnswersPart first) given_before more taken_before later
     writing_fails read short =
-        let begins = short.written in
-        let session = short.advances first reading.input reading.output reading.session in
-        let part : (reading.output ++ begins.1.done) ++ begins.0 ≡ reading.output ++ short.printed =
-        search (arith, append_assoc) in (
+        let session = short.advances first reading.input reading.output reading.session in (
           (reading.input ++ short.front) ++ short.rest,
-          reading.output ++ begins.1.done,
+          reading.output ++ short.written.1.done,
           search (arith, append_assoc),
           search (arith, append_assoc),
-          search (arith, answers_part),
+          answers_part first _ _ _ short.written.0 short.rest _ (search (arith, append_assoc)) session,
         )
 
     module _ {printed : List ℕ} {last : Point} (read : more ≡ given ++ [])
@@ -85,15 +82,13 @@ pub cut_from : (fault : RunFault) (Begins : Point → Type 0) (first last : Poin
 cut_from Memory Begins first last input output begins ends = absurd ends
 cut_from fault Begins first last input output begins ends = (first, begins, ends)
 
-pub run_ended : (r : Result (Unit {0}) RunFault) (more : Bool) (limits : Limits) (first last : Point)
-    (input output : List ℕ) → IsOpening more limits first → Ends r first input output last
-    → IsEnded r more limits input output
+pub run_ended : (r : Result (Unit {0}) RunFault) (more : Bool) (limits : Limits) (first last : Point) (input output : List ℕ)
+    → IsOpening more limits first → Ends r first input output last → IsEnded r more limits input output
 run_ended (Ok unit) more limits first last input output opens ends = (first, last, opens, ends)
 run_ended (Err fault) more limits first last input output opens ends = search (arith, cut_from)
 
-pub whole_ended : (r : Result (Unit {0}) RunFault) (more : Bool) (limits : Limits) (first last : Point)
-    (input output : List ℕ) → (IsErrOf r Read → ⊥) → IsOpening more limits first → Ends r first input output last
-    → IsWholeEnded r more limits input output
+pub whole_ended : (r : Result (Unit {0}) RunFault) (more : Bool) (limits : Limits) (first last : Point) (input output : List ℕ)
+    → (IsErrOf r Read → ⊥) → IsOpening more limits first → Ends r first input output last → IsWholeEnded r more limits input output
 whole_ended (Ok unit) more limits first last input output none opens ends = (first, last, opens, ends)
 whole_ended (Err Read) more limits first last input output none opens ends = absurd (none refl)
 whole_ended (Err Write) more limits first last input output none opens ends = (first, opens, ends)

@@ -1,5 +1,6 @@
 -- A run of a journal's script, with the lines that `--more` adds, prints what its entries were answered.
-use Rattle.ob_console.proofs.Cited.{All-head, nat_tests, ◌≡◌, ◌⊎◌, inl, inr, ℕ, suc, ◌+◌, ◌-◌, ◌≤◌, arith, refl, ap, sym, subst, ◌∙◌, List, [], ◌∷◌, ◌++◌, length, take, length-take, All, Bool, true, false, ◌==◌, Option, Some, None, append-nil, true≢false, and_right, cases_Bool, not-true, or_parts, ◌≢◌, slice_index, ◌||◌, concat, flat_map-append, All-tail, Reclaim, IsConsistent, State, Whole, opening, settled, Reply, Refused, Outcome, IfReap, reap, Step, does, closes, lacks, final, is_lack, outcome_of, reclaim_in, Entry, printed, printed_reply, Nothing, command_of, command_of_text, AnswersAll, AnswersTo, Point, Prints, Run, last_line, with_ends, asking, comment, is_held, is_held_slot, is_repeatable, AnswersOtherwise, FitsEntry, Retells, RetellsTo, answer, is_line, script_of}
+use Rattle.ob_console.proofs.Cited.{◌≡◌, ◌⊎◌, inl, inr, ℕ, suc, ◌+◌, ◌-◌, ◌≤◌, arith, refl, ap, sym, subst, ◌∙◌, List, [], ◌∷◌, ◌++◌, length, take, length-take, All, Bool, true, false, ◌==◌, Option, Some, None, append-nil, true≢false, and_right, cases_Bool, not-true, or_parts, ◌≢◌, slice_index, ◌||◌, concat, flat_map-append, All-tail, Reclaim, IsConsistent, State, Whole, opening, settled, Reply, Refused, Outcome, IfReap, Step, final, is_lack, outcome_of, reclaim_in, Entry, printed, printed_reply, Nothing, command_of, command_of_text, AnswersAll, AnswersTo, Point, Prints, Run, last_line, with_ends, asking, comment, is_held, is_held_slot, is_repeatable, AnswersOtherwise, FitsEntry, Retells, RetellsTo, answer, is_line, script_of}
+use Rattle.std.proofs.lemmas.Bool.Decides.{nat_tests}
 use Rattle.ob_rights.specs.declared.fault.Fault.TheVariants as fault
 use Rattle.ob_manager.specs.Calls.{Call}
 use Rattle.ob_manager.specs.declared.call.CallOf.TheVariants as calls
@@ -51,8 +52,7 @@ unrepeatable w v call reply still never step = grind (arith, step_next w v call 
 slots : (found due : Reclaim) → is_held_slot due ≡ false → (found ≡ due) ⊎ (found ≢ due)
 slots found due free = grind arith
 
-decide : (call : Call) (due found : Reply) → is_held call due ≡ false
-    → IfReap call (λ slot. reclaim_in found ≡ reclaim_in due)
+decide : (call : Call) (due found : Reply) → is_held call due ≡ false → IfReap call (λ slot. reclaim_in found ≡ reclaim_in due)
     ⊎ ((slot : ℕ) × (call ≡ calls.Reap slot) × (reclaim_in found ≢ reclaim_in due))
 decide (calls.Reap slot) due found free = elim (slots (reclaim_in found) (reclaim_in due) free) [
   | inl same ↦ inl same
@@ -98,14 +98,11 @@ module _ (w u : Whole) (p q : Point) (number : ℕ) (entry : Entry) (output : Li
           → Prints p number (command_of p.more (asking again line)) output q → First
       by None again none is prints =
           silent (ap (λ (x : Whole). x.state) (lineless_is_refused w u entry.call entry.reply fits none step).0)
-          (rw none (and_right (is_repeatable entry.call entry.reply) false refl))
-          prints
-      by (Some line) false some is prints =
-          silent (unrepeatable w u entry.call entry.reply kept.still is step) (rw is)
+          (rw none (and_right (is_repeatable entry.call entry.reply) false refl)) prints
+      by (Some line) false some is prints = silent (unrepeatable w u entry.call entry.reply kept.still is step) (rw is)
           (rw (comment_is_nothing p.more line) at prints)
       by (Some line) true some is prints =
-          let read = rw some at (line_is_read entry.call fits) in
-          let asks = rw read at (rw more at prints) in
+          let read = rw some at (line_is_read entry.call fits) in let asks = rw read at (rw more at prints) in
           answered asks.0 asks.5 (rw (is, some)) is ((answered_alike p.whole q.whole entry.call asks.0).0 asks.1)
 
 retold : (entries : List Entry) (w v : Whole) (p q : Point) (number : ℕ) (outputs : List (List ℕ)) → IsConsistent w
@@ -116,24 +113,17 @@ retold (entry ∷ entries) w v p q number (output ∷ []) kept replays fits leve
 retold (entry ∷ entries) w v p q number (output ∷ silence ∷ outputs) kept replays fits level more run =
     let second = rw (comment_is_nothing run.0.more (printed_reply entry.reply)) at run.2.1 in
     elim (first w replays.0 p run.0 number entry output kept replays.1 (fits 0 entry (omega arith)) level more run.1) [
-      | inl same ↦ (
-        output,
-        concat outputs,
-        rw second.0,
-        inl (
-          same.0,
-          retold entries replays.0 v run.2.0 q (number + 1 + 1) outputs replays.2 replays.3
-              (All-tail FitsEntry entry entries fits) (rw second.1 same.1)
-              (rw second.1 (prints_more p number _ output run.0 run.1 ∙ more)) run.2.2,
-        ),
-      )
+      | inl same ↦
+          let behind = retold entries replays.0 v run.2.0 q (number + 1 + 1) outputs replays.2 replays.3
+          (All-tail FitsEntry entry entries fits) (rw second.1 same.1)
+          (rw second.1 (prints_more p number _ output run.0 run.1 ∙ more)) run.2.2 in
+          (output, concat outputs, rw second.0, inl (same.0, behind))
       | inr departs ↦ (output, silence ++ concat outputs, refl, inr departs)
     ]
 retold entries w v p q number outputs kept replays fits level more run = absurd run
 
 -- what is printed, whatever is so behind it
-told_over : (Behind : Type 0) (entries : List Entry) (output : List ℕ) → RetellsTo entries output Behind
-    → Retells entries output
+told_over : (Behind : Type 0) (entries : List Entry) (output : List ℕ) → RetellsTo entries output Behind → Retells entries output
 told_over Behind [] output h = h.0
 told_over Behind (entry ∷ entries) output h = grind (arith, told_over Behind entries h.1)
 

@@ -1,10 +1,9 @@
 -- A slot of which something is held isn't taken back.
-use Rattle.ob_console.proofs.Cited.{nat_tests, ◌≡◌, ℕ, ◌<◌, List, None, Some, get_or, position, slice_index_or, sym, ◌∙◌, arith, Id, tally, same_id, Reclaim, ReaderView, is_of_slot, IsConsistent, IsMet, Whole, settled, Reply, Reaped, IfReaped, Step, does, closes, lacks, SparesHeld, IsLooked}
+use Rattle.ob_console.proofs.Cited.{◌≡◌, ℕ, ◌<◌, List, None, Some, get_or, position, arith, Id, tally, same_id, Reclaim, ReaderView, is_of_slot, IsConsistent, IsMet, Whole, settled, Reply, Reaped, IfReaped, Step, SparesHeld, IsLooked}
 use Rattle.std.proofs.lemmas.List.Quantifiers.{position-Some}
 use Rattle.std.proofs.lemmas.Option.{none-some}
 use Rattle.pin_core.proofs.Counts.{none-found, some-at}
 use Rattle.pin_core.proofs.Moves.{same_id-same}
-use Rattle.pin_words.specs.declared.pin_keeper.Reclaim.TheVariants.{Held}
 use Rattle.pin_words.specs.Keepers.{ReclaimsFound}
 use Rattle.ob_waits.proofs.Writes.{set_none}
 use Rattle.ob_store.specs.Moves.{after_reclaim}

@@ -1,6 +1,6 @@
 -- A wait for the first 65 of its handles is answered as the whole: one for more than 64 is refused, and any other
 -- keeps all.
-use Rattle.ob_console.proofs.Cited.{◌≡◌, ℕ, ◌<◌, List, Err, arith, length, take, inl, inr, cases_lt, length-take-le, take_all, Result, State, Whole, Reply, ◌>>=◌, Step, does, closes, lacks, Command, Asks, shortened, Point, Prints, Enacts, Evaluation}
+use Rattle.ob_console.proofs.Cited.{◌≡◌, ℕ, ◌<◌, List, Err, arith, length, take, cases_lt, length-take-le, take_all, Result, State, Whole, Reply, ◌>>=◌, Step, Command, Asks, shortened, Point, Prints, Enacts, Evaluation}
 use Rattle.ob_rights.specs.declared.fault.Fault.TheVariants as fault
 use Rattle.ob_waits.specs.declared.wait.Mode.{Mode}
 use Rattle.ob_manager.specs.declared.waiting.Timeout.{Timeout}
@@ -31,7 +31,6 @@ prints_whole p number act output q prints = prints
 
 -- what is answered where the first 65 handles of a wait were read is what the line is answered
 pub enacts_whole : (old : Evaluation) (number : ℕ) (act : Command) (result : Result (Unit {0}) NotWritten)
-    (taken_before taken : List ℕ) (new : Evaluation)
-    → Enacts old number (shortened act) result taken_before taken new
+    (taken_before taken : List ℕ) (new : Evaluation) → Enacts old number (shortened act) result taken_before taken new
     → Enacts old number act result taken_before taken new
 enacts_whole old number act result taken_before taken new (printed, prints, written) = search (arith, prints_whole)

@@ -1,4 +1,4 @@
-use Rattle.ob_console.proofs.Cited.{arith, rules, ◌∙◌, All-more, FitsEntry}
+use Rattle.ob_console.proofs.Cited.{arith, All-more, FitsEntry}
 use Rattle.ob_console.proofs.Written.{script_next}
 use Rattle.ob_console.proofs.retelling.script_of.Goals as goal
 

@@ -3,16 +3,12 @@ use Rattle.ob_console.proofs.Reading.{reading_on, reading_same, reading_fails, w
 use Rattle.ob_console.proofs.script.answer_all.Goals as goal
 
 pub returns-in-Ok-finish-clause-answers : goal.returns-in-Ok-finish-clause-answers
-returns-in-Ok-finish-clause-answers g c =
-    let ends = c.in-Ok-finish.ensures.finishes in
-    reading_ends c.loop-i.invariant.reading c.loop-i.invariant.written
-    (rw c.in-Ok-eq0.field-0-test at c.in-Ok-eq0.ensures.given) ends.1 ends.2
+returns-in-Ok-finish-clause-answers g c = let ends = c.in-Ok-finish.ensures.finishes in
+    reading_ends c.loop-i.invariant.reading c.loop-i.invariant.written (search arith) ends.1 ends.2
 
 pub returns-in-Err-clause-answers : goal.returns-in-Err-clause-answers
-returns-in-Err-clause-answers g c =
-    let ends = c.in-Err.ensures.finishes in
-    ending_fails c.loop-i.invariant.reading c.loop-i.invariant.written
-    (rw c.in-Ok-eq0.field-0-test at c.in-Ok-eq0.ensures.given) ends.1 ends.2
+returns-in-Err-clause-answers g c = let ends = c.in-Err.ensures.finishes in
+    ending_fails c.loop-i.invariant.reading c.loop-i.invariant.written (search arith) ends.1 ends.2
 
 pub returns-in-Err-take-clause-answers : goal.returns-in-Err-take-clause-answers
 returns-in-Err-take-clause-answers g c = writing_fails c.loop-i.invariant.reading c.loop-i.invariant.written

@@ -1,4 +1,4 @@
-use Rattle.ob_console.proofs.Cited.{arith, [], refl, sym, append-nil}
+use Rattle.ob_console.proofs.Cited.{[], refl, sym, append-nil}
 use Rattle.ob_console.proofs.Reading.{answered, reading_begins, reading_whole, reading_ends, writing_fails, ending_fails}
 use Rattle.ob_console.proofs.script.answer_whole.Goals as goal
 

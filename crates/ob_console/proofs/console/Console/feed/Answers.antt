@@ -1,12 +1,11 @@
-use Rattle.std.proofs.Common.{refl, arith}
+use Rattle.std.proofs.Common.{arith}
 use Rattle.ob_console.proofs.Advancing.{part_advances}
 use Rattle.ob_console.proofs.Feeding.{fed_line, fed_rest, cut_short, rest_within, behind_shorter}
 use Rattle.ob_console.proofs.console.Console.feed.Goals as goal
 
 pub returns-in-Err-clause-err : goal.returns-in-Err-clause-err
 returns-in-Err-clause-err g c =
-    let one = c.in-Err.ensures.advances in
-    cut_short one.0 c.loop-end.invariant.fed c.in-Some.ensures.within (search arith) one.2
+    cut_short _ c.loop-end.invariant.fed c.in-Some.ensures.within (search arith) c.in-Err.ensures.advances.2
 
 pub loop-end-preserved : goal.loop-end-preserved
 loop-end-preserved g c =
